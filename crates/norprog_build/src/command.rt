@@ -8,11 +8,12 @@ ghost use Rattle.norprog_build.specs.Served.{asks_build, ServesBuild};
 ghost use Rattle.norprog_build.specs.Answer.{IsBuildReport, RefusesBuild, PrintsReport, CutsReport};
 ghost use Rattle.norprog_build.specs.Answer.{AnswersBuild, HoldsBuild, done};
 ghost use Rattle.norprog_common.specs.FileStore.{Adds, Breaks, HasGone, LacksEarly, MakesIf};
-ghost use Rattle.norprog_common.specs.FileStore.{MayRead};
+ghost use Rattle.norprog_common.specs.FileStore.{MayRead, OpensAt, OpensIf};
 ghost use Rattle.norprog_common.specs.declared.faults.FileName.TheVariants.{Out};
 ghost use Rattle.norprog_common.specs.Reading.{HasFailed};
-ghost use Rattle.norprog_common.specs.Served.{IsJobOf, MakesFor, MayMakeFor, input_files_of};
-ghost use Rattle.norprog_common.specs.Served.{no_path, out_path, paths_asked, paths_of};
+ghost use Rattle.norprog_common.specs.Served.{IsJobOf, MakesFor, MayMakeFor, files_asked};
+ghost use Rattle.norprog_common.specs.Served.{input_files_of, no_path, out_path, paths_asked};
+ghost use Rattle.norprog_common.specs.Served.{paths_of};
 ghost use Rattle.norprog_common.specs.Strict.{Filled};
 
 use nor_base::{ByteOut, Failed};
@@ -30,6 +31,7 @@ pub fn build<S: FileStore, O: ByteOut, E: ByteOut>(
     alloc: Global,
     store: &S,
     journal: &mut S::Journal,
+    ledger: &mut S::Ledger,
     given: BuildArgs<'_>,
     out: &mut O,
     err: &mut E,
@@ -39,6 +41,8 @@ pub fn build<S: FileStore, O: ByteOut, E: ByteOut>(
     requires read { MayRead (S.facts store.now) (paths_asked given.job no_path) }
     ensures status { result ≤ 2 }
     ensures quiet { result ≡ 0 → err.new ≡ err.old }
+    ensures opened { OpensAt (S.Ledger.opened ledger.old) (S.Ledger.opened ledger.new)
+        (files_asked given.entry.job) result }
     ensures answer { AnswersBuild (S.facts store.now) (HasFailed S.Input.ahead S.Input.count)
         given.entry
         (Adds (S.Journal.changes journal.old) (S.Journal.changes journal.new))
@@ -46,7 +50,7 @@ pub fn build<S: FileStore, O: ByteOut, E: ByteOut>(
         (O.held out.old) (O.held out.new) (err.new ≡ err.old)
         (E.count err.new ≡ E.count err.old) (E.held err.old) (E.held err.new) result }
 {
-    answered(report_build(alloc, store, journal, given, out), err)
+    answered(report_build(alloc, store, journal, ledger, given, out), err)
 }
 
 /// Builds what is asked for, and writes the report.
@@ -54,12 +58,15 @@ fn report_build<S: FileStore, O: ByteOut>(
     alloc: Global,
     store: &S,
     journal: &mut S::Journal,
+    ledger: &mut S::Ledger,
     given: BuildArgs<'_>,
     out: &mut O,
 ) -> Result<u8, Refusal>
     requires out { O.count out.old < 2 ^ 64 - 1 }
     requires read { MayRead (S.facts store.now) (paths_asked given.job no_path) }
     ensures done { IfOk result (λ status. (status ≡ 0) × (asks_build given.entry ≡ true)) }
+    ensures opened { OpensIf (S.Ledger.opened ledger.old) (S.Ledger.opened ledger.new)
+        (files_asked given.entry.job) result }
     ensures journal { MatchResult result
         (λ _. MakesFor (S.facts store.now) given.entry.job
         (option_map (λ t. t.now) given.entry.out)
@@ -92,7 +99,7 @@ fn report_build<S: FileStore, O: ByteOut>(
 {
     let request = request_of(given.job).ok_or(Refusal::Usage)?;
     let path = given.out.ok_or(Refusal::Usage)?;
-    let report = run_build(alloc, store, journal, &request, path)?;
+    let report = run_build(alloc, store, journal, ledger, &request, path)?;
     match write_report(&report, out) {
         Ok(()) => Ok(0),
         Err(_) => Err(Refusal::WRITE),
@@ -104,10 +111,13 @@ fn run_build<S: FileStore>(
     alloc: Global,
     store: &S,
     journal: &mut S::Journal,
+    ledger: &mut S::Ledger,
     request: &Request<'_>,
     path: &str,
 ) -> Result<Report, Refusal>
     requires read { MayRead (S.facts store.now) (paths_of request.now no_path) }
+    ensures opened { OpensIf (S.Ledger.opened ledger.old) (S.Ledger.opened ledger.new)
+        (input_files_of request.now) result }
     ensures journal { MakesIf (S.facts store.now) (input_files_of request.now) (Some path.now)
         (Adds (S.Journal.changes journal.old) (S.Journal.changes journal.new)) result }
     ensures built { IfOk result
@@ -126,7 +136,7 @@ fn run_build<S: FileStore>(
         (IsJobOf (S.facts store.now) request.now (Some path.now))) }
 {
     let mut places = Vec::new(alloc);
-    let (texts, mut content, len) = open_job(alloc, store, request, &mut places)?;
+    let (texts, mut content, len) = open_job(alloc, store, ledger, request, &mut places)?;
     let mut script = store.create(journal, alloc, path, FileName::Out, places.as_slice())?;
     let inputs = inputs_of(request, &texts);
     match refuse_empty(alloc, request.strict, &inputs, len) {

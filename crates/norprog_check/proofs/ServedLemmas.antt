@@ -1,13 +1,13 @@
 -- The job of a request is the one that the texts ask for, and so is the script.
-use Rattle.std.proofs.Common.{◌≡◌, ◌∙◌, ap, Bool, refl, sym, subst, true, inl, inr, is_some, option_map, Option, Some, None, IfSome, List, ℕ}
+use Rattle.std.proofs.Common.{◌≡◌, ◌∙◌, ap, Bool, refl, sym, subst, true, inl, inr, is_some, option_map, option_to_list, Option, Some, None, IfSome, List, [], ◌∷◌, ◌++◌, ℕ}
 use Rattle.norprog_common.specs.FileStore.{FileFacts, IsTextIn, Lacks, MayRead, Named}
 use Rattle.norprog_common.specs.declared.given.CheckArgs.{CheckArgs}
 use Rattle.norprog_common.specs.declared.request.Request.{Request}
-use Rattle.norprog_check.specs.Served.{asks_check, check_paths, FailsScriptOf, ServesCheck, ServesScript}
+use Rattle.norprog_check.specs.Served.{asks_check, check_paths, files_asked, FailsScriptOf, ServesCheck, ServesScript}
 use Rattle.norprog_common.specs.Reading.{FailsReading}
 use Rattle.nor_base.specs.Device.{Ahead}
 use Rattle.norprog_common.specs.Request.{is_well_formed, AsksFor}
-use Rattle.norprog_common.specs.Served.{Job, IsJobOf, paths_of, paths_asked, script_path}
+use Rattle.norprog_common.specs.Served.{Job, IsJobOf, input_files_of, paths_of, paths_asked, script_path}
 use Rattle.norprog_common.specs.Strict.{Filled}
 use Rattle.norprog_common.specs.Told.{OrScript}
 use Rattle.norprog_common.specs.declared.faults.FileName.{FileName}
@@ -15,6 +15,7 @@ use Rattle.norprog_common.specs.declared.faults.Refusal.{Refusal}
 use Rattle.norprog_check.specs.Answer.{RefusesAsked}
 use Rattle.norprog_check.proofs.AnswerLemmas.{asked_wider_check}
 use Rattle.norprog_common.proofs.LackedLemmas.{lacks_same, may_same, paths_are}
+use Rattle.norprog_common.proofs.LedgerLemmas.{files_are}
 use Rattle.norprog_common.proofs.ServedLemmas.{serves, asks_of, both, is_formed, is_named}
 
 pub check_serves : (files : FileFacts) (given : CheckArgs) (o : Option Request) (request : Request) → o ≡ Some request → IfSome o (AsksFor given.job)
@@ -63,3 +64,10 @@ pub check_asked : (given : CheckArgs) (o : Option Request) (request : Request) (
     → option_map (λ t. t.now) given.script ≡ Some path → asks_check given ≡ true
 check_asked given o request path some forms script =
     both (is_well_formed given.job) (is_some given.script) (is_formed given.job o request some forms) (is_named (λ t. t.now) given.script path script)
+
+-- the files of a request and the script's are those that the texts name
+pub check_files : (given : CheckArgs) (o : Option Request) (request : Request) (path : List ℕ) → o ≡ Some request → IfSome o (AsksFor given.job)
+    → option_map (λ t. t.now) given.script ≡ Some path → files_asked given ≡ input_files_of request ++ (path ∷ [])
+check_files given o request path some asks script =
+    ap (λ (names : List (List ℕ)). names ++ option_to_list (option_map (λ t. t.now) given.script)) (files_are given.job request (asks_of given.job o request some asks))
+    ∙ ap (λ (named : Option (List ℕ)). input_files_of request ++ option_to_list named) script

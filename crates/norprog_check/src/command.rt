@@ -1,16 +1,19 @@
 //! `check`: from the texts of the command line to what is found of a script.
 
-ghost use Rattle.std.specs.Prelude.{◌≡◌, ◌<◌, ◌≤◌, ◌-◌, ◌^◌, Some, None, true, IfOk, IfErr};
+ghost use Rattle.std.specs.Prelude.{◌≡◌, ◌<◌, ◌≤◌, ◌-◌, ◌^◌, ◌++◌, Some, None, true, IfOk, IfErr};
+ghost use Rattle.std.specs.Prelude.{option_to_list};
 ghost use Rattle.std.specs.Io.KnownBytes.{Appends};
 ghost use Rattle.norprog_check.specs.Line.{finding_text};
 ghost use Rattle.norprog_common.specs.FileStore.{DoNotFail, IsTextIn, IsTextOfFile, Lacks};
-ghost use Rattle.norprog_common.specs.FileStore.{MayRead};
+ghost use Rattle.norprog_common.specs.FileStore.{MayRead, OpensAt, OpensIf};
 ghost use Rattle.norprog_common.specs.declared.faults.FileName.TheVariants.{Script};
 ghost use Rattle.norprog_common.specs.Told.{OrScript, OrUsage};
-ghost use Rattle.norprog_check.specs.Served.{asks_check, check_paths, FailsScriptOf};
+ghost use Rattle.norprog_check.specs.Served.{asks_check, check_paths, files_asked};
+ghost use Rattle.norprog_check.specs.Served.{FailsScriptOf};
 ghost use Rattle.norprog_check.specs.Served.{ServesCheck, ServesScript};
 ghost use Rattle.norprog_common.specs.Reading.{FailsReading, FailsScript, HasFailed, IsTextRead};
-ghost use Rattle.norprog_common.specs.Served.{job_with, paths_of, script_path, Is, IsJobOf};
+ghost use Rattle.norprog_common.specs.Served.{input_files_of, job_with, paths_of, script_path};
+ghost use Rattle.norprog_common.specs.Served.{Is, IsJobOf};
 ghost use Rattle.norprog_common.specs.Strict.{Filled};
 ghost use Rattle.norprog_check.specs.Answer.{verdict_status, stop_refusal, stream_refusal};
 ghost use Rattle.norprog_check.specs.Answer.{IsCheckFinding, RefusesCheck, RefusesAsked};
@@ -38,6 +41,7 @@ use std::alloc::Global;
 pub fn check<S: FileStore, O: ByteOut, E: ByteOut>(
     alloc: Global,
     store: &S,
+    ledger: &mut S::Ledger,
     given: CheckArgs<'_>,
     out: &mut O,
     err: &mut E,
@@ -47,12 +51,14 @@ pub fn check<S: FileStore, O: ByteOut, E: ByteOut>(
     requires read { MayRead (S.facts store.now) (check_paths given) }
     ensures status { result ≤ 2 }
     ensures quiet { result ≡ 0 → err.new ≡ err.old }
+    ensures opened { OpensAt (S.Ledger.opened ledger.old) (S.Ledger.opened ledger.new)
+        (files_asked given.entry) result }
     ensures answer { AnswersCheck (S.facts store.now) (HasFailed S.Input.ahead S.Input.count)
         given.entry (O.count out.old < O.count out.new)
         (O.held out.old) (O.held out.new) (err.new ≡ err.old)
         (E.count err.new ≡ E.count err.old) (E.held err.old) (E.held err.new) result }
 {
-    match report_check(alloc, store, given, out) {
+    match report_check(alloc, store, ledger, given, out) {
         Ok(found) => exit_status(found.verdict),
         Err(refusal) => refuse(&refusal, err),
     }
@@ -72,6 +78,7 @@ fn exit_status(verdict: Verdict) -> u8
 fn report_check<S: FileStore, O: ByteOut>(
     alloc: Global,
     store: &S,
+    ledger: &mut S::Ledger,
     given: CheckArgs<'_>,
     out: &mut O,
 ) -> Result<Finding, Refusal>
@@ -82,6 +89,8 @@ fn report_check<S: FileStore, O: ByteOut>(
         (ServesCheck (S.facts store.now) given.entry))
         (ServesScript (S.facts store.now) given.entry))
         × IfOk result (λ _. asks_check given.entry ≡ true) }
+    ensures opened { OpensIf (S.Ledger.opened ledger.old) (S.Ledger.opened ledger.new)
+        (files_asked given.entry) result }
     ensures printed { IfOk result
         (λ found. Appends (O.held out.old) (O.held out.new)
         (finding_text given.entry.witness found)) }
@@ -101,7 +110,7 @@ fn report_check<S: FileStore, O: ByteOut>(
 {
     let request = request_of(given.job).ok_or(Refusal::Usage)?;
     let path = given.script.ok_or(Refusal::Usage)?;
-    let found = run_check(alloc, store, &request, path)?;
+    let found = run_check(alloc, store, ledger, &request, path)?;
     match write_finding(&found, given.witness, out) {
         Ok(()) => Ok(found),
         Err(_) => Err(Refusal::WRITE),
@@ -112,11 +121,14 @@ fn report_check<S: FileStore, O: ByteOut>(
 fn run_check<S: FileStore>(
     alloc: Global,
     store: &S,
+    ledger: &mut S::Ledger,
     request: &Request<'_>,
     path: &str,
 ) -> Result<Finding, Refusal>
     requires read { MayRead (S.facts store.now)
         (paths_of request.now (script_path (Some path.now))) }
+    ensures opened { OpensIf (S.Ledger.opened ledger.old) (S.Ledger.opened ledger.new)
+        (input_files_of request.now ++ option_to_list (Some path.now)) result }
     ensures checked { IfOk result
         (IsCheckFinding (Filled request.now.strict (IsJobOf (S.facts store.now) request.now None))
         (IsTextIn (S.facts store.now) path.now)) }
@@ -128,8 +140,8 @@ fn run_check<S: FileStore>(
         (HasFailed S.Input.ahead S.Input.count)) }
 {
     let mut places = Vec::new(alloc);
-    let (texts, mut content, len) = open_job(alloc, store, request, &mut places)?;
-    let (script, _place) = store.open_script(alloc, path)?;
+    let (texts, mut content, len) = open_job(alloc, store, ledger, request, &mut places)?;
+    let (script, _place) = store.open_script(ledger, alloc, path)?;
     let inputs = inputs_of(request, &texts);
     refuse_empty(alloc, request.strict, &inputs, len)?;
     check_file(alloc, &inputs, script, &mut content, len)

@@ -11,17 +11,19 @@
 //! `norprog_flash`, `norprog_hex`, `norprog_script` and `norprog_explain` do the work behind them.
 #![tactic(auto)]
 
-ghost use Rattle.std.specs.Prelude.{◌≡◌, ◌<◌, ◌≤◌, ◌-◌, ◌^◌, [], drop, map, string_bytes};
-ghost use Rattle.std.specs.Prelude.{IfOk, IfErr};
+ghost use Rattle.std.specs.Prelude.{◌≡◌, ◌<◌, ◌≤◌, ◌-◌, ◌^◌, [], codes, drop, false, map};
+ghost use Rattle.std.specs.Prelude.{string_bytes, All, Any, IfOk, IfErr};
 ghost use Rattle.std.specs.Vec.Iter.{into_iter_items};
 ghost use Rattle.std.specs.Io.KnownBytes.{Keeps, append_known};
 ghost use Rattle.nor_job.specs.declared.fault.BuildFault.TheVariants.{Memory};
 ghost use Rattle.norprog_common.specs.declared.faults.Refusal.TheVariants.{Build};
-ghost use Rattle.norprog_common.specs.FileStore.{Adds};
+ghost use Rattle.norprog_common.specs.FileStore.{Adds, OpensAt};
 ghost use Rattle.norprog_common.specs.Reading.{HasFailed};
 ghost use Rattle.norprog_cli.specs.Answers.{AnswersTo, AnswersWords, AddsDetails, AddsLines};
 ghost use Rattle.norprog_cli.specs.Answers.{EndsCommand, EndsGathered, EndsGiven, EndsProgram};
 ghost use Rattle.norprog_cli.specs.Answers.{IsWordless, one_more, texts_in};
+ghost use Rattle.norprog_cli.specs.Opened.{files_of, OpensDetails, OpensEnd, OpensGiven};
+ghost use Rattle.norprog_cli.specs.Opened.{OpensLines, OpensWords};
 ghost use Rattle.norprog_cli.specs.Reads.{MayAskDetails, MayAskLine, MayReadAsked, MayReadWords};
 
 mod gathered;
@@ -30,7 +32,7 @@ use crate::gathered::Gathered;
 use nor_base::{ByteIn, ByteOut, Failed, FromRead, IntoWrite, Nowhere};
 use norprog_build::build;
 use norprog_check::check;
-use norprog_common::{FileStore, Refusal, SystemFiles, Unrecorded, refuse};
+use norprog_common::{FileStore, Refusal, SystemFiles, Unlisted, Unrecorded, refuse};
 use norprog_details::{Heard, write_details};
 use norprog_draw::draw;
 use norprog_explain::explain;
@@ -70,12 +72,33 @@ fn main_status<E: ByteOut + Drop>(rt: &HostRuntime, err: &mut Heard<E>) -> u8
     let words = words_of(rt);
     let files = SystemFiles::new(rt);
     let mut journal = Unrecorded;
+    let mut ledger = Unlisted;
     let out = IntoWrite::new(rt.stdout());
     if rt.stderr().is_terminal() {
         let mut progress = IntoWrite::new(rt.stderr());
-        run_words(alloc, &files, &mut journal, words, out, err, &mut progress).0
+        run_words(
+            alloc,
+            &files,
+            &mut journal,
+            &mut ledger,
+            words,
+            out,
+            err,
+            &mut progress,
+        )
+        .0
     } else {
-        run_words(alloc, &files, &mut journal, words, out, err, &mut Nowhere).0
+        run_words(
+            alloc,
+            &files,
+            &mut journal,
+            &mut ledger,
+            words,
+            out,
+            err,
+            &mut Nowhere,
+        )
+        .0
     }
 }
 
@@ -85,6 +108,7 @@ fn run_words<S: FileStore, W: ByteOut + Drop, E: ByteOut + Drop, P: ByteOut>(
     alloc: Global,
     store: &S,
     journal: &mut S::Journal,
+    ledger: &mut S::Ledger,
     words: Result<Vec<String>, Refusal>,
     out: W,
     err: &mut Heard<E>,
@@ -95,7 +119,9 @@ fn run_words<S: FileStore, W: ByteOut + Drop, E: ByteOut + Drop, P: ByteOut>(
     requires out { W.count out < 2 ^ 64 - 2 }
     requires err { E.count err.old.out < 2 ^ 64 - 1 }
     requires progress { P.count progress.old < 2 ^ 64 - 1 }
-    ensures { EndsGiven ⟦<Heard<E> as ByteOut>⟧.count ⟦<Heard<E> as ByteOut>⟧.held
+    ensures opened { OpensGiven (S.Ledger.opened ledger.old) (S.Ledger.opened ledger.new)
+        (texts_in (λ words. map string_bytes words.items) words) result.0 }
+    ensures ends { EndsGiven ⟦<Heard<E> as ByteOut>⟧.count ⟦<Heard<E> as ByteOut>⟧.held
         (S.facts store.now) (HasFailed S.Input.ahead S.Input.count)
         (Adds (S.Journal.changes journal.old) (S.Journal.changes journal.new))
         (texts_in (λ words. map string_bytes words.items) words) (W.count out) (W.count result.1)
@@ -107,7 +133,7 @@ fn run_words<S: FileStore, W: ByteOut + Drop, E: ByteOut + Drop, P: ByteOut>(
         ) }
 {
     match words {
-        Ok(words) => command_gathered(alloc, store, journal, words, out, err, progress),
+        Ok(words) => command_gathered(alloc, store, journal, ledger, words, out, err, progress),
         Err(refusal) => (refuse(&refusal, err), out),
     }
 }
@@ -119,6 +145,7 @@ fn command_gathered<S: FileStore, W: ByteOut + Drop, E: ByteOut + Drop, P: ByteO
     alloc: Global,
     store: &S,
     journal: &mut S::Journal,
+    ledger: &mut S::Ledger,
     words: Vec<String>,
     out: W,
     err: &mut Heard<E>,
@@ -128,7 +155,20 @@ fn command_gathered<S: FileStore, W: ByteOut + Drop, E: ByteOut + Drop, P: ByteO
     requires out { W.count out < 2 ^ 64 - 2 }
     requires err { E.count err.old.out < 2 ^ 64 - 1 }
     requires progress { P.count progress.old < 2 ^ 64 - 1 }
-    ensures { EndsGathered ⟦<Heard<E> as ByteOut>⟧.count ⟦<Heard<E> as ByteOut>⟧.held
+    ensures direct { Any (λ word. string_bytes word ≡ codes "flash") words.items
+        → AnswersWords ⟦<Heard<E> as ByteOut>⟧.count ⟦<Heard<E> as ByteOut>⟧.held
+        (S.facts store.now) (HasFailed S.Input.ahead S.Input.count)
+        (Adds (S.Journal.changes journal.old) (S.Journal.changes journal.new))
+        (W.count out < W.count result.1) (map string_bytes words.items) (W.held out)
+        (W.held result.1) err.old err.new result.0 (
+          P.held progress.old,
+          P.held progress.new,
+          P.count progress.old,
+          P.count progress.new,
+        ) }
+    ensures opened { OpensEnd (S.Ledger.opened ledger.old) (S.Ledger.opened ledger.new)
+        (map string_bytes words.items) result.0 }
+    ensures ends { EndsGathered ⟦<Heard<E> as ByteOut>⟧.count ⟦<Heard<E> as ByteOut>⟧.held
         (S.facts store.now) (HasFailed S.Input.ahead S.Input.count)
         (Adds (S.Journal.changes journal.old) (S.Journal.changes journal.new))
         (map string_bytes words.items) (W.count out) (W.count result.1) (W.held out)
@@ -139,14 +179,33 @@ fn command_gathered<S: FileStore, W: ByteOut + Drop, E: ByteOut + Drop, P: ByteO
           P.count progress.new,
         ) }
 {
-    if words.iter().any(|word| word.as_str() == "flash") {
+    if is_flash_among(words.as_slice()) {
         let mut out = out;
-        let status = command(alloc, store, journal, words, &mut out, err, progress);
+        let status = command(
+            alloc, store, journal, ledger, words, &mut out, err, progress,
+        );
         return (status, out);
     }
     let mut gathered = Gathered::new(out);
-    let status = command_flushed(alloc, store, journal, words, &mut gathered, err, progress);
+    let status = command_flushed(
+        alloc,
+        store,
+        journal,
+        ledger,
+        words,
+        &mut gathered,
+        err,
+        progress,
+    );
     (status, gathered.into_inner())
+}
+
+/// Whether some word is `flash`.
+fn is_flash_among(words: &[String]) -> bool
+    ensures { result ≡ false
+        → All (λ word. string_bytes word ≡ codes "flash" → ⊥) words.now }
+{
+    words.iter().any(|word| word.as_str() == "flash")
 }
 
 /// Runs a command as [`command`] does, and then has all go out that it wrote to `out`. Returns its
@@ -155,6 +214,7 @@ fn command_flushed<S: FileStore, W: ByteOut + Drop, E: ByteOut + Drop, P: ByteOu
     alloc: Global,
     store: &S,
     journal: &mut S::Journal,
+    ledger: &mut S::Ledger,
     words: Vec<String>,
     out: &mut Gathered<W>,
     err: &mut Heard<E>,
@@ -175,9 +235,11 @@ fn command_flushed<S: FileStore, W: ByteOut + Drop, E: ByteOut + Drop, P: ByteOu
           P.count progress.old,
           P.count progress.new,
         ) }
+    ensures opened { OpensEnd (S.Ledger.opened ledger.old) (S.Ledger.opened ledger.new)
+        (map string_bytes words.items) result }
     ensures out { result ≡ 0 → out.new.left.items ≡ [] }
 {
-    let status = command(alloc, store, journal, words, out, err, progress);
+    let status = command(alloc, store, journal, ledger, words, out, err, progress);
     match flush_out(out) {
         Err(_) if status == 0 => refuse(&Refusal::WRITE, err),
         _ => status,
@@ -230,6 +292,7 @@ fn command<S: FileStore, O: ByteOut, E: ByteOut + Drop, P: ByteOut>(
     alloc: Global,
     store: &S,
     journal: &mut S::Journal,
+    ledger: &mut S::Ledger,
     words: Vec<String>,
     out: &mut O,
     err: &mut Heard<E>,
@@ -241,6 +304,8 @@ fn command<S: FileStore, O: ByteOut, E: ByteOut + Drop, P: ByteOut>(
     requires progress { P.count progress.old < 2 ^ 64 - 1 }
     ensures status { result ≤ 2 }
     ensures quiet { result ≡ 0 → err.new ≡ err.old }
+    ensures opened { OpensWords (S.Ledger.opened ledger.old) (S.Ledger.opened ledger.new)
+        (map string_bytes words.items) result }
     ensures answer { AnswersWords ⟦<Heard<E> as ByteOut>⟧.count ⟦<Heard<E> as ByteOut>⟧.held
         (S.facts store.now) (HasFailed S.Input.ahead S.Input.count)
         (Adds (S.Journal.changes journal.old) (S.Journal.changes journal.new))
@@ -255,8 +320,8 @@ fn command<S: FileStore, O: ByteOut, E: ByteOut + Drop, P: ByteOut>(
     match asked_by(alloc, words.as_slice()) {
         Ok(line) => {
             let Line { asked, details } = line;
-            let status = answer_to(alloc, store, journal, asked, out, err, progress);
-            add_details(alloc, store, details, status, err);
+            let status = answer_to(alloc, store, journal, ledger, asked, out, err, progress);
+            add_details(alloc, store, ledger, details, status, err);
             status
         }
         Err(refusal) => refuse(&refusal, err),
@@ -267,19 +332,22 @@ fn command<S: FileStore, O: ByteOut, E: ByteOut + Drop, P: ByteOut>(
 fn add_details<S: FileStore, E: ByteOut + Drop>(
     alloc: Global,
     store: &S,
+    ledger: &mut S::Ledger,
     details: Option<TypedLine<'_>>,
     status: u8,
     err: &mut Heard<E>,
 )
     requires { MayAskDetails (S.facts store.now) details }
-    ensures { AddsDetails ⟦<Heard<E> as ByteOut>⟧.count ⟦<Heard<E> as ByteOut>⟧.held
+    ensures opened { OpensDetails (S.Ledger.opened ledger.old) (S.Ledger.opened ledger.new)
+        details.entry status }
+    ensures added { AddsDetails ⟦<Heard<E> as ByteOut>⟧.count ⟦<Heard<E> as ByteOut>⟧.held
         (S.facts store.now) details.entry status err.old err.new }
 {
     let Some(typed) = details else {
         return;
     };
     if status != 0 {
-        add_lines(alloc, store, typed, err)
+        add_lines(alloc, store, ledger, typed, err)
     }
 }
 
@@ -287,17 +355,20 @@ fn add_details<S: FileStore, E: ByteOut + Drop>(
 fn add_lines<S: FileStore, E: ByteOut + Drop>(
     alloc: Global,
     store: &S,
+    ledger: &mut S::Ledger,
     typed: TypedLine<'_>,
     err: &mut Heard<E>,
 )
     requires { MayAskLine (S.facts store.now) typed }
-    ensures { AddsLines ⟦<Heard<E> as ByteOut>⟧.count ⟦<Heard<E> as ByteOut>⟧.held
+    ensures opened { OpensLines (S.Ledger.opened ledger.old) (S.Ledger.opened ledger.new)
+        typed.entry }
+    ensures added { AddsLines ⟦<Heard<E> as ByteOut>⟧.count ⟦<Heard<E> as ByteOut>⟧.held
         (S.facts store.now) typed.entry err.old err.new }
 {
     let refusal = err.last_line();
     let line = typed.as_line();
     if err.failures() < u64::MAX {
-        write_details(alloc, store, line, refusal.as_slice(), err)
+        write_details(alloc, store, ledger, line, refusal.as_slice(), err)
     }
 }
 
@@ -306,6 +377,7 @@ fn answer_to<S: FileStore, O: ByteOut, E: ByteOut, P: ByteOut>(
     alloc: Global,
     store: &S,
     journal: &mut S::Journal,
+    ledger: &mut S::Ledger,
     asked: Asked<'_>,
     out: &mut O,
     err: &mut E,
@@ -317,6 +389,8 @@ fn answer_to<S: FileStore, O: ByteOut, E: ByteOut, P: ByteOut>(
     requires progress { P.count progress.old < 2 ^ 64 - 1 }
     ensures status { result ≤ 2 }
     ensures quiet { result ≡ 0 → err.new ≡ err.old }
+    ensures opened { OpensAt (S.Ledger.opened ledger.old) (S.Ledger.opened ledger.new)
+        (files_of asked.entry) result }
     ensures answer { AnswersTo (S.facts store.now)
         (HasFailed S.Input.ahead S.Input.count)
         (Adds (S.Journal.changes journal.old) (S.Journal.changes journal.new))
@@ -330,18 +404,18 @@ fn answer_to<S: FileStore, O: ByteOut, E: ByteOut, P: ByteOut>(
         ) }
 {
     match asked {
-        Asked::Build(given) => build(alloc, store, journal, given, out, err),
-        Asked::Plan(given) => plan(alloc, store, journal, given, out, err),
-        Asked::Check(given) => check(alloc, store, given, out, err),
-        Asked::Run(given) => run(alloc, store, journal, given, out, err),
-        Asked::List(given) => list(alloc, store, given, out, err),
-        Asked::Draw(given) => draw(alloc, store, journal, given, err),
-        Asked::Play(given) => play(alloc, store, journal, given, out, err, progress),
-        Asked::Read(given) => read(alloc, store, journal, given, out, err),
-        Asked::Flash(given) => flash(alloc, store, journal, given, out, err, progress),
-        Asked::Sfdp(given) => sfdp(alloc, store, given, out, err),
-        Asked::Hex(given) => hex(alloc, store, journal, given, err),
-        Asked::Script(given) => script(alloc, store, journal, given, out, err),
+        Asked::Build(given) => build(alloc, store, journal, ledger, given, out, err),
+        Asked::Plan(given) => plan(alloc, store, journal, ledger, given, out, err),
+        Asked::Check(given) => check(alloc, store, ledger, given, out, err),
+        Asked::Run(given) => run(alloc, store, journal, ledger, given, out, err),
+        Asked::List(given) => list(alloc, store, ledger, given, out, err),
+        Asked::Draw(given) => draw(alloc, store, journal, ledger, given, err),
+        Asked::Play(given) => play(alloc, store, journal, ledger, given, out, err, progress),
+        Asked::Read(given) => read(alloc, store, journal, ledger, given, out, err),
+        Asked::Flash(given) => flash(alloc, store, journal, ledger, given, out, err, progress),
+        Asked::Sfdp(given) => sfdp(alloc, store, ledger, given, out, err),
+        Asked::Hex(given) => hex(alloc, store, journal, ledger, given, err),
+        Asked::Script(given) => script(alloc, store, journal, ledger, given, out, err),
         Asked::Explain(words) => explain(words.as_slice(), out, err),
     }
 }

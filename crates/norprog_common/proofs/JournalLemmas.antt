@@ -4,19 +4,19 @@ use Rattle.norprog_common.specs.declared.files.FileId.{FileId}
 use Rattle.norprog_common.specs.FileStore.{FileFacts, Notes}
 use Rattle.norprog_common.specs.FileStore.{Change, Emptied, Adds, Tries, MakesOutput, MakesNamed, MayMake, MakesIf}
 
-pub adds_none : (a b : Option (List Change)) → b ≡ a → Adds a b []
+pub adds_none : {A : Type 0} (a b : Option (List A)) → b ≡ a → Adds a b []
 adds_none None b same = tt
 adds_none (Some x) b same = rw same (sym (append-nil x))
 
-pub adds_both : (a b c : Option (List Change)) (xs ys : List Change) → Adds a b xs → Adds b c ys → Adds a c (xs ++ ys)
+pub adds_both : {A : Type 0} (a b c : Option (List A)) (xs ys : List A) → Adds a b xs → Adds b c ys → Adds a c (xs ++ ys)
 adds_both None b c xs ys p q = tt
 adds_both (Some x) None c xs ys p q = absurd p
 adds_both (Some x) (Some y) None xs ys p q = absurd q
-adds_both (Some x) (Some y) (Some z) xs ys p q = q ∙ ap (λ (l : List Change). l ++ ys) p ∙ append_assoc x xs ys
+adds_both (Some x) (Some y) (Some z) xs ys p q = q ∙ ap (λ (l : List _). l ++ ys) p ∙ append_assoc x xs ys
 
 -- a journal that stays as it is after changes, or was before them
-pub adds_kept : (a b c : Option (List Change)) (xs : List Change) → Adds a b xs → c ≡ b → Adds a c xs
-adds_kept a b c xs p same = subst (λ (o : Option (List Change)). Adds a o xs) (sym same) p
+pub adds_kept : {A : Type 0} (a b c : Option (List A)) (xs : List A) → Adds a b xs → c ≡ b → Adds a c xs
+adds_kept a b c xs p same = subst (λ (o : Option (List _)). Adds a o xs) (sym same) p
 
 -- the files that were noted, the first of them where there were none, are those that an output was made apart from
 pub output_made : (files : FileFacts) (names : List (List ℕ)) (name : List ℕ) (none places inputs : List FileId) (Made : List Change → Type 0) → none ≡ []

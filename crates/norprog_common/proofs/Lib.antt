@@ -6,4 +6,5 @@ pub mod ReadingLemmas
 pub mod ServedLemmas
 pub mod StrictLemmas
 pub mod JournalLemmas
+pub mod LedgerLemmas
 pub mod LackedLemmas

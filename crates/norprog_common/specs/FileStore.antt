@@ -85,16 +85,32 @@ pub data Change : Type 0 where
   Created : List ℕ → Change
   Opened : List ℕ → Change
 
--- the changes so far, where they are known, grow by just these
-abbrev pub Adds : Option (List Change) → Option (List Change) → List Change → Type 0
-Adds None after changes = ⊤
-Adds (Some xs) None changes = ⊥
-Adds (Some xs) (Some ys) changes = ys ≡ xs ++ changes
+-- what was noted so far, where it is known, grows by just these
+abbrev pub Adds : {A : Type 0} → Option (List A) → Option (List A) → List A → Type 0
+Adds None after more = ⊤
+Adds (Some xs) None more = ⊥
+Adds (Some xs) (Some ys) more = ys ≡ xs ++ more
 
 -- they grow by this one; where it is refused by none, or by it
 abbrev pub Tries : {T E : Type 0} → Option (List Change) → Option (List Change) → Change → Result T E → Type 0
 Tries before after change (Ok x) = Adds before after (change ∷ [])
 Tries before after change (Err why) = Adds before after [] ⊎ Adds before after (change ∷ [])
+
+-- the names of the files that were opened to be read grow by the first of these
+pub record OpensFirst (before after : Option (List (List ℕ))) (names : List (List ℕ)) : Type 0 where
+  pub first : List (List ℕ)
+  pub rest : List (List ℕ)
+  pub parts : names ≡ first ++ rest
+  pub opened : Adds before after first
+
+-- by all of them where work is done, else by the first
+abbrev pub OpensIf : {T E : Type 0} → Option (List (List ℕ)) → Option (List (List ℕ)) → List (List ℕ) → Result T E → Type 0
+OpensIf before after names (Ok x) = Adds before after names
+OpensIf before after names (Err why) = OpensFirst before after names
+
+-- by the first of them, and by all at status 0
+abbrev pub OpensAt : Option (List (List ℕ)) → Option (List (List ℕ)) → List (List ℕ) → ℕ → Type 0
+OpensAt before after names status = OpensFirst before after names × (status ≡ 0 → Adds before after names)
 
 -- the tables of a chip are what the file of its name gave; a chip of a size has no file
 abbrev pub AreTables : FileFacts → Origin → List ℕ → Type 0

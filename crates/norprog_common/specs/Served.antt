@@ -81,6 +81,13 @@ abbrev pub input_files_asked : Given → Origin → List (List ℕ)
 input_files_asked given origin =
     input_files (option_map (λ t. t.now) given.hex) (option_map (λ t. t.now) given.layout) origin (option_map (λ t. t.now) given.content)
 
+-- the names of these files, also where the texts ask for nothing
+abbrev pub files_asked : Given → List (List ℕ)
+files_asked given =
+    (option_to_list (option_map (λ t. t.now) given.hex)
+    ++ (option_to_list (option_map (λ t. t.now) given.layout) ++ option_to_list (option_map (λ t. t.now) given.sfdp)))
+    ++ option_to_list (option_map (λ t. t.now) given.content)
+
 -- the name that each option of a job gives: of the image, the layout, the tables and the content these, of another its own
 abbrev pub job_paths : Option (List ℕ) → Option (List ℕ) → Option (List ℕ) → Option (List ℕ) → (FileName → Option (List ℕ)) → FileName → Option (List ℕ)
 job_paths hex layout tables content own Hex = hex

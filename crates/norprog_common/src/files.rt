@@ -7,6 +7,7 @@ ghost use Rattle.norprog_common.specs.declared.faults.FileName.TheVariants.{Devi
 ghost use Rattle.norprog_common.specs.Files.{RefusesFile, IsOfFiles, is_character_device};
 
 use crate::faults::{FileName, Refusal};
+use crate::terminal::is_terminal;
 use std::alloc::Global;
 use std::fs::{self, Files, Metadata, OpenFile, OpenOptions};
 use std::io::{self, Read};
@@ -204,38 +205,46 @@ pub(crate) fn create_fresh<R: Files>(rt: &R, path: &str, name: FileName) -> Resu
     }
 }
 
-/// Opens a character device to read from it.
+/// Opens a terminal to read from it.
 ///
-/// Where it isn't one, can't be opened or asked, `File` of `Device`; `Memory` where the system says
-/// that it lacks that.
-pub(crate) fn open_device_reader<R: Files>(rt: &R, path: &str) -> Result<R::File, Refusal>
+/// Where it isn't one, can't be opened or asked, `File` of `Device`; `Memory` where a growth is
+/// refused.
+pub(crate) fn open_device_reader<R: Files>(
+    rt: &R,
+    alloc: Global,
+    path: &str,
+) -> Result<R::File, Refusal>
     ensures refused { IfErr result (RefusesFile Device) }
     ensures files { IfErr result IsOfFiles }
 {
-    only_device(fs::metadata(rt, path))?;
+    only_terminal(rt, alloc, fs::metadata(rt, path))?;
     let from = match fs::open(rt, path) {
         Ok(file) => file,
         Err(error) => return Err(refusal_of(&error, FileName::Device)),
     };
     // the name may have come to mean another file since it was asked about
-    only_device(from.metadata())?;
+    only_terminal(rt, alloc, from.metadata())?;
     Ok(from)
 }
 
-/// Opens a character device to write to it. Nothing else is opened to write, nor changed.
+/// Opens a terminal to write to it. Nothing else is opened to write, nor changed.
 ///
-/// Where it isn't one, can't be opened or asked, `File` of `Device`; `Memory` where the system says
-/// that it lacks that.
-pub(crate) fn open_device_writer<R: Files>(rt: &R, path: &str) -> Result<R::File, Refusal>
+/// Where it isn't one, can't be opened or asked, `File` of `Device`; `Memory` where a growth is
+/// refused.
+pub(crate) fn open_device_writer<R: Files>(
+    rt: &R,
+    alloc: Global,
+    path: &str,
+) -> Result<R::File, Refusal>
     ensures refused { IfErr result (RefusesFile Device) }
     ensures files { IfErr result IsOfFiles }
 {
-    only_device(fs::metadata(rt, path))?;
+    only_terminal(rt, alloc, fs::metadata(rt, path))?;
     let to = match OpenOptions::new().write(true).open(rt, path) {
         Ok(file) => file,
         Err(error) => return Err(refusal_of(&error, FileName::Device)),
     };
-    only_device(to.metadata())?;
+    only_terminal(rt, alloc, to.metadata())?;
     Ok(to)
 }
 
@@ -263,15 +272,23 @@ pub(crate) fn open_error<R: Files>(rt: &R, path: &str) -> Option<io::Error> {
     fs::open(rt, path).err()
 }
 
-/// Refuses what isn't known to be a character device.
-fn only_device(metadata: io::Result<Metadata>) -> Result<(), Refusal>
+/// Refuses what isn't known to be a terminal: a character device that a driver of terminals has.
+/// One of another kind may take what is written to it as something else.
+fn only_terminal<R: Files>(
+    rt: &R,
+    alloc: Global,
+    metadata: io::Result<Metadata>,
+) -> Result<(), Refusal>
     ensures device { IfOk result
         (λ _. MatchResult metadata (λ m. is_character_device (metadata_mode m) ≡ true) (λ _. ⊥)) }
     ensures refused { IfErr result (RefusesFile Device) }
     ensures files { IfErr result IsOfFiles }
 {
     match metadata {
-        Ok(metadata) if is_character_device(metadata.mode()) => Ok(()),
+        Ok(metadata)
+            if is_character_device(metadata.mode()) && is_terminal(rt, alloc, metadata.rdev())? => {
+            Ok(())
+        }
         Ok(_) => Err(Refusal::File(FileName::Device)),
         Err(error) => Err(refusal_of(&error, FileName::Device)),
     }

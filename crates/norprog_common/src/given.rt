@@ -134,6 +134,8 @@ pub struct ReadArgs<'a> {
     pub limit: Option<&'a str>,
     pub tables: Option<&'a str>,
     pub out: Option<&'a str>,
+    /// The terminal is said to hand on each byte as it comes.
+    pub raw: bool,
 }
 
 /// Of `flash`.
@@ -151,5 +153,7 @@ pub struct FlashArgs<'a> {
     pub erased_only: bool,
     pub strict: bool,
     pub dry_run: bool,
+    /// As of `read`.
+    pub raw: bool,
     pub regions: Vec<Bytes>,
 }

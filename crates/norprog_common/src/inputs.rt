@@ -4,7 +4,7 @@ ghost use Rattle.std.specs.Prelude.{◌≡◌, [], ◌∷◌, IfOk, IfErr, optio
 ghost use Rattle.norprog_common.specs.declared.faults.FileName.TheVariants.{Layout};
 ghost use Rattle.norprog_common.specs.Files.{RefusesFile, TellsFile};
 ghost use Rattle.norprog_common.specs.FileStore.{Lacks, LacksNamed, MayRead, MayReadNamed};
-ghost use Rattle.norprog_common.specs.FileStore.{Notes, WhereNamed};
+ghost use Rattle.norprog_common.specs.FileStore.{Adds, Notes, OpensIf, WhereNamed};
 ghost use Rattle.norprog_common.specs.Served.{task_by, held_in, no_path, paths_of};
 ghost use Rattle.norprog_common.specs.Served.{text_files_of, AreGiven};
 
@@ -29,6 +29,7 @@ pub struct Texts {
 pub(crate) fn read_texts<S: FileStore>(
     alloc: Global,
     store: &S,
+    ledger: &mut S::Ledger,
     request: &Request<'_>,
     places: &mut Vec<FileId>,
 ) -> Result<Texts, Refusal>
@@ -38,12 +39,14 @@ pub(crate) fn read_texts<S: FileStore>(
     ensures noted { IfOk result
         (λ _. Notes (S.facts store.now) (text_files_of request.now) places.old.items
         places.new.items) }
+    ensures opened { OpensIf (S.Ledger.opened ledger.old) (S.Ledger.opened ledger.new)
+        (text_files_of request.now) result }
     ensures lacked { IfErr result
         (TellsFile (Lacks (S.facts store.now) (paths_of request.now no_path))) }
 {
-    let hex = read_noted(alloc, store, request.hex, FileName::Hex, places)?;
-    let layout = read_layout(alloc, store, request.layout, places)?;
-    let sfdp = noted_tables(alloc, store, request.chip, places)?;
+    let hex = read_noted(alloc, store, ledger, request.hex, FileName::Hex, places)?;
+    let layout = read_layout(alloc, store, ledger, request.layout, places)?;
+    let sfdp = noted_tables(alloc, store, ledger, request.chip, places)?;
     Ok(Texts { hex, layout, sfdp })
 }
 
@@ -51,6 +54,7 @@ pub(crate) fn read_texts<S: FileStore>(
 fn read_layout<S: FileStore>(
     alloc: Global,
     store: &S,
+    ledger: &mut S::Ledger,
     path: Option<&str>,
     places: &mut Vec<FileId>,
 ) -> Result<Option<Vec<u8>>, Refusal>
@@ -61,12 +65,14 @@ fn read_layout<S: FileStore>(
     ensures noted { IfOk result
         (λ _. Notes (S.facts store.now) (option_to_list (option_map (λ t. t.now) path.entry))
         places.old.items places.new.items) }
+    ensures opened { Adds (S.Ledger.opened ledger.old) (S.Ledger.opened ledger.new)
+        (option_to_list (option_map (λ t. t.now) path.entry)) }
     ensures refused { IfErr result (RefusesFile Layout) }
     ensures lacked { IfErr result
         (TellsFile (LacksNamed (S.facts store.now) (option_map (λ t. t.now) path.entry))) }
 {
     match path {
-        Some(path) => Ok(Some(read_noted(alloc, store, path, FileName::Layout, places)?)),
+        Some(path) => Ok(Some(read_noted(alloc, store, ledger, path, FileName::Layout, places)?)),
         None => Ok(None),
     }
 }
@@ -75,6 +81,7 @@ fn read_layout<S: FileStore>(
 fn read_noted<S: FileStore>(
     alloc: Global,
     store: &S,
+    ledger: &mut S::Ledger,
     path: &str,
     name: FileName,
     places: &mut Vec<FileId>,
@@ -83,10 +90,12 @@ fn read_noted<S: FileStore>(
     ensures gave { IfOk result (λ bytes. (S.facts store.now).gave path.now bytes.items) }
     ensures noted { IfOk result
         (λ _. Notes (S.facts store.now) (path.now ∷ []) places.old.items places.new.items) }
+    ensures opened { Adds (S.Ledger.opened ledger.old) (S.Ledger.opened ledger.new)
+        (path.now ∷ []) }
     ensures refused { IfErr result (RefusesFile name) }
     ensures lacked { IfErr result (TellsFile ((S.facts store.now).lacked path.now)) }
 {
-    let (bytes, place) = store.read(alloc, path, name)?;
+    let (bytes, place) = store.read(ledger, alloc, path, name)?;
     places.push(place)?;
     Ok(bytes)
 }

@@ -16,6 +16,7 @@ mod setup;
 mod store;
 mod strict;
 mod system_files;
+mod terminal;
 mod values;
 mod wrongs;
 
@@ -32,8 +33,8 @@ pub use looked::look_through;
 pub use opened::open_job;
 pub use request::{Request, request_of};
 pub use setup::{Setup, known_chip, setup_inputs, setup_of};
-pub use store::{FileStore, Journal, noted_tables, tables_of};
+pub use store::{FileStore, Journal, Ledger, noted_tables, tables_of};
 pub use strict::refuse_empty;
-pub use system_files::{SystemFiles, Unrecorded};
+pub use system_files::{SystemFiles, Unlisted, Unrecorded};
 pub use values::{base, decimal, limit, part, status};
 pub use wrongs::wrong_number;

@@ -2,7 +2,7 @@
 
 ghost use Rattle.std.specs.Prelude.{◌≡◌, IfOk, IfErr};
 ghost use Rattle.norprog_common.specs.Files.{TellsFile};
-ghost use Rattle.norprog_common.specs.FileStore.{Lacks, MayRead, Notes};
+ghost use Rattle.norprog_common.specs.FileStore.{Lacks, MayRead, Notes, OpensIf};
 ghost use Rattle.norprog_common.specs.Served.{held_in, input_files_of, no_path, paths_of, AreGiven};
 
 use crate::faults::{FileName, Refusal};
@@ -17,6 +17,7 @@ use std::alloc::Global;
 pub fn open_job<S: FileStore>(
     alloc: Global,
     store: &S,
+    ledger: &mut S::Ledger,
     request: &Request<'_>,
     places: &mut Vec<FileId>,
 ) -> Result<(Texts, S::Input, u64), Refusal>
@@ -28,11 +29,13 @@ pub fn open_job<S: FileStore>(
     ensures noted { IfOk result
         (λ _. Notes (S.facts store.now) (input_files_of request.now) places.old.items
         places.new.items) }
+    ensures opened { OpensIf (S.Ledger.opened ledger.old) (S.Ledger.opened ledger.new)
+        (input_files_of request.now) result }
     ensures lacked { IfErr result
         (TellsFile (Lacks (S.facts store.now) (paths_of request.now no_path))) }
 {
-    let texts = read_texts(alloc, store, request, places)?;
-    let (content, place, len) = store.open(request.content, FileName::Content)?;
+    let texts = read_texts(alloc, store, ledger, request, places)?;
+    let (content, place, len) = store.open(ledger, request.content, FileName::Content)?;
     places.push(place)?;
     Ok((texts, content, len))
 }

@@ -1,7 +1,7 @@
 //! Files by name.
 
 ghost use Rattle.std.specs.Prelude.{◌≡◌, ◌<◌, ◌≤◌, ◌^◌, [], ◌∷◌, length, IfOk, IfErr};
-ghost use Rattle.std.specs.Prelude.{IfSome, List, MatchResult, Option, Some, string_bytes};
+ghost use Rattle.std.specs.Prelude.{IfSome, List, MatchResult, Option, Some, string_bytes, ℕ};
 ghost use Rattle.std.specs.Bool.{OnTrue};
 ghost use Rattle.norprog_common.specs.Chip.{origin_of};
 ghost use Rattle.norprog_common.specs.declared.faults.FileName.TheVariants.{Device, Script, Sfdp};
@@ -25,6 +25,13 @@ pub trait Journal {
     ghost changes: { Self → Option (List Change) };
 }
 
+/// Which files were opened to be read, in order. No call of a store makes one: who is handed one
+/// can't hide an opening.
+pub trait Ledger {
+    /// The names of the files so far, where they are known.
+    ghost opened: { Self → Option (List (List ℕ)) };
+}
+
 /// Files by name. What a file gave, or took, is left open: what is proved of every store holds of
 /// the system's files.
 pub trait FileStore {
@@ -43,6 +50,9 @@ pub trait FileStore {
     /// Which files and devices were changed.
     type Journal: Journal;
 
+    /// Which files were opened to be read.
+    type Ledger: Ledger;
+
     /// What its files gave and took.
     ghost facts: { Self → FileFacts };
 
@@ -50,34 +60,50 @@ pub trait FileStore {
     ///
     /// Where it can't be opened, is a folder or has more bytes, and where a read fails, `File` of
     /// `name`; `Memory` where a growth is refused.
-    fn read(&self, alloc: Global, path: &str, name: FileName) -> Result<(Vec<u8>, FileId), Refusal>
+    fn read(
+        &self,
+        ledger: &mut Self::Ledger,
+        alloc: Global,
+        path: &str,
+        name: FileName,
+    ) -> Result<(Vec<u8>, FileId), Refusal>
         requires { (facts self.now).may path.now }
         ensures gave { IfOk result (λ read. (facts self.now).gave path.now read.0.items) }
         ensures stood { IfOk result (λ read. (facts self.now).stood path.now read.1) }
         ensures length { IfOk result (λ read. length read.0.items ≤ 2 ^ 36) }
         ensures refused { IfErr result (RefusesFile name) }
+        ensures ledger { Adds (Self.Ledger.opened ledger.old) (Self.Ledger.opened ledger.new)
+            (path.now ∷ []) }
         ensures lacked { IfErr result (TellsFile ((facts self.now).lacked path.now)) };
 
     /// Opens a file that isn't a folder, and returns which one it is and its length in bytes.
     ///
     /// Where it can't be opened or asked, and where it is a folder, `File` of `name`; `Memory`
     /// where the system says that it lacks that.
-    fn open(&self, path: &str, name: FileName) -> Result<(Self::Input, FileId, u64), Refusal>
+    fn open(
+        &self,
+        ledger: &mut Self::Ledger,
+        path: &str,
+        name: FileName,
+    ) -> Result<(Self::Input, FileId, u64), Refusal>
         requires { (facts self.now).may path.now }
         ensures opened { IfOk result (λ file.
             (facts self.now).opened path.now (Self.Input.ahead file.0) file.2) }
         ensures stood { IfOk result (λ file. (facts self.now).stood path.now file.1) }
         ensures count { IfOk result (λ file. Self.Input.count file.0 ≡ 0) }
         ensures refused { IfErr result (RefusesFile name) }
+        ensures ledger { Adds (Self.Ledger.opened ledger.old) (Self.Ledger.opened ledger.new)
+            (path.now ∷ []) }
         ensures lacked { IfErr result (TellsFile ((facts self.now).lacked path.now)) };
 
-    /// Opens a script's file twice, where it is a regular one, so that it needn't be held; any
-    /// other is read whole. Returns which file it is as well.
+    /// Opens a script's file and returns which one it is: twice, where it is a regular one, so that
+    /// it needn't be held; any other once, to read it whole. Its name is noted once.
     ///
     /// `File` of `Script` where it can't be opened or read, is a folder, has more than 2^36 bytes,
-    /// or came to be another file between the openings; `Memory`.
+    /// or became another file meanwhile; `Memory`.
     fn open_script(
         &self,
+        ledger: &mut Self::Ledger,
         alloc: Global,
         path: &str,
     ) -> Result<(ScriptFile<Self::Input>, FileId), Refusal>
@@ -87,6 +113,8 @@ pub trait FileStore {
         ensures stood { IfOk result (λ script. (facts self.now).stood path.now script.1) }
         ensures count { IfOk result (λ script. DoNotFail Self.Input.count script.0) }
         ensures refused { IfErr result (RefusesFile Script) }
+        ensures ledger { Adds (Self.Ledger.opened ledger.old) (Self.Ledger.opened ledger.new)
+            (path.now ∷ []) }
         ensures lacked { IfErr result (TellsFile ((facts self.now).lacked path.now)) };
 
     /// Makes an output file, or empties the one that is there, unless it is one of the inputs. What
@@ -196,15 +224,22 @@ pub trait FileStore {
 /// What the file of a chip's SFDP tables holds; nothing for a uniform chip, which has none.
 ///
 /// `File` of `Sfdp` and `Memory`, as [`FileStore::read`] answers them.
-pub fn tables_of<S: FileStore>(alloc: Global, store: &S, chip: Chip<'_>) -> Result<Vec<u8>, Refusal>
+pub fn tables_of<S: FileStore>(
+    alloc: Global,
+    store: &S,
+    ledger: &mut S::Ledger,
+    chip: Chip<'_>,
+) -> Result<Vec<u8>, Refusal>
     requires { MayReadNamed (S.facts store.now) (tables_name (origin_of chip)) }
     ensures tables { IfOk result
         (λ tables. AreTables (S.facts store.now) (origin_of chip.entry) tables.items) }
+    ensures opened { Adds (S.Ledger.opened ledger.old) (S.Ledger.opened ledger.new)
+        (tables_file (origin_of chip.entry)) }
     ensures refused { IfErr result (RefusesFile Sfdp) }
     ensures lacked { IfErr result
         (TellsFile (LacksNamed (S.facts store.now) (tables_name (origin_of chip.entry)))) }
 {
-    noted_tables(alloc, store, chip, &mut Vec::new(alloc))
+    noted_tables(alloc, store, ledger, chip, &mut Vec::new(alloc))
 }
 
 /// What the file of a chip's SFDP tables holds, with which file it is put at the end of `places`,
@@ -216,6 +251,7 @@ pub fn tables_of<S: FileStore>(alloc: Global, store: &S, chip: Chip<'_>) -> Resu
 pub fn noted_tables<S: FileStore>(
     alloc: Global,
     store: &S,
+    ledger: &mut S::Ledger,
     chip: Chip<'_>,
     places: &mut Vec<FileId>,
 ) -> Result<Vec<u8>, Refusal>
@@ -225,13 +261,15 @@ pub fn noted_tables<S: FileStore>(
     ensures noted { IfOk result
         (λ _. Notes (S.facts store.now) (tables_file (origin_of chip.entry)) places.old.items
         places.new.items) }
+    ensures opened { Adds (S.Ledger.opened ledger.old) (S.Ledger.opened ledger.new)
+        (tables_file (origin_of chip.entry)) }
     ensures refused { IfErr result (RefusesFile Sfdp) }
     ensures lacked { IfErr result
         (TellsFile (LacksNamed (S.facts store.now) (tables_name (origin_of chip.entry)))) }
 {
     match chip {
         Chip::Sfdp { file, bits: _ } => {
-            let (bytes, place) = store.read(alloc, file, FileName::Sfdp)?;
+            let (bytes, place) = store.read(ledger, alloc, file, FileName::Sfdp)?;
             places.push(place)?;
             Ok(bytes)
         }

@@ -8,10 +8,10 @@ use crate::files::{
     FileId, ScriptFile, create_fresh, create_output, is_regular_file, open_device_reader,
     open_device_writer, open_error, open_input, open_script, read_whole,
 };
-use crate::store::{FileStore, Journal};
+use crate::store::{FileStore, Journal, Ledger};
 use nor_base::{Failed, FromRead, IntoWrite};
 use std::alloc::Global;
-use std::fs::Files;
+use std::fs::{Files, OpenFile};
 use std::io::{self, BufReader, BufWriter, Read, Write};
 
 /// Bytes that are gathered before they are written to a file.
@@ -40,6 +40,16 @@ impl Journal for Unrecorded {
     ghost changes = { λ _. None };
 }
 
+/// The ledger of the system's files, which holds nothing.
+#[derive(Drop)]
+pub struct Unlisted;
+
+impl Ledger for Unlisted {
+    ghost use Rattle.std.specs.Prelude.{None};
+
+    ghost opened = { λ _. None };
+}
+
 impl<'a, R: Files> FileStore for SystemFiles<'a, R> {
     ghost use Rattle.norprog_common.specs.FileStore.{nothing_known};
 
@@ -53,10 +63,13 @@ impl<'a, R: Files> FileStore for SystemFiles<'a, R> {
 
     type Journal = Unrecorded;
 
+    type Ledger = Unlisted;
+
     ghost facts = { λ _. nothing_known };
 
     fn read(
         &self,
+        _ledger: &mut Unlisted,
         alloc: Global,
         path: &str,
         name: FileName,
@@ -66,6 +79,7 @@ impl<'a, R: Files> FileStore for SystemFiles<'a, R> {
 
     fn open(
         &self,
+        _ledger: &mut Unlisted,
         path: &str,
         name: FileName,
     ) -> Result<(FromRead<R::File>, FileId, u64), Refusal> {
@@ -75,6 +89,7 @@ impl<'a, R: Files> FileStore for SystemFiles<'a, R> {
 
     fn open_script(
         &self,
+        _ledger: &mut Unlisted,
         alloc: Global,
         path: &str,
     ) -> Result<(ScriptFile<FromRead<R::File>>, FileId), Refusal> {
@@ -112,7 +127,7 @@ impl<'a, R: Files> FileStore for SystemFiles<'a, R> {
     }
 
     fn flush(&self, mut file: IntoWrite<BufWriter<R::File>>) -> Result<(), Failed> {
-        let flushed = file.inner.flush();
+        let flushed = write_out(&mut file.inner);
         gone_out(flushed, file.failed)
     }
 
@@ -122,11 +137,11 @@ impl<'a, R: Files> FileStore for SystemFiles<'a, R> {
         alloc: Global,
         path: &str,
     ) -> Result<(FromRead<BufReader<R::File>>, IntoWrite<R::File>), Refusal> {
-        let file = open_device_reader(self.files, path)?;
+        let file = open_device_reader(self.files, alloc, path)?;
         let Ok(from) = BufReader::new(alloc, file) else {
             return Err(Refusal::MEMORY);
         };
-        let to = open_device_writer(self.files, path)?;
+        let to = open_device_writer(self.files, alloc, path)?;
         Ok((FromRead::new(from), IntoWrite::new(to)))
     }
 
@@ -139,6 +154,17 @@ impl<'a, R: Files> FileStore for SystemFiles<'a, R> {
     fn trouble(&self, alloc: Global, path: &str) -> Option<String> {
         let error = open_error(self.files, path)?;
         format!(in alloc; "{error}").ok()
+    }
+}
+
+/// Has all go out that a file took, to the disk where it is a regular one. What has no disk, as a
+/// pipe, can't be synced.
+fn write_out<F: OpenFile + Write + Drop>(file: &mut BufWriter<F>) -> io::Result<()> {
+    file.flush()?;
+    if file.get_ref().metadata()?.is_file() {
+        file.get_ref().sync_all()
+    } else {
+        Ok(())
     }
 }
 

@@ -6,7 +6,7 @@ use Rattle.std.specs.Str.{bytes_eq}
 use Rattle.nor_base.specs.Device.{Writes}
 use Rattle.nor_base.specs.Script.{closed}
 use Rattle.nor_base.specs.declared.device.Failed.{Failed}
-use Rattle.norprog_common.specs.FileStore.{FileFacts}
+use Rattle.norprog_common.specs.FileStore.{FileFacts, Adds}
 use Rattle.norprog_explain.specs.Explained.{topic_text}
 use Rattle.norprog_explain.specs.Topics.{topics}
 use Rattle.norprog_details.specs.declared.typed.CommandLine.{CommandLine}
@@ -66,6 +66,16 @@ MayAskAbout files about = (option : List ℕ × List ℕ) → about ≡ Some opt
 -- so it may about each option that was typed
 abbrev pub MayAskTyped : FileFacts → CommandLine → Type 0
 MayAskTyped files line = (option : Typed) → Contains line.typed.now option → MayAskOption files (option.name.now, option.value.now)
+
+-- the names of the files that were opened to be read grow by none; or, of an option that names a text, by that of its file, once
+abbrev pub OpensOption : Option (List (List ℕ)) → Option (List (List ℕ)) → List ℕ × List ℕ → Type 0
+OpensOption before after option =
+    Adds before after [] ⊎ ((is_one_of text_options option.0 ≡ true) × Adds before after (option.1 ∷ []))
+
+-- so it is of the option that a refusal is about; without one they grow by none
+abbrev pub OpensAbout : Option (List (List ℕ)) → Option (List (List ℕ)) → Option (List ℕ × List ℕ) → Type 0
+OpensAbout before after None = Adds before after []
+OpensAbout before after (Some option) = OpensOption before after option
 
 -- nothing; or these are the system's words on why it doesn't open the file of an option
 abbrev pub IsTroubleOf : FileFacts → List ℕ × List ℕ → Option (List ℕ) → Type 0

@@ -8,7 +8,7 @@ ghost use Rattle.norprog_details.specs.Details.{about_lines, option_line, region
 ghost use Rattle.norprog_details.specs.Details.{passage_lines, text_lines, words_after};
 ghost use Rattle.norprog_details.specs.Details.{paragraph, WritesSome, AreFacts, TellsDetails};
 ghost use Rattle.norprog_details.specs.Details.{read_options, text_options, IsHeld, IsTroubleOf};
-ghost use Rattle.norprog_details.specs.Details.{MayAskAbout, MayAskOption};
+ghost use Rattle.norprog_details.specs.Details.{MayAskAbout, MayAskOption, OpensAbout, OpensOption};
 ghost use Rattle.norprog_details.specs.Form.{is_one_of};
 ghost use Rattle.norprog_details.specs.Subject.{option_of};
 
@@ -23,13 +23,14 @@ use norprog_explain::write_topic;
 use std::alloc::Global;
 
 /// Writes what more there is to say of a refusal's line, without its LF (docs/FORMATS.md, section
-/// 9). It asks the system only about the file of the option that the line is about, and reads only
-/// a regular one.
+/// 9). It asks the system only about the file of the option that the line is about, and reads that
+/// once, if it's regular.
 ///
 /// Where `err` fails the rest is left out; so is the line of a file that can't be read again.
 pub fn write_details<S: FileStore, E: ByteOut>(
     alloc: Global,
     store: &S,
+    ledger: &mut S::Ledger,
     line: CommandLine<'_>,
     refusal: &[u8],
     err: &mut E,
@@ -39,8 +40,10 @@ pub fn write_details<S: FileStore, E: ByteOut>(
     ensures told { TellsDetails (S.facts store.now) line.entry refusal.now
         (E.count err.new ≡ E.count err.old)
         (E.held err.old) (E.held err.new) }
+    ensures opened { OpensAbout (S.Ledger.opened ledger.old) (S.Ledger.opened ledger.new)
+        (option_of line.entry.typed.now refusal.now) }
 {
-    if write_facts(alloc, store, line, refusal, err).is_ok() {
+    if write_facts(alloc, store, ledger, line, refusal, err).is_ok() {
         let _ = write_paragraph(refusal, err);
     }
 }
@@ -68,6 +71,7 @@ fn words_after(refusal: &[u8]) -> &[u8]
 fn write_facts<S: FileStore, E: ByteOut>(
     alloc: Global,
     store: &S,
+    ledger: &mut S::Ledger,
     line: CommandLine<'_>,
     refusal: &[u8],
     err: &mut E,
@@ -77,6 +81,8 @@ fn write_facts<S: FileStore, E: ByteOut>(
     ensures bytes { WritesSome (AreFacts (S.facts store.now) line.entry refusal.now)
         (E.held err.old) (E.held err.new) result }
     ensures count { Counts (E.count err.old) (E.count err.new) result }
+    ensures opened { OpensAbout (S.Ledger.opened ledger.old) (S.Ledger.opened ledger.new)
+        (option_of line.entry.typed.now refusal.now) }
 {
     if refusal == b"norprog: usage".as_slice() {
         return write_usage(line, err);
@@ -85,7 +91,7 @@ fn write_facts<S: FileStore, E: ByteOut>(
         return write_region(line.regions, refusal, err);
     };
     let trouble = trouble_of(alloc, store, option);
-    let text = held_by(alloc, store, option);
+    let text = held_by(alloc, store, ledger, option);
     write_about(option, trouble, text.as_slice(), line.regions, refusal, err)
 }
 
@@ -138,10 +144,17 @@ fn is_read(name: &str) -> bool
 
 /// What the file of an option of a text gives; nothing where it can't be read, or would be waited
 /// for, as a pipe.
-fn held_by<S: FileStore>(alloc: Global, store: &S, option: Typed<'_>) -> Vec<u8>
+fn held_by<S: FileStore>(
+    alloc: Global,
+    store: &S,
+    ledger: &mut S::Ledger,
+    option: Typed<'_>,
+) -> Vec<u8>
     requires { MayAskOption (S.facts store.now) (option.name.now, option.value.now) }
-    ensures { IsHeld (S.facts store.now) (option.entry.name.now, option.entry.value.now)
+    ensures held { IsHeld (S.facts store.now) (option.entry.name.now, option.entry.value.now)
         result.items }
+    ensures opened { OpensOption (S.Ledger.opened ledger.old) (S.Ledger.opened ledger.new)
+        (option.entry.name.now, option.entry.value.now) }
 {
     let Some(name) = text_of(option.name) else {
         return Vec::new(alloc);
@@ -149,7 +162,7 @@ fn held_by<S: FileStore>(alloc: Global, store: &S, option: Typed<'_>) -> Vec<u8>
     if !store.is_regular(option.value) {
         return Vec::new(alloc);
     }
-    match store.read(alloc, option.value, name) {
+    match store.read(ledger, alloc, option.value, name) {
         Ok((text, _)) => text,
         Err(_) => Vec::new(alloc),
     }

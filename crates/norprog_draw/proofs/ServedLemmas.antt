@@ -1,5 +1,5 @@
 -- What is drawn for a request is what its texts ask for, and what is so of it is so of that.
-use Rattle.std.proofs.Common.{◌≡◌, ◌∙◌, arith, option_map, option_to_list, Bool, true, false, refl, sym, subst, List, [], ℕ, Option, Some, Result, Ok, Err, IfOk, IfErr, inl, inr}
+use Rattle.std.proofs.Common.{◌≡◌, ◌∙◌, arith, option_map, option_to_list, Bool, true, false, refl, sym, subst, List, [], ◌∷◌, ℕ, Option, Some, Result, Ok, Err, IfOk, IfErr, inl, inr}
 use Rattle.nor_base.specs.declared.step.Step.{Step}
 use Rattle.nor_base.specs.declared.device.Failed.{Failed}
 use Rattle.nor_base.specs.Device.{Writes, Counts, Cuts}
@@ -22,7 +22,7 @@ use Rattle.norprog_draw.specs.declared.request.DrawRequest.{DrawRequest}
 use Rattle.norprog_draw.specs.Answer.{IsDrawingOf, IsDrawing, IsStopOf, IsDrawFault, IsUnmade, RefusesDraw, done}
 use Rattle.norprog_draw.specs.Drawn.{part, IsThere, IsWaveform, RefusesSteps}
 use Rattle.norprog_draw.specs.Request.{is_well_formed, AsksFor}
-use Rattle.norprog_draw.specs.Served.{DrawTask, IsTaskOf, IsMadeFor, Serves, Makes, paths_asked, paths_of}
+use Rattle.norprog_draw.specs.Served.{DrawTask, IsTaskOf, IsMadeFor, Serves, Makes, files_asked, paths_asked, paths_of}
 
 -- what a request has is what the texts ask for
 serves : (files : FileFacts) (given : DrawArgs) (request : DrawRequest) → AsksFor given request → (t : DrawTask) → IsTaskOf files request t → Serves files given t
@@ -80,6 +80,10 @@ drawings_asked files given request (Err why) asks of = tt
 -- the files of a request are those that the texts name
 same_paths : (given : DrawArgs) (request : DrawRequest) → AsksFor given request → Path (FileName → Option (List ℕ)) (paths_of request) (paths_asked given)
 same_paths given request asks = rw (asks.script, asks.out) refl
+
+-- the file that is read is the one that they name
+pub files_are : (given : DrawArgs) (request : DrawRequest) → AsksFor given request → files_asked given ≡ (request.script.now ∷ [])
+files_are given request asks = rw asks.script refl
 
 -- they may be read where those may
 pub may_read : (files : FileFacts) (given : DrawArgs) (request : DrawRequest) → AsksFor given request → MayRead files (paths_asked given) → MayRead files (paths_of request)

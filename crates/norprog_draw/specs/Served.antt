@@ -46,3 +46,7 @@ paths_of request = draw_paths (Some request.script.now) (Some request.out.now)
 
 abbrev pub paths_asked : DrawArgs → FileName → Option (List ℕ)
 paths_asked given = draw_paths (option_map (λ t. t.now) given.script) (option_map (λ t. t.now) given.out)
+
+-- the name of the file that is read, also where the texts ask for nothing
+abbrev pub files_asked : DrawArgs → List (List ℕ)
+files_asked given = option_to_list (option_map (λ t. t.now) given.script)

@@ -3,13 +3,13 @@
 ghost use Rattle.std.specs.Prelude.{◌≡◌, ◌<◌, ◌≤◌, ◌-◌, ◌^◌, [], ◌∷◌, true, IfOk, IfErr};
 ghost use Rattle.std.specs.Prelude.{Some, option_map, option_to_list};
 ghost use Rattle.norprog_common.specs.FileStore.{Adds, HasGone, Lacks, MakesIf, MayRead};
-ghost use Rattle.norprog_common.specs.FileStore.{TookNothing};
+ghost use Rattle.norprog_common.specs.FileStore.{OpensAt, OpensIf, TookNothing};
 ghost use Rattle.norprog_common.specs.Told.{OrUsage};
 ghost use Rattle.norprog_draw.specs.Answer.{IsDrawing, IsUnmade, RefusesDraw, AnswersDraw};
 ghost use Rattle.norprog_draw.specs.Answer.{done};
 ghost use Rattle.norprog_draw.specs.Request.{is_well_formed};
 ghost use Rattle.norprog_draw.specs.Served.{IsTaskOf, IsMadeFor, Serves, Makes};
-ghost use Rattle.norprog_draw.specs.Served.{paths_asked, paths_of};
+ghost use Rattle.norprog_draw.specs.Served.{files_asked, paths_asked, paths_of};
 
 use crate::request::{DrawRequest, request_of};
 use crate::script::{draw_steps, steps_of};
@@ -24,6 +24,7 @@ pub fn draw<S: FileStore, E: ByteOut>(
     alloc: Global,
     store: &S,
     journal: &mut S::Journal,
+    ledger: &mut S::Ledger,
     given: DrawArgs<'_>,
     err: &mut E,
 ) -> u8
@@ -31,11 +32,13 @@ pub fn draw<S: FileStore, E: ByteOut>(
     requires read { MayRead (S.facts store.now) (paths_asked given) }
     ensures status { result ≤ 2 }
     ensures quiet { result ≡ 0 → err.new ≡ err.old }
+    ensures opened { OpensAt (S.Ledger.opened ledger.old) (S.Ledger.opened ledger.new)
+        (files_asked given.entry) result }
     ensures answer { AnswersDraw (S.facts store.now) given.entry
         (Adds (S.Journal.changes journal.old) (S.Journal.changes journal.new)) (err.new ≡ err.old)
         (E.count err.new ≡ E.count err.old) (E.held err.old) (E.held err.new) result }
 {
-    answered(drawn_in(alloc, store, journal, given), err)
+    answered(drawn_in(alloc, store, journal, ledger, given), err)
 }
 
 /// Draws what is asked for.
@@ -43,10 +46,13 @@ fn drawn_in<S: FileStore>(
     alloc: Global,
     store: &S,
     journal: &mut S::Journal,
+    ledger: &mut S::Ledger,
     given: DrawArgs<'_>,
 ) -> Result<u8, Refusal>
     requires read { MayRead (S.facts store.now) (paths_asked given) }
     ensures done { IfOk result (λ status. (status ≡ 0) × (is_well_formed given.entry ≡ true)) }
+    ensures opened { OpensIf (S.Ledger.opened ledger.old) (S.Ledger.opened ledger.new)
+        (files_asked given.entry) result }
     ensures journal { MakesIf (S.facts store.now)
         (option_to_list (option_map (λ t. t.now) given.entry.script))
         (option_map (λ t. t.now) given.entry.out)
@@ -63,7 +69,7 @@ fn drawn_in<S: FileStore>(
         (Adds (S.Journal.changes journal.old) (S.Journal.changes journal.new)))) }
 {
     let request = request_of(given).ok_or(Refusal::Usage)?;
-    run_draw(alloc, store, journal, request)
+    run_draw(alloc, store, journal, ledger, request)
 }
 
 /// Reads the script of a request, and then makes the output and draws into it.
@@ -71,10 +77,13 @@ fn run_draw<S: FileStore>(
     alloc: Global,
     store: &S,
     journal: &mut S::Journal,
+    ledger: &mut S::Ledger,
     request: DrawRequest<'_>,
 ) -> Result<u8, Refusal>
     requires read { MayRead (S.facts store.now) (paths_of request) }
     ensures status { IfOk result (λ status. status ≡ 0) }
+    ensures opened { OpensIf (S.Ledger.opened ledger.old) (S.Ledger.opened ledger.new)
+        (request.entry.script.now ∷ []) result }
     ensures journal { MakesIf (S.facts store.now) (request.entry.script.now ∷ [])
         (Some request.entry.out.now)
         (Adds (S.Journal.changes journal.old) (S.Journal.changes journal.new)) result }
@@ -89,7 +98,7 @@ fn run_draw<S: FileStore>(
         (TookNothing (S.facts store.now) (Some request.entry.out.now)
         (Adds (S.Journal.changes journal.old) (S.Journal.changes journal.new)))) }
 {
-    let (script, place) = store.read(alloc, request.script, FileName::Script)?;
+    let (script, place) = store.read(ledger, alloc, request.script, FileName::Script)?;
     let steps = steps_of(alloc, script.as_slice(), request.from)?;
     let mut out = store.create(journal, alloc, request.out, FileName::Out, &[place])?;
     let answer = draw_steps(steps.as_slice(), request.from, request.count, &mut out);

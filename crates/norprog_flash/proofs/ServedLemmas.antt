@@ -16,7 +16,7 @@ use Rattle.norprog_flash.specs.Answer.{IsEndingOf, IsUnbegunFor, IsUnbegunOn}
 use Rattle.norprog_flash.specs.Early.{IsSoundEarly}
 use Rattle.norprog_flash.specs.Opened.{IsFlashedOn}
 use Rattle.norprog_flash.specs.Request.{is_well_formed, AsksFor}
-use Rattle.norprog_flash.specs.Served.{paths_asked, paths_of, IsJobOf}
+use Rattle.norprog_flash.specs.Served.{files_asked, files_of, paths_asked, paths_of, IsJobOf}
 use Rattle.norprog_common.proofs.LackedLemmas.{may_same}
 use Rattle.norprog_common.proofs.ToldLemmas.{or_usage}
 use Rattle.norprog_read.proofs.LackedLemmas.{tables_are}
@@ -26,6 +26,12 @@ use Rattle.norprog_read.specs.Request.{IsAskOf}
 -- the options of a request are those of the texts that ask for it
 same_paths : (given : FlashArgs) (request : FlashRequest) → AsksFor given request → Path (FileName → Option (List ℕ)) (paths_of request) (paths_asked given)
 same_paths given request asks =
+    let tables = tables_are given.chip (option_map origin_of request.read.chip) asks.read.chip in
+    rw (asks.hex, sym asks.layout, tables, sym asks.resume) refl
+
+-- and so are its files
+pub files_are : (given : FlashArgs) (request : FlashRequest) → AsksFor given request → files_asked given ≡ files_of request
+files_are given request asks =
     let tables = tables_are given.chip (option_map origin_of request.read.chip) asks.read.chip in
     rw (asks.hex, sym asks.layout, tables, sym asks.resume) refl
 

@@ -15,6 +15,7 @@ read_args given = record {
   limit = given.limit;
   tables = None;
   out = given.before;
+  raw = given.raw;
 }
 
 -- the base's digits, `0` where none are given

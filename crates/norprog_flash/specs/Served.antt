@@ -1,5 +1,5 @@
 -- The job that a command line of `flash` asks for (this project's). `files` is what is known of files by their names.
-use Rattle.std.specs.Prelude.{◌≡◌, ℕ, List, Option, Some, None, option_map}
+use Rattle.std.specs.Prelude.{◌≡◌, ℕ, List, Option, Some, None, option_map, option_to_list, [], ◌∷◌, ◌++◌}
 use Rattle.norprog_common.specs.Chip.{origin_of}
 use Rattle.norprog_common.specs.declared.faults.FileName.{FileName}
 use Rattle.norprog_common.specs.declared.faults.FileName.TheVariants as file
@@ -42,7 +42,19 @@ flash_paths hex layout tables resume file.Sfdp = tables
 flash_paths hex layout tables resume file.Resume = resume
 flash_paths hex layout tables resume other = None
 
--- those of a request, and those that the texts give
+-- the names of the files of a request, in the order in which they are read
+abbrev pub files_of : FlashRequest → List (List ℕ)
+files_of request =
+    (request.hex.now ∷ []) ++ (option_to_list (option_map (λ t. t.now) request.layout)
+    ++ (option_to_list (tables_named (option_map origin_of request.read.chip)) ++ option_to_list (option_map (λ t. t.now) request.resume)))
+
+-- those that the texts name, also where they ask for nothing
+abbrev pub files_asked : FlashArgs → List (List ℕ)
+files_asked given =
+    option_to_list (option_map (λ t. t.now) given.hex) ++ (option_to_list (option_map (λ t. t.now) given.layout)
+    ++ (option_to_list (option_map (λ t. t.now) given.chip.sfdp) ++ option_to_list (option_map (λ t. t.now) given.resume)))
+
+-- the names by option of a request, and of the texts
 abbrev pub paths_of : FlashRequest → FileName → Option (List ℕ)
 paths_of request =
     flash_paths (Some request.hex.now) (option_map (λ t. t.now) request.layout) (tables_named (option_map origin_of request.read.chip))

@@ -43,6 +43,7 @@ name_text name.Layout = codes "layout"
 name_text name.Base = codes "base"
 name_text name.ErasedOnly = codes "erased-only"
 name_text name.Strict = codes "strict"
+name_text name.Raw = codes "raw"
 name_text name.Resume = codes "resume"
 name_text name.Before = codes "before"
 
@@ -83,6 +84,7 @@ next_options given = concat (
     ∷ valued name.Base (option_map (λ t. t.now) given.base) []
     ∷ flagged name.ErasedOnly given.erased_only
     ∷ flagged name.Strict given.strict
+    ∷ flagged name.Raw given.raw
     ∷ valued name.Resume (Some (first_name given)) []
     ∷ valued name.Before (option_map (λ t. t.now) given.before) (codes ".2")
     ∷ []

@@ -7,12 +7,13 @@ ghost use Rattle.nor_job.specs.declared.fault.BuildFault.{BuildFault};
 ghost use Rattle.nor_job.specs.declared.fault.BuildFault.TheVariants.{Write};
 ghost use Rattle.norprog_common.specs.declared.faults.Refusal.TheVariants.{Build};
 ghost use Rattle.norprog_common.specs.FileStore.{Adds, Breaks, Created, MayRead, Opened};
+ghost use Rattle.norprog_common.specs.FileStore.{OpensAt, OpensIf};
 ghost use Rattle.norprog_common.specs.Lines.{printed};
 ghost use Rattle.norprog_flash.specs.Answer.{AnswersFlash, IsEndingOf, IsUnbegunFor, IsUnbegunOn};
 ghost use Rattle.norprog_flash.specs.Answer.{ReportsUnflashed, family_of};
 ghost use Rattle.norprog_flash.specs.Early.{file_tables, is_known, IsSoundEarly, RefusesEarly};
 ghost use Rattle.norprog_flash.specs.Opened.{IsFlashedOn};
-ghost use Rattle.norprog_flash.specs.Served.{paths_asked};
+ghost use Rattle.norprog_flash.specs.Served.{files_asked, paths_asked};
 ghost use Rattle.norprog_flash.specs.Stops.{CountsOut};
 ghost use Rattle.norprog_flash.specs.Worked.{Showing};
 
@@ -38,6 +39,7 @@ pub fn flash<S: FileStore, O: ByteOut, E: ByteOut, P: ByteOut>(
     alloc: Global,
     store: &S,
     journal: &mut S::Journal,
+    ledger: &mut S::Ledger,
     given: FlashArgs<'_>,
     out: &mut O,
     err: &mut E,
@@ -49,6 +51,8 @@ pub fn flash<S: FileStore, O: ByteOut, E: ByteOut, P: ByteOut>(
     requires progress { P.count progress.old < 2 ^ 64 - 1 }
     ensures status { result ≤ 2 }
     ensures quiet { result ≡ 0 → err.new ≡ err.old }
+    ensures opened { OpensAt (S.Ledger.opened ledger.old) (S.Ledger.opened ledger.new)
+        (files_asked given.entry) result }
     ensures answer { AnswersFlash (S.facts store.now) given.entry
         (Adds (S.Journal.changes journal.old) (S.Journal.changes journal.new))
         (Breaks (S.facts store.now) (O.count out.old) (O.count out.new))
@@ -57,7 +61,7 @@ pub fn flash<S: FileStore, O: ByteOut, E: ByteOut, P: ByteOut>(
         (P.held progress.old) (P.held progress.new) (P.count progress.old)
         (P.count progress.new) }
 {
-    match flash_texts(alloc, store, journal, &given, out, progress) {
+    match flash_texts(alloc, store, journal, ledger, &given, out, progress) {
         Ok(ending) => report_ending(ending, &given, out, err),
         Err(why) => report_unflashed(why, family_of(&given), out, err),
     }
@@ -113,12 +117,15 @@ fn flash_texts<S: FileStore, O: ByteOut, P: ByteOut>(
     alloc: Global,
     store: &S,
     journal: &mut S::Journal,
+    ledger: &mut S::Ledger,
     given: &FlashArgs<'_>,
     out: &mut O,
     progress: &mut P,
 ) -> Result<Ending, Unflashed>
     requires read { MayRead (S.facts store.now) (paths_asked given.now) }
     requires room { (O.count out.old < 2 ^ 64 - 1) × (P.count progress.old < 2 ^ 64 - 1) }
+    ensures opened { OpensIf (S.Ledger.opened ledger.old) (S.Ledger.opened ledger.new)
+        (files_asked given.now) result }
     ensures ends { IfOk result
         (IsEndingOf (S.facts store.now) given.now
         (Adds (S.Journal.changes journal.old) (S.Journal.changes journal.new))
@@ -133,7 +140,7 @@ fn flash_texts<S: FileStore, O: ByteOut, P: ByteOut>(
     ensures counts { CountsOut (S.facts store.now) (O.count out.old) (O.count out.new) result }
 {
     let request = request_of(given).ok_or(Refusal::Usage)?;
-    let files = read_files(alloc, store, &request)?;
+    let files = read_files(alloc, store, ledger, &request)?;
     let FlashRequest {
         read,
         hex: _,
@@ -156,6 +163,7 @@ fn flash_texts<S: FileStore, O: ByteOut, P: ByteOut>(
             turns: asked.turns,
             content: asked.content,
             erased_only,
+            raw: asked.raw,
         },
         hex: files.hex.as_slice(),
         layout: bytes_in(&files.layout),

@@ -26,6 +26,7 @@ pub(crate) enum Name {
     Base,
     ErasedOnly,
     Strict,
+    Raw,
     Resume,
     Before,
 }
@@ -53,7 +54,7 @@ pub(crate) fn write_command<W: ByteOut>(given: &FlashArgs<'_>, writer: &mut W) -
 }
 
 /// Its options.
-fn options<'a>(given: &'a FlashArgs<'a>) -> [Given<'a>; 14]
+fn options<'a>(given: &'a FlashArgs<'a>) -> [Given<'a>; 15]
     ensures { flat_map given_text result ≡ next_options given.now }
 {
     [
@@ -69,6 +70,7 @@ fn options<'a>(given: &'a FlashArgs<'a>) -> [Given<'a>; 14]
         Given::Text(Name::Base, given.base),
         Given::Flag(Name::ErasedOnly, given.erased_only),
         Given::Flag(Name::Strict, given.strict),
+        Given::Flag(Name::Raw, given.raw),
         Given::Text(Name::Resume, Some(first_name(given))),
         Given::Next(Name::Before, given.before),
     ]
@@ -185,6 +187,7 @@ fn name_text(name: Name) -> &'static [u8]
         Name::Base => b"base",
         Name::ErasedOnly => b"erased-only",
         Name::Strict => b"strict",
+        Name::Raw => b"raw",
         Name::Resume => b"resume",
         Name::Before => b"before",
     }

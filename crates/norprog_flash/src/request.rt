@@ -57,5 +57,6 @@ fn read_args<'a>(given: &FlashArgs<'a>) -> ReadArgs<'a>
         limit: given.limit,
         tables: None,
         out: given.before,
+        raw: given.raw,
     }
 }

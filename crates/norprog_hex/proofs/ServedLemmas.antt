@@ -22,7 +22,7 @@ use Rattle.norprog_hex.specs.declared.request.HexRequest.{HexRequest}
 use Rattle.norprog_hex.specs.Answer.{Fits, HasOtherLength, IsTooLong, IsUnmade, IsUntaken, IsWritten, IsCut, IsBegun, RefusesHex, done}
 use Rattle.norprog_hex.specs.Converted.{BreaksOff, WasConverted, StopsConverting}
 use Rattle.norprog_hex.specs.Request.{is_well_formed, AsksFor}
-use Rattle.norprog_hex.specs.Served.{BinTask, HexTask, IsBinOf, IsTaskOf, ServesBin, Serves, paths_asked, paths_of}
+use Rattle.norprog_hex.specs.Served.{BinTask, HexTask, IsBinOf, IsTaskOf, ServesBin, Serves, files_asked, paths_asked, paths_of}
 
 -- what a request has is what the texts ask for
 serves_bin : (files : FileFacts) (given : HexArgs) (request : HexRequest) → AsksFor given request → (t : BinTask) → IsBinOf files request t → ServesBin files given t
@@ -57,6 +57,10 @@ wider L M C F G O P A B files opened asked other is = absurd is
 -- the files of a request are those that the texts name
 same_paths : (given : HexArgs) (request : HexRequest) → AsksFor given request → Path (FileName → Option (List ℕ)) (paths_of request) (paths_asked given)
 same_paths given request asks = rw (asks.bin, asks.out) refl
+
+-- the file that is read is the one that they name
+pub files_are : (given : HexArgs) (request : HexRequest) → AsksFor given request → files_asked given ≡ (request.bin.now ∷ [])
+files_are given request asks = rw asks.bin refl
 
 -- they may be read where those may
 pub may_read : (files : FileFacts) (given : HexArgs) (request : HexRequest) → AsksFor given request → MayRead files (paths_asked given) → MayRead files (paths_of request)

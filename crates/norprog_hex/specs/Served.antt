@@ -50,3 +50,7 @@ paths_of request = hex_paths (Some request.bin.now) (Some request.out.now)
 
 abbrev pub paths_asked : HexArgs → FileName → Option (List ℕ)
 paths_asked given = hex_paths (option_map (λ t. t.now) given.bin) (option_map (λ t. t.now) given.out)
+
+-- the name of the file that is read, also where the texts ask for nothing
+abbrev pub files_asked : HexArgs → List (List ℕ)
+files_asked given = option_to_list (option_map (λ t. t.now) given.bin)

@@ -3,6 +3,7 @@
 ghost use Rattle.std.specs.Prelude.{◌≡◌, ◌+◌, ◌<◌, ◌≤◌, ◌-◌, ◌^◌, [], ◌∷◌, true, IfOk, IfErr};
 ghost use Rattle.std.specs.Prelude.{Some, option_map, option_to_list};
 ghost use Rattle.norprog_common.specs.FileStore.{Adds, HasGone, LacksEarly, MakesIf, MayRead};
+ghost use Rattle.norprog_common.specs.FileStore.{OpensAt, OpensIf};
 ghost use Rattle.norprog_common.specs.declared.faults.FileName.TheVariants.{Out};
 ghost use Rattle.norprog_common.specs.Reading.{HasFailed};
 ghost use Rattle.norprog_common.specs.Told.{ForAsked, OrUsage};
@@ -10,7 +11,7 @@ ghost use Rattle.norprog_hex.specs.Answer.{IsUnmade, IsUntaken, IsWritten, Refus
 ghost use Rattle.norprog_hex.specs.Answer.{done};
 ghost use Rattle.norprog_hex.specs.Request.{is_well_formed};
 ghost use Rattle.norprog_hex.specs.Served.{HexTask, IsBinOf, IsTaskOf, ServesBin, Serves};
-ghost use Rattle.norprog_hex.specs.Served.{paths_asked, paths_of};
+ghost use Rattle.norprog_hex.specs.Served.{files_asked, paths_asked, paths_of};
 
 use crate::convert::write_bin;
 use crate::request::{HexRequest, request_of};
@@ -28,6 +29,7 @@ pub fn hex<S: FileStore, E: ByteOut>(
     alloc: Global,
     store: &S,
     journal: &mut S::Journal,
+    ledger: &mut S::Ledger,
     given: HexArgs<'_>,
     err: &mut E,
 ) -> u8
@@ -35,12 +37,14 @@ pub fn hex<S: FileStore, E: ByteOut>(
     requires read { MayRead (S.facts store.now) (paths_asked given) }
     ensures status { result ≤ 2 }
     ensures quiet { result ≡ 0 → err.new ≡ err.old }
+    ensures opened { OpensAt (S.Ledger.opened ledger.old) (S.Ledger.opened ledger.new)
+        (files_asked given.entry) result }
     ensures answer { AnswersHex (S.facts store.now) (HasFailed S.Input.ahead S.Input.count)
         given.entry (Adds (S.Journal.changes journal.old) (S.Journal.changes journal.new))
         (err.new ≡ err.old) (E.count err.new ≡ E.count err.old) (E.held err.old) (E.held err.new)
         result }
 {
-    answered(converted_in(alloc, store, journal, given), err)
+    answered(converted_in(alloc, store, journal, ledger, given), err)
 }
 
 /// Writes what is asked for.
@@ -48,10 +52,13 @@ fn converted_in<S: FileStore>(
     alloc: Global,
     store: &S,
     journal: &mut S::Journal,
+    ledger: &mut S::Ledger,
     given: HexArgs<'_>,
 ) -> Result<u8, Refusal>
     requires read { MayRead (S.facts store.now) (paths_asked given) }
     ensures done { IfOk result (λ status. (status ≡ 0) × (is_well_formed given.entry ≡ true)) }
+    ensures opened { OpensIf (S.Ledger.opened ledger.old) (S.Ledger.opened ledger.new)
+        (files_asked given.entry) result }
     ensures journal { MakesIf (S.facts store.now)
         (option_to_list (option_map (λ t. t.now) given.entry.bin))
         (option_map (λ t. t.now) given.entry.out)
@@ -72,7 +79,7 @@ fn converted_in<S: FileStore>(
         (Serves (S.facts store.now) given.entry))) }
 {
     let request = request_of(given).ok_or(Refusal::Usage)?;
-    run_hex(alloc, store, journal, request)
+    run_hex(alloc, store, journal, ledger, request)
 }
 
 /// Opens the raw image of a request, and has it written where it fits.
@@ -80,10 +87,13 @@ fn run_hex<S: FileStore>(
     alloc: Global,
     store: &S,
     journal: &mut S::Journal,
+    ledger: &mut S::Ledger,
     request: HexRequest<'_>,
 ) -> Result<u8, Refusal>
     requires read { MayRead (S.facts store.now) (paths_of request) }
     ensures status { IfOk result (λ status. status ≡ 0) }
+    ensures opened { OpensIf (S.Ledger.opened ledger.old) (S.Ledger.opened ledger.new)
+        (request.entry.bin.now ∷ []) result }
     ensures journal { MakesIf (S.facts store.now) (request.entry.bin.now ∷ [])
         (Some request.entry.out.now)
         (Adds (S.Journal.changes journal.old) (S.Journal.changes journal.new)) result }
@@ -102,7 +112,7 @@ fn run_hex<S: FileStore>(
         (Adds (S.Journal.changes journal.old) (S.Journal.changes journal.new))
         (IsTaskOf (S.facts store.now) request.entry))) }
 {
-    let (mut bin, place, len) = store.open(request.bin, FileName::Bin)?;
+    let (mut bin, place, len) = store.open(ledger, request.bin, FileName::Bin)?;
     if len > PAST - u64::from(request.at) {
         return Err(Refusal::BinSize);
     }

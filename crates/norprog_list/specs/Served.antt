@@ -1,10 +1,10 @@
 -- The listing that a command line of `list` asks for (this project's).
-use Rattle.std.specs.Prelude.{◌≡◌, ℕ, List, Option, Some, None, option_map}
+use Rattle.std.specs.Prelude.{◌≡◌, ℕ, List, ◌++◌, Option, Some, None, option_map, option_to_list}
 use Rattle.nor_base.specs.Device.{Ahead}
 use Rattle.nor_job.specs.Task.{Task}
 use Rattle.norprog_common.specs.Chip.{origin_of}
 use Rattle.norprog_common.specs.Setup.{IsSetupTask, ServesSetup}
-use Rattle.norprog_common.specs.FileStore.{FileFacts, IsAheadIn, tables_name}
+use Rattle.norprog_common.specs.FileStore.{FileFacts, IsAheadIn, tables_file, tables_name}
 use Rattle.norprog_common.specs.declared.faults.FileName.{FileName}
 use Rattle.norprog_common.specs.declared.faults.FileName.TheVariants.{Sfdp, Script}
 use Rattle.norprog_common.specs.declared.given.ListArgs.{ListArgs}
@@ -39,3 +39,12 @@ paths_of request = list_paths (tables_name (origin_of request.setup.chip)) (Some
 
 abbrev pub paths_asked : ListArgs → FileName → Option (List ℕ)
 paths_asked given = list_paths (option_map (λ t. t.now) given.setup.chip.sfdp) (option_map (λ t. t.now) given.script)
+
+-- the names of the files that a listing reads, in the order in which they are opened: tables and script; those of a request
+abbrev pub input_files_of : ListRequest → List (List ℕ)
+input_files_of request = tables_file (origin_of request.setup.chip) ++ option_to_list (Some request.script.now)
+
+-- and those that the texts name, also where these ask for nothing
+abbrev pub files_asked : ListArgs → List (List ℕ)
+files_asked given =
+    option_to_list (option_map (λ t. t.now) given.setup.chip.sfdp) ++ option_to_list (option_map (λ t. t.now) given.script)

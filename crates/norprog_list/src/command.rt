@@ -1,12 +1,13 @@
 //! `list`: from the texts of the command line to the lines of a listing.
 
 ghost use Rattle.std.specs.Prelude.{◌≡◌, ◌<◌, ◌≤◌, ◌-◌, ◌^◌, true, IfOk, IfErr};
-ghost use Rattle.norprog_common.specs.FileStore.{Lacks, MayRead};
+ghost use Rattle.norprog_common.specs.FileStore.{Lacks, MayRead, OpensAt, OpensIf};
 ghost use Rattle.norprog_common.specs.Reading.{HasFailed};
 ghost use Rattle.norprog_common.specs.Told.{OrUsage};
 ghost use Rattle.norprog_list.specs.Answer.{PrintsListing, CutsListing, RefusesList, AnswersList};
 ghost use Rattle.norprog_list.specs.Request.{is_well_formed};
-ghost use Rattle.norprog_list.specs.Served.{paths_asked, paths_of, IsTaskOf, Serves};
+ghost use Rattle.norprog_list.specs.Served.{files_asked, input_files_of, paths_asked, paths_of};
+ghost use Rattle.norprog_list.specs.Served.{IsTaskOf, Serves};
 
 use crate::listing::list_script;
 use crate::request::{ListRequest, request_of};
@@ -20,6 +21,7 @@ use std::alloc::Global;
 pub fn list<S: FileStore, O: ByteOut, E: ByteOut>(
     alloc: Global,
     store: &S,
+    ledger: &mut S::Ledger,
     given: ListArgs<'_>,
     out: &mut O,
     err: &mut E,
@@ -29,24 +31,29 @@ pub fn list<S: FileStore, O: ByteOut, E: ByteOut>(
     requires read { MayRead (S.facts store.now) (paths_asked given) }
     ensures status { result ≤ 2 }
     ensures quiet { result ≡ 0 → err.new ≡ err.old }
+    ensures opened { OpensAt (S.Ledger.opened ledger.old) (S.Ledger.opened ledger.new)
+        (files_asked given.entry) result }
     ensures answer { AnswersList (S.facts store.now) (HasFailed S.Input.ahead S.Input.count)
         given.entry (O.count out.old < O.count out.new)
         (O.held out.old) (O.held out.new) (err.new ≡ err.old)
         (E.count err.new ≡ E.count err.old) (E.held err.old) (E.held err.new) result }
 {
-    answered(listed_in(alloc, store, given, out), err)
+    answered(listed_in(alloc, store, ledger, given, out), err)
 }
 
 /// Lists what is asked for.
 fn listed_in<S: FileStore, O: ByteOut>(
     alloc: Global,
     store: &S,
+    ledger: &mut S::Ledger,
     given: ListArgs<'_>,
     out: &mut O,
 ) -> Result<u8, Refusal>
     requires out { O.count out.old < 2 ^ 64 - 1 }
     requires read { MayRead (S.facts store.now) (paths_asked given) }
     ensures done { IfOk result (λ status. (status ≡ 0) × (is_well_formed given.entry ≡ true)) }
+    ensures opened { OpensIf (S.Ledger.opened ledger.old) (S.Ledger.opened ledger.new)
+        (files_asked given.entry) result }
     ensures printed { IfOk result
         (λ _. PrintsListing (Serves (S.facts store.now) given.entry) (O.held out.old)
         (O.held out.new)) }
@@ -60,7 +67,7 @@ fn listed_in<S: FileStore, O: ByteOut>(
         (HasFailed S.Input.ahead S.Input.count) (O.held out.old) (O.held out.new))) }
 {
     let request = request_of(given).ok_or(Refusal::Usage)?;
-    run_list(alloc, store, request, out)?;
+    run_list(alloc, store, ledger, request, out)?;
     Ok(0)
 }
 
@@ -68,11 +75,14 @@ fn listed_in<S: FileStore, O: ByteOut>(
 fn run_list<S: FileStore, O: ByteOut>(
     alloc: Global,
     store: &S,
+    ledger: &mut S::Ledger,
     request: ListRequest<'_>,
     out: &mut O,
 ) -> Result<(), Refusal>
     requires out { O.count out.old < 2 ^ 64 - 1 }
     requires read { MayRead (S.facts store.now) (paths_of request) }
+    ensures opened { OpensIf (S.Ledger.opened ledger.old) (S.Ledger.opened ledger.new)
+        (input_files_of request.entry) result }
     ensures printed { IfOk result
         (λ _. PrintsListing (IsTaskOf (S.facts store.now) request.entry) (O.held out.old)
         (O.held out.new)) }
@@ -84,8 +94,8 @@ fn run_list<S: FileStore, O: ByteOut>(
         (O.count out.old < O.count out.new) (IsTaskOf (S.facts store.now) request.entry)
         (HasFailed S.Input.ahead S.Input.count) (O.held out.old) (O.held out.new)) }
 {
-    let tables = tables_of(alloc, store, request.setup.chip)?;
-    let (mut script, _place, _len) = store.open(request.script, FileName::Script)?;
+    let tables = tables_of(alloc, store, ledger, request.setup.chip)?;
+    let (mut script, _place, _len) = store.open(ledger, request.script, FileName::Script)?;
     let inputs = setup_inputs(request.setup, tables.as_slice());
     list_script(alloc, &inputs, &mut script, out)
 }

@@ -111,6 +111,7 @@ pub record IsReadIn (found : Found) (given : ReadArgs) : Type 0 where
   pub limit : Has found (codes "limit") (option_map (λ t. t.now) given.limit)
   pub tables : Has found (codes "tables") (option_map (λ t. t.now) given.tables)
   pub out : Has found (codes "out") (option_map (λ t. t.now) given.out)
+  pub raw : Sets found (codes "raw") given.raw
 
 pub record IsFlashIn (found : Found) (given : FlashArgs) : Type 0 where
   pub chip : IsChipIn found given.chip
@@ -125,6 +126,7 @@ pub record IsFlashIn (found : Found) (given : FlashArgs) : Type 0 where
   pub erased_only : Sets found (codes "erased-only") given.erased_only
   pub strict : Sets found (codes "strict") given.strict
   pub dry_run : Sets found (codes "dry-run") given.dry_run
+  pub raw : Sets found (codes "raw") given.raw
   pub regions : given.regions.items ≡ texts_of found (codes "names")
 
 pub record IsBuildIn (found : Found) (given : BuildArgs) : Type 0 where

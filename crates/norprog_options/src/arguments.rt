@@ -372,6 +372,13 @@ const DRY_RUN: Choice = Choice {
     help: "Stop after the plan: the chip isn't changed [default: no]",
 };
 
+const RAW: Choice = Choice {
+    name: "raw",
+    takes: Takes::Nothing,
+    required: false,
+    help: "The tty hands on each byte as it comes [default: what was read has to show it]",
+};
+
 const TRUST: Choice = Choice {
     name: "trust",
     takes: Takes::Nothing,
@@ -498,7 +505,7 @@ static FORMS: [Form; 13] = [
         about: "Reads the chip behind a serprog device twice: its tables and its content",
         example: "Example: norprog read --device /dev/ttyACM0 --tables now.sfdp --out now.bin",
         groups: &[Group::Chip],
-        choices: &[MODE4, DEVICE, LIMIT, TABLES_OUT, READ_OUT],
+        choices: &[MODE4, DEVICE, LIMIT, RAW, TABLES_OUT, READ_OUT],
     },
     Form {
         name: "flash",
@@ -513,6 +520,7 @@ static FORMS: [Form; 13] = [
             STRICT,
             DEVICE,
             LIMIT,
+            RAW,
             BEFORE,
             RESUME,
             DRY_RUN,

@@ -328,6 +328,7 @@ fn read_in<'a>(read: &ArgMatches<'a>) -> ReadArgs<'a>
         limit: read.get_str("limit"),
         tables: read.get_str("tables"),
         out: read.get_str("out"),
+        raw: read.get_flag("raw"),
     }
 }
 
@@ -349,6 +350,7 @@ fn flash_in<'a>(alloc: Global, flash: &ArgMatches<'a>) -> Result<FlashArgs<'a>, 
         erased_only: flash.get_flag("erased-only"),
         strict: flash.get_flag("strict"),
         dry_run: flash.get_flag("dry-run"),
+        raw: flash.get_flag("raw"),
         regions: texts_in(alloc, flash, "names")?,
     })
 }

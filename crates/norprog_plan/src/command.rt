@@ -6,8 +6,8 @@ ghost use Rattle.std.specs.Prelude.{IfOk, IfErr, IfSome, MatchResult, option_map
 ghost use Rattle.norprog_common.specs.Files.{TellsFile};
 ghost use Rattle.norprog_common.specs.declared.faults.FileName.TheVariants.{Map};
 ghost use Rattle.norprog_common.specs.FileStore.{Adds, Breaks, HasGone, IsMadeApart};
-ghost use Rattle.norprog_common.specs.FileStore.{LacksEarly, MakesIf, MayRead, TookNothing};
-ghost use Rattle.norprog_common.specs.FileStore.{WhereNamed};
+ghost use Rattle.norprog_common.specs.FileStore.{LacksEarly, MakesIf, MayRead, OpensAt, OpensIf};
+ghost use Rattle.norprog_common.specs.FileStore.{TookNothing, WhereNamed};
 ghost use Rattle.norprog_common.specs.Strict.{Filled};
 ghost use Rattle.norprog_common.specs.Told.{OrUsage};
 ghost use Rattle.norprog_plan.specs.Served.{asks_plan, shows_of, ServesPlan};
@@ -16,7 +16,7 @@ ghost use Rattle.norprog_plan.specs.Answer.{RefusesPlan};
 ghost use Rattle.norprog_common.specs.Reading.{HasFailed};
 ghost use Rattle.norprog_common.specs.Served.{IsJobOf, AreGiven, held_in, input_files_of};
 ghost use Rattle.norprog_common.specs.Served.{map_path, no_path, paths_asked, paths_of};
-ghost use Rattle.norprog_common.specs.Served.{MakesFor, MayMakeFor};
+ghost use Rattle.norprog_common.specs.Served.{files_asked, MakesFor, MayMakeFor};
 
 use crate::drawing::left;
 use crate::outline::{Shows, print_job};
@@ -35,6 +35,7 @@ pub fn plan<S: FileStore, O: ByteOut, E: ByteOut>(
     alloc: Global,
     store: &S,
     journal: &mut S::Journal,
+    ledger: &mut S::Ledger,
     given: PlanArgs<'_>,
     out: &mut O,
     err: &mut E,
@@ -44,6 +45,8 @@ pub fn plan<S: FileStore, O: ByteOut, E: ByteOut>(
     requires read { MayRead (S.facts store.now) (paths_asked given.job no_path) }
     ensures status { result ≤ 2 }
     ensures quiet { result ≡ 0 → err.new ≡ err.old }
+    ensures opened { OpensAt (S.Ledger.opened ledger.old) (S.Ledger.opened ledger.new)
+        (files_asked given.entry.job) result }
     ensures answer { AnswersPlan (S.facts store.now) (HasFailed S.Input.ahead S.Input.count)
         given.entry
         (Adds (S.Journal.changes journal.old) (S.Journal.changes journal.new))
@@ -52,7 +55,7 @@ pub fn plan<S: FileStore, O: ByteOut, E: ByteOut>(
         (err.new ≡ err.old)
         (E.count err.new ≡ E.count err.old) (E.held err.old) (E.held err.new) result }
 {
-    answered(report_plan(alloc, store, journal, given, out), err)
+    answered(report_plan(alloc, store, journal, ledger, given, out), err)
 }
 
 /// Plans what is asked for, and prints what tells it.
@@ -60,12 +63,15 @@ fn report_plan<S: FileStore, O: ByteOut>(
     alloc: Global,
     store: &S,
     journal: &mut S::Journal,
+    ledger: &mut S::Ledger,
     given: PlanArgs<'_>,
     out: &mut O,
 ) -> Result<u8, Refusal>
     requires out { O.count out.old < 2 ^ 64 - 1 }
     requires read { MayRead (S.facts store.now) (paths_asked given.job no_path) }
     ensures done { IfOk result (λ status. (status ≡ 0) × (asks_plan given.entry ≡ true)) }
+    ensures opened { OpensIf (S.Ledger.opened ledger.old) (S.Ledger.opened ledger.new)
+        (files_asked given.entry.job) result }
     ensures journal { MatchResult result
         (λ _. MakesFor (S.facts store.now) given.entry.job
         (option_map (λ t. t.now) given.entry.map)
@@ -105,7 +111,7 @@ fn report_plan<S: FileStore, O: ByteOut>(
     } = given;
     let request = request_of(job).ok_or(Refusal::Usage)?;
     let shows = Shows { times, regions };
-    run_plan(alloc, store, journal, &request, shows, map, out)?;
+    run_plan(alloc, store, journal, ledger, &request, shows, map, out)?;
     Ok(0)
 }
 
@@ -124,6 +130,7 @@ fn run_plan<S: FileStore, O: ByteOut>(
     alloc: Global,
     store: &S,
     journal: &mut S::Journal,
+    ledger: &mut S::Ledger,
     request: &Request<'_>,
     shows: Shows,
     map: Option<&str>,
@@ -131,6 +138,8 @@ fn run_plan<S: FileStore, O: ByteOut>(
 ) -> Result<(), Refusal>
     requires out { O.count out.old < 2 ^ 64 - 1 }
     requires read { MayRead (S.facts store.now) (paths_of request.now no_path) }
+    ensures opened { OpensIf (S.Ledger.opened ledger.old) (S.Ledger.opened ledger.new)
+        (input_files_of request.now) result }
     ensures journal { MakesIf (S.facts store.now) (input_files_of request.now)
         (option_map (λ t. t.now) map.entry)
         (Adds (S.Journal.changes journal.old) (S.Journal.changes journal.new)) result }
@@ -161,7 +170,7 @@ fn run_plan<S: FileStore, O: ByteOut>(
         mut content,
         len,
         map,
-    } = open_files(alloc, store, journal, request, map)?;
+    } = open_files(alloc, store, journal, ledger, request, map)?;
     let inputs = inputs_of(request, &texts);
     match refuse_empty(alloc, request.strict, &inputs, len) {
         Ok(()) => print_job(alloc, store, &inputs, &mut content, len, shows, map, out),
@@ -175,10 +184,13 @@ fn open_files<S: FileStore>(
     alloc: Global,
     store: &S,
     journal: &mut S::Journal,
+    ledger: &mut S::Ledger,
     request: &Request<'_>,
     map: Option<&str>,
 ) -> Result<PlanFiles<S::Input, S::Output>, Refusal>
     requires read { MayRead (S.facts store.now) (paths_of request.now no_path) }
+    ensures opened { OpensIf (S.Ledger.opened ledger.old) (S.Ledger.opened ledger.new)
+        (input_files_of request.now) result }
     ensures given { IfOk result
         (λ files. AreGiven (S.facts store.now) request.now (held_in files.texts)
         × (S.facts store.now).opened request.now.content.now (S.Input.ahead files.content)
@@ -198,7 +210,7 @@ fn open_files<S: FileStore>(
         (Adds (S.Journal.changes journal.old) (S.Journal.changes journal.new))) }
 {
     let mut places = Vec::new(alloc);
-    let (texts, content, len) = open_job(alloc, store, request, &mut places)?;
+    let (texts, content, len) = open_job(alloc, store, ledger, request, &mut places)?;
     let map = match map {
         Some(path) => Some(store.create(journal, alloc, path, FileName::Map, places.as_slice())?),
         None => None,

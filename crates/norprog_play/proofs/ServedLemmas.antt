@@ -22,6 +22,7 @@ use Rattle.norprog_common.specs.Content.{of_reader}
 use Rattle.norprog_common.specs.Reading.{GivesSome, HasFailed}
 use Rattle.norprog_common.specs.Told.{TellsBroken}
 use Rattle.norprog_common.proofs.LackedLemmas.{lacks_named, lacks_same, may_same, tables_named}
+use Rattle.norprog_common.proofs.LedgerLemmas.{file_asked}
 use Rattle.norprog_common.proofs.ToldLemmas.{asked_wider, refuses_wider, by_fault, by_files, or_usage}
 use Rattle.norprog_play.specs.declared.ending.Ending.{Ending}
 use Rattle.norprog_play.specs.declared.request.PlayRequest.{PlayRequest}
@@ -31,7 +32,7 @@ use Rattle.norprog_play.specs.Answer.{Blames, IsEndingOf, IsEnding, IsHaltOf, Is
 use Rattle.norprog_play.specs.Job.{IsReady, RefusesJob, of_script}
 use Rattle.norprog_play.specs.Played.{Ends, StopsPlay}
 use Rattle.norprog_play.specs.Request.{is_well_formed, AsksFor}
-use Rattle.norprog_play.specs.Served.{PlayTask, IsTaskOf, Serves, expectation, paths_asked, paths_of}
+use Rattle.norprog_play.specs.Served.{PlayTask, IsTaskOf, Serves, expectation, files_asked, files_of, paths_asked, paths_of}
 use Rattle.norprog_play.specs.Expected.{Expectation}
 use Rattle.norprog_play.specs.Tables.{tables_of}
 
@@ -56,6 +57,13 @@ endings_asked files Made Told given request (Err why) asks of = tt
 same_paths : (given : PlayArgs) (request : PlayRequest) → AsksFor given request → Path (FileName → Option (List ℕ)) (paths_of request) (paths_asked given)
 same_paths given request asks =
     let tables = tables_named (option_map (λ t. t.now) given.setup.chip.sfdp) (option_map (λ t. t.now) given.setup.chip.uniform)
+    (option_map (λ t. t.now) given.setup.chip.bits) (origin_of request.setup.chip) asks.setup.chip in
+    rw (asks.content, asks.script, tables) refl
+
+-- the files that are read are those that the texts name
+pub files_are : (given : PlayArgs) (request : PlayRequest) → AsksFor given request → files_asked given ≡ files_of request
+files_are given request asks =
+    let tables = file_asked (option_map (λ t. t.now) given.setup.chip.sfdp) (option_map (λ t. t.now) given.setup.chip.uniform)
     (option_map (λ t. t.now) given.setup.chip.bits) (origin_of request.setup.chip) asks.setup.chip in
     rw (asks.content, asks.script, tables) refl
 

@@ -1,5 +1,5 @@
 -- The play that a command line of `play` asks for (this project's). `files` is what is known of files by their names.
-use Rattle.std.specs.Prelude.{◌≡◌, ℕ, Bool, List, Option, Some, None, option_map}
+use Rattle.std.specs.Prelude.{◌≡◌, ℕ, Bool, List, [], ◌∷◌, ◌++◌, Option, Some, None, option_map, option_to_list}
 use Rattle.nor_base.specs.Device.{Ahead}
 use Rattle.nor_job.specs.Status.{start_of}
 use Rattle.nor_job.specs.Task.{Task}
@@ -10,7 +10,7 @@ use Rattle.norprog_common.specs.declared.faults.FileName.{FileName}
 use Rattle.norprog_common.specs.declared.faults.FileName.TheVariants as file
 use Rattle.norprog_common.specs.declared.given.PlayArgs.{PlayArgs}
 use Rattle.norprog_common.specs.Setup.{IsSetupTask, ServesSetup}
-use Rattle.norprog_common.specs.FileStore.{FileFacts, IsAheadIn, Named, tables_name}
+use Rattle.norprog_common.specs.FileStore.{FileFacts, IsAheadIn, Named, tables_file, tables_name}
 use Rattle.norprog_common.specs.Values.{limit_of}
 use Rattle.norprog_play.specs.declared.request.PlayRequest.{PlayRequest}
 use Rattle.norprog_play.specs.Request.{asked_limit}
@@ -62,3 +62,13 @@ paths_of request = play_paths (tables_name (origin_of request.setup.chip)) (Some
 abbrev pub paths_asked : PlayArgs → FileName → Option (List ℕ)
 paths_asked given =
     play_paths (option_map (λ t. t.now) given.setup.chip.sfdp) (option_map (λ t. t.now) given.content) (option_map (λ t. t.now) given.script)
+
+-- the names of the files that a play reads, in the order in which they are opened: tables, content and script
+abbrev pub files_of : PlayRequest → List (List ℕ)
+files_of request = tables_file (origin_of request.setup.chip) ++ (request.content.now ∷ request.script.now ∷ [])
+
+-- those that the texts name, also where they ask for nothing
+abbrev pub files_asked : PlayArgs → List (List ℕ)
+files_asked given =
+    option_to_list (option_map (λ t. t.now) given.setup.chip.sfdp)
+    ++ (option_to_list (option_map (λ t. t.now) given.content) ++ option_to_list (option_map (λ t. t.now) given.script))

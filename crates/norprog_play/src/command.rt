@@ -4,7 +4,7 @@ ghost use Rattle.std.specs.Prelude.{◌≡◌, ◌<◌, ◌≤◌, ◌-◌, ◌^
 ghost use Rattle.std.specs.Prelude.{MatchResult};
 ghost use Rattle.nor_base.specs.Chip.{IsPossible};
 ghost use Rattle.nor_base.specs.Run.{trail};
-ghost use Rattle.norprog_common.specs.FileStore.{Adds, Breaks, MayRead};
+ghost use Rattle.norprog_common.specs.FileStore.{Adds, Breaks, MayRead, OpensAt, OpensIf};
 ghost use Rattle.norprog_common.specs.Reading.{HasFailed};
 ghost use Rattle.norprog_play.specs.Answer.{IsEnding, IsUnplayed, RefusesToPlay, AnswersPlay};
 ghost use Rattle.norprog_play.specs.Early.{MayPlay, chip_with};
@@ -12,7 +12,8 @@ ghost use Rattle.norprog_play.specs.Expected.{expectation_of};
 ghost use Rattle.norprog_play.specs.Played.{Ends, EndsOnDevice, StopsPlay};
 ghost use Rattle.norprog_play.specs.Progress.{ReportsPlay};
 ghost use Rattle.norprog_play.specs.Request.{is_well_formed};
-ghost use Rattle.norprog_play.specs.Served.{paths_asked, paths_of, IsTaskOf, Serves};
+ghost use Rattle.norprog_play.specs.Served.{files_asked, files_of, paths_asked, paths_of};
+ghost use Rattle.norprog_play.specs.Served.{IsTaskOf, Serves};
 
 use crate::blame::fault_in;
 use crate::early::{Early, ends_early, widest};
@@ -38,6 +39,7 @@ pub fn play<S: FileStore, O: ByteOut, E: ByteOut, P: ByteOut>(
     alloc: Global,
     store: &S,
     journal: &mut S::Journal,
+    ledger: &mut S::Ledger,
     given: PlayArgs<'_>,
     out: &mut O,
     err: &mut E,
@@ -49,6 +51,8 @@ pub fn play<S: FileStore, O: ByteOut, E: ByteOut, P: ByteOut>(
     requires progress { P.count progress.old < 2 ^ 64 - 1 }
     ensures status { result ≤ 2 }
     ensures quiet { result ≡ 0 → err.new ≡ err.old }
+    ensures opened { OpensAt (S.Ledger.opened ledger.old) (S.Ledger.opened ledger.new)
+        (files_asked given.entry) result }
     ensures answer { AnswersPlay (S.facts store.now) (HasFailed S.Input.ahead S.Input.count)
         given.entry (Adds (S.Journal.changes journal.old) (S.Journal.changes journal.new))
         (Breaks (S.facts store.now) (O.count out.old) (O.count out.new))
@@ -56,7 +60,7 @@ pub fn play<S: FileStore, O: ByteOut, E: ByteOut, P: ByteOut>(
         (E.count err.new ≡ E.count err.old) (E.held err.old) (E.held err.new) result
         (P.held progress.old) (P.held progress.new) (P.count progress.old) (P.count progress.new) }
 {
-    match ending_of(alloc, store, journal, given, progress) {
+    match ending_of(alloc, store, journal, ledger, given, progress) {
         Ok(ending) => report_ending(&ending, out, err),
         Err(Unplayed::Refused(refusal)) => refuse(&refusal, err),
         Err(Unplayed::Device(fault)) => refuse_device(fault, err),
@@ -68,6 +72,7 @@ fn ending_of<S: FileStore, P: ByteOut>(
     alloc: Global,
     store: &S,
     journal: &mut S::Journal,
+    ledger: &mut S::Ledger,
     given: PlayArgs<'_>,
     progress: &mut P,
 ) -> Result<Ending, Unplayed>
@@ -81,13 +86,15 @@ fn ending_of<S: FileStore, P: ByteOut>(
         (P.count progress.new))
         (Serves (S.facts store.now) given.entry)) }
     ensures asked { IfOk result (λ _. is_well_formed given.entry ≡ true) }
+    ensures opened { OpensIf (S.Ledger.opened ledger.old) (S.Ledger.opened ledger.new)
+        (files_asked given.entry) result }
     ensures first { IfErr result
         (RefusesToPlay (S.facts store.now) (HasFailed S.Input.ahead S.Input.count)
         (Adds (S.Journal.changes journal.old) (S.Journal.changes journal.new)) given.entry) }
     ensures silent { IfErr result (λ _. progress.new ≡ progress.old) }
 {
     let request = request_of(given).ok_or(Refusal::Usage)?;
-    play_request(alloc, store, journal, request, progress)
+    play_request(alloc, store, journal, ledger, request, progress)
 }
 
 /// Opens the files of a request in their order, and plays.
@@ -95,6 +102,7 @@ fn play_request<S: FileStore, P: ByteOut>(
     alloc: Global,
     store: &S,
     journal: &mut S::Journal,
+    ledger: &mut S::Ledger,
     request: PlayRequest<'_>,
     progress: &mut P,
 ) -> Result<Ending, Unplayed>
@@ -107,6 +115,8 @@ fn play_request<S: FileStore, P: ByteOut>(
         (P.count progress.old)
         (P.count progress.new))
         (IsTaskOf (S.facts store.now) request.entry)) }
+    ensures opened { OpensIf (S.Ledger.opened ledger.old) (S.Ledger.opened ledger.new)
+        (files_of request.entry) result }
     ensures refused { IfErr result
         (IsUnplayed (S.facts store.now) (paths_of request.entry)
         (HasFailed S.Input.ahead S.Input.count)
@@ -114,9 +124,9 @@ fn play_request<S: FileStore, P: ByteOut>(
         (IsTaskOf (S.facts store.now) request.entry)) }
     ensures silent { IfErr result (λ _. progress.new ≡ progress.old) }
 {
-    let tables = tables_of(alloc, store, request.setup.chip)?;
-    let (mut content, _place, len) = store.open(request.content, FileName::Content)?;
-    let (mut script, _place, _len) = store.open(request.script, FileName::Script)?;
+    let tables = tables_of(alloc, store, ledger, request.setup.chip)?;
+    let (mut content, _place, len) = store.open(ledger, request.content, FileName::Content)?;
+    let (mut script, _place, _len) = store.open(ledger, request.script, FileName::Script)?;
     let inputs = setup_inputs(request.setup, tables.as_slice());
     let job = job_of(alloc, &inputs, &mut script, &mut content, len)?;
     let expected = Expected {

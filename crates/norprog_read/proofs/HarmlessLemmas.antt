@@ -50,6 +50,7 @@ stops_status : (h i : Option (List ℕ)) (a b : Ahead) (ask : Ask) (why : Unread
 stops_status h i a b ask (Unlike unlike.Busy) p = status_sends ask.part h i a b reason.Busy ask.turns p
 stops_status h i a b ask (Unlike (unlike.Asking why)) p = status_sends ask.part h i a b (reason.Exchange why) ask.turns p
 stops_status h i a b ask (Unlike (unlike.Mode status)) p = whole_sent h i (status_sent ask.part h i a b status ask.turns p.0)
+stops_status h i a b ask (Unlike unlike.Line) p = absurd p
 stops_status h i a b ask (Unlike (unlike.At address)) p = absurd p
 stops_status h i a b ask (Unlike (unlike.Tables d)) p = absurd p
 stops_status h i a b ask (Unlike (unlike.Id id)) p = absurd p
@@ -62,6 +63,7 @@ stops_id h i a b (Unlike (unlike.Asking why)) p = id_sends h i a b why p
 stops_id h i a b (Unlike (unlike.Id id)) p = whole_sent h i (id_sent h i a b id p.0)
 stops_id h i a b (Unlike unlike.Busy) p = absurd p
 stops_id h i a b (Unlike (unlike.Mode status)) p = absurd p
+stops_id h i a b (Unlike unlike.Line) p = absurd p
 stops_id h i a b (Unlike (unlike.At address)) p = absurd p
 stops_id h i a b (Unlike (unlike.Tables d)) p = absurd p
 stops_id h i a b (Unlike unlike.Unreadable) p = absurd p
@@ -73,6 +75,7 @@ other_id h i a b id (Unlike (unlike.Id other)) p = whole_sent h i (id_sent h i a
 other_id h i a b id (Unlike (unlike.Asking why)) p = absurd p
 other_id h i a b id (Unlike unlike.Busy) p = absurd p
 other_id h i a b id (Unlike (unlike.Mode status)) p = absurd p
+other_id h i a b id (Unlike unlike.Line) p = absurd p
 other_id h i a b id (Unlike (unlike.At address)) p = absurd p
 other_id h i a b id (Unlike (unlike.Tables d)) p = absurd p
 other_id h i a b id (Unlike unlike.Unreadable) p = absurd p
@@ -120,6 +123,7 @@ stops_own h i a b (Unlike (unlike.At address)) p = tables_sends h i a b (tables.
 stops_own h i a b (Unlike (unlike.Id id)) p = absurd p
 stops_own h i a b (Unlike unlike.Busy) p = absurd p
 stops_own h i a b (Unlike (unlike.Mode status)) p = absurd p
+stops_own h i a b (Unlike unlike.Line) p = absurd p
 stops_own h i a b (Unlike (unlike.Tables d)) p = absurd p
 stops_own h i a b (Unlike unlike.Unreadable) p = absurd p
 stops_own h i a b (Device why) p = absurd p
@@ -158,6 +162,7 @@ stops_content h i a b m start (Unlike unlike.Unreadable) p = whole_sent h i (sta
 stops_content h i a b m start (Unlike (unlike.Id id)) p = absurd p
 stops_content h i a b m start (Unlike unlike.Busy) p = absurd p
 stops_content h i a b m start (Unlike (unlike.Mode status)) p = absurd p
+stops_content h i a b m start (Unlike unlike.Line) p = absurd p
 stops_content h i a b m start (Unlike (unlike.Tables d)) p = absurd p
 stops_content h i a b m start (Device why) p = absurd p
 
@@ -188,11 +193,13 @@ chip_sends h i a b ask why (inr (inr (inr (inl p)))) = whole_sent h i (known_sen
 chip_sends h i a b ask why (inr (inr (inr (inr (inl p))))) =
     then_sends h p.held i (known_sent h p.held a p.ahead ask p.id p.chip p.known)
     (stops_content p.held i p.ahead b p.m (start_of (chip_task ask p.chip)) why p.stop)
-chip_sends h i a b ask why (inr (inr (inr (inr (inr p))))) =
+chip_sends h i a b ask why (inr (inr (inr (inr (inr (inl p)))))) =
     then_sends h p.held i (held_sent h p.held a p.ahead ask p.id p.is_held) (elim p.stop [
       | inl stop ↦ stops_id p.held i p.ahead b why stop
       | inr other ↦ other_id p.held i p.ahead b p.id why other
     ])
+chip_sends h i a b ask why (inr (inr (inr (inr (inr (inr p)))))) =
+    whole_sent h i (both_sent h p.held i (held_sent h p.held a p.ahead ask p.id p.is_held) (id_sent p.held i p.ahead b p.id p.again))
 
 -- whatever the result
 pub reading_sends : (h i : Option (List ℕ)) (a b : Ahead) (ask : Ask) (r : Result Reading Unread) → IfOk r (HasReadChip h i a b ask) → IfErr r (StopsChip h i a b ask)

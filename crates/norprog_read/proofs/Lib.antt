@@ -1,5 +1,7 @@
 pub mod BlameLemmas
 mod WayLemmas
+mod CameLemmas
+mod LawLemmas
 pub mod ReadLemmas
 mod HarmlessLemmas
 pub mod LackedLemmas

@@ -92,7 +92,8 @@ no_device h i a b ask why (inr (inl p)) = p.stop
 no_device h i a b ask why (inr (inr (inl p))) = no_tables p.held i p.ahead b ask.known why p.stop
 no_device h i a b ask why (inr (inr (inr (inl p)))) = p.refused
 no_device h i a b ask why (inr (inr (inr (inr (inl p))))) = p.stop
-no_device h i a b ask why (inr (inr (inr (inr (inr p))))) = elim p.stop [ inl stop ↦ stop | inr other ↦ other ]
+no_device h i a b ask why (inr (inr (inr (inr (inr (inl p)))))) = elim p.stop [ inl stop ↦ stop | inr other ↦ other ]
+no_device h i a b ask why (inr (inr (inr (inr (inr (inr p)))))) = p.stop
 
 -- nor because an output can't be written
 no_file_write : (ask : Ask) (by : Known) → RefusesFile ask by (Refused (Build fault.Write)) → ⊥
@@ -113,7 +114,8 @@ no_write h i a b ask (inr (inl p)) = p.stop
 no_write h i a b ask (inr (inr (inl p))) = no_tables_write p.held i p.ahead b ask.known p.stop
 no_write h i a b ask (inr (inr (inr (inl p)))) = p.refused
 no_write h i a b ask (inr (inr (inr (inr (inl p))))) = p.stop
-no_write h i a b ask (inr (inr (inr (inr (inr p))))) = elim p.stop [ inl stop ↦ stop | inr other ↦ other ]
+no_write h i a b ask (inr (inr (inr (inr (inr (inl p)))))) = elim p.stop [ inl stop ↦ stop | inr other ↦ other ]
+no_write h i a b ask (inr (inr (inr (inr (inr (inr p)))))) = p.stop
 
 -- the line was tested, and then that stopped
 pub tested_stops : (h i j : Option (List ℕ)) (a b c : Ahead) (limits : Limits) (ask : Ask) (r : Result Reading Unread) → TestsLine h i a b (Ok tt) limits

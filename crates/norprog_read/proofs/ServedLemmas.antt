@@ -1,5 +1,5 @@
 -- The reading is of what the texts ask for.
-use Rattle.std.proofs.Common.{◌≡◌, inl, inr, ℕ, true, List, [], ◌∷◌, ◌++◌, Option, Some, option_map, is_some, refl, sym, ◌∙◌, ap, subst}
+use Rattle.std.proofs.Common.{◌≡◌, inl, inr, ℕ, true, List, [], ◌∷◌, ◌++◌, Option, Some, option_map, option_to_list, is_some, refl, sym, ◌∙◌, ap, subst}
 use Rattle.norprog_common.specs.declared.faults.Refusal.{Refusal}
 use Rattle.norprog_common.specs.declared.faults.FileName.TheVariants as file
 use Rattle.norprog_common.specs.declared.given.ReadArgs.{ReadArgs}
@@ -16,7 +16,7 @@ use Rattle.norprog_read.specs.Answer.{outputs_of, IsKept, IsReadOf, IsStopOf, Is
 use Rattle.norprog_read.specs.Made.{creates, opens}
 use Rattle.norprog_read.specs.Opened.{IsReadOn, IsUnreadOn, StopsNamed}
 use Rattle.norprog_read.specs.Request.{is_well_formed, AsksFor, IsAskOf}
-use Rattle.norprog_read.specs.Served.{opened_asked, tables_named, AreTablesIf, Serves}
+use Rattle.norprog_read.specs.Served.{files_asked, opened_asked, tables_named, AreTablesIf, Serves}
 use Rattle.norprog_common.proofs.JournalLemmas.{adds_both}
 use Rattle.norprog_common.proofs.LackedLemmas.{lacks_at, lacks_named}
 use Rattle.norprog_read.proofs.LackedLemmas.{tables_are}
@@ -34,6 +34,12 @@ module _ (files : FileFacts) (given : ReadArgs) (request : ReadRequest) (asks : 
   pub may_by : MayReadNamed files (option_map (λ t. t.now) given.chip.sfdp) → MayReadNamed files (tables_named (option_map origin_of request.chip))
   may_by may =
       subst (λ (named : Option (List ℕ)). MayReadNamed files named) (sym (tables_are given.chip (option_map origin_of request.chip) asks.chip)) may
+
+  -- the file that was opened is the one that the texts name
+  pub by_texts : (before after : Option (List (List ℕ)))
+      → Adds before after (option_to_list (tables_named (option_map origin_of request.chip))) → Adds before after (files_asked given)
+  by_texts before after opened =
+      subst (λ (named : Option (List ℕ)). Adds before after (option_to_list named)) (tables_are given.chip (option_map origin_of request.chip) asks.chip) opened
 
   pub tables_told : (Made : List Change → Type 0) → Made [] → is_well_formed given ≡ true → (why : Refusal) → RefusesFile file.Sfdp why
       → TellsFile (LacksNamed files (tables_named (option_map origin_of request.chip))) why → IsUnread files given Made (Refused why)
@@ -58,6 +64,7 @@ module _ (files : FileFacts) (given : ReadArgs) (request : ReadRequest) (file : 
     mode4 = of.mode4 ∙ asks.mode4;
     turns = asks.limit ∙ ap Some (sym of.turns);
     content = of.content ∙ ap (λ s. is_some s) asks.out;
+    raw = of.raw ∙ asks.raw;
   }
 
   pub was_read : (r : Reading) → IsReadOn files request.device.now ask r → IsReadOf files given r

@@ -19,15 +19,15 @@ or_cases : (a b : Bool) → a || b ≡ true → (a ≡ true) ⊎ (b ≡ true)
 or_cases true b is = inl refl
 or_cases false b is = inr is
 
-or_right : (a b : Bool) → a || b ≡ true → a ≡ false → b ≡ true
+pub or_right : (a b : Bool) → a || b ≡ true → a ≡ false → b ≡ true
 or_right true b p q = cc
 or_right false b p q = p
 
-and_both : (a b : Bool) → a && b ≡ true → (a ≡ true) × (b ≡ true)
+pub and_both : (a b : Bool) → a && b ≡ true → (a ≡ true) × (b ≡ true)
 and_both true b is = (refl, is)
 and_both false b is = cc
 
-not_so : (a : Bool) → not a ≡ true → a ≡ false
+pub not_so : (a : Bool) → not a ≡ true → a ≡ false
 not_so true is = cc
 not_so false is = refl
 

@@ -1,5 +1,5 @@
 -- What the chip behind a device said and gave (this project's).
-use Rattle.std.specs.Prelude.{◌≡◌, ◌≢◌, ◌⊎◌, ◌∷◌, ⊤, ℕ, ◌/◌, ◌%◌, ◌==◌, min, not, Bool, true, false, List, [], length, take, Option, None, Ok}
+use Rattle.std.specs.Prelude.{◌≡◌, ◌≢◌, ◌⊎◌, ◌∷◌, ⊤, ℕ, ◌/◌, ◌%◌, ◌==◌, min, not, Bool, true, false, List, [], ◌++◌, length, take, Option, None, Ok}
 use Rattle.std.proofs.Math.Bool.{beq}
 use Rattle.nor_base.specs.declared.meaning.Part.{Part}
 use Rattle.nor_base.specs.declared.meaning.Part.TheVariants.{Generic, W25q256jv}
@@ -17,6 +17,7 @@ use Rattle.norprog_read.specs.declared.asked.Ask.{Ask}
 use Rattle.norprog_read.specs.declared.asked.Known.{Known}
 use Rattle.norprog_read.specs.declared.asked.Known.TheVariants.{Tables, Uniform}
 use Rattle.norprog_read.specs.declared.asked.Reading.{Reading}
+use Rattle.norprog_read.specs.Came.{ShowsLine}
 use Rattle.norprog_read.specs.Content.{HoldsWhole}
 
 -- where its meaning comes from: the tables that came, or its size
@@ -82,7 +83,8 @@ AreAlike (Tables file) tables = take (both_go tables file.now) tables ≡ take (
 AreAlike other tables = ⊤
 
 -- in this order, and nothing else was sent: its status until it was idle, which shows the mode that was said, its identification, its tables, its content, and its
--- identification again, which was the same and that of a chip; its meaning is that of the tables that came, or of its size
+-- identification again, which was the same and that of a chip; its meaning is that of the tables that came, or of its size; where the
+-- content was wanted, what came shows that the terminal hands on each byte as it comes, unless that is said
 pub record HasReadChip (h0 h5 : Option (List ℕ)) (a0 a5 : Ahead) (ask : Ask) (r : Reading) : Type 0 where
   pub part : r.part ≡ ask.part
   pub wanted : r.whole ≡ ask.content
@@ -104,3 +106,4 @@ pub record HasReadChip (h0 h5 : Option (List ℕ)) (a0 a5 : Ahead) (ask : Ask) (
   pub means : HasChip (chip_task ask r.tables.items) r.meaning
   pub content : GivesContent h3 h4 a3 a4 r.meaning (start_of (chip_task ask r.tables.items)) ask.content r.content.items
   pub again : Identifies h4 h5 a4 a5 (Ok r.id)
+  pub shown : ShowsLine ask (r.id ++ (r.tables.items ++ r.content.items))

@@ -1,5 +1,7 @@
 pub mod Way
 pub mod Content
+pub mod Came
+pub mod Laws
 pub mod Chip
 pub mod Stops
 pub mod Saved

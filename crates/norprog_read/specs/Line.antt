@@ -8,7 +8,7 @@ use Rattle.nor_script.specs.Hexadecimal.{hex_number}
 use Rattle.norprog.specs.ChipText.{meaning_text}
 use Rattle.norprog_device.specs.Line.{fault_word}
 use Rattle.norprog_read.specs.declared.fault.Unlike.{Unlike}
-use Rattle.norprog_read.specs.declared.fault.Unlike.TheVariants.{Busy, Asking, Mode, At, Tables, Id, Unreadable}
+use Rattle.norprog_read.specs.declared.fault.Unlike.TheVariants.{Busy, Asking, Mode, At, Tables, Id, Line, Unreadable}
 use Rattle.norprog_read.specs.declared.asked.Reading.{Reading}
 
 -- a text, three bytes in six digits, and LF
@@ -50,4 +50,5 @@ unlike_line (Mode status) = digits_line (codes "unlike status ") (registers stat
 unlike_line (At address) = codes "unlike at " ++ (hex_number address ++ codes "\n")
 unlike_line (Tables d) = tables_line d
 unlike_line (Id id) = digits_line (codes "unlike id ") id
+unlike_line Line = codes "unlike line\n"
 unlike_line Unreadable = codes "unreadable\n"

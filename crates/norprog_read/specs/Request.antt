@@ -50,6 +50,7 @@ pub record AsksFor (given : ReadArgs) (request : ReadRequest) : Type 0 where
   pub limit : limit_of (asked_limit given) ≡ Some request.limit
   pub tables : request.tables ≡ given.tables
   pub out : request.out ≡ given.out
+  pub raw : request.raw ≡ given.raw
 
 -- the chip is known by its own tables, by those of a file, which are these bytes, or by its size
 abbrev pub IsKnownBy : Option Origin → List ℕ → Known → Type 0
@@ -66,3 +67,4 @@ pub record IsAskOf (request : ReadRequest) (file : List ℕ) (ask : Ask) : Type 
   pub mode4 : ask.mode4 ≡ request.mode4
   pub turns : ask.turns ≡ request.limit
   pub content : ask.content ≡ is_some request.out
+  pub raw : ask.raw ≡ request.raw

@@ -1,5 +1,5 @@
 -- What a command line of `read` asks of a chip (this project's). `files` is what is known of files by their names.
-use Rattle.std.specs.Prelude.{◌≡◌, ⊤, ℕ, List, Option, Some, None, option_map, is_some}
+use Rattle.std.specs.Prelude.{◌≡◌, ⊤, ℕ, List, Option, Some, None, option_map, option_to_list, is_some}
 use Rattle.norprog_common.specs.Chip.{Origin}
 use Rattle.norprog_common.specs.declared.faults.FileName.{FileName}
 use Rattle.norprog_common.specs.declared.faults.FileName.TheVariants as file
@@ -30,6 +30,10 @@ opened_paths tables device other = None
 abbrev pub opened_asked : ReadArgs → FileName → Option (List ℕ)
 opened_asked given = opened_paths (option_map (λ t. t.now) given.chip.sfdp) (option_map (λ t. t.now) given.device)
 
+-- the names of the files that are read, also where the texts ask for nothing
+abbrev pub files_asked : ReadArgs → List (List ℕ)
+files_asked given = option_to_list (option_map (λ t. t.now) given.chip.sfdp)
+
 -- each by the value that its text spells, the tables by the file of their name
 pub record Serves (files : FileFacts) (given : ReadArgs) (ask : Ask) : Type 0 where
   pub chip : Option Origin
@@ -42,3 +46,4 @@ pub record Serves (files : FileFacts) (given : ReadArgs) (ask : Ask) : Type 0 wh
   pub mode4 : ask.mode4 ≡ given.mode4
   pub turns : limit_of (asked_limit given) ≡ Some ask.turns
   pub content : ask.content ≡ is_some given.out
+  pub raw : ask.raw ≡ given.raw

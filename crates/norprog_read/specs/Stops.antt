@@ -1,5 +1,5 @@
 -- Why a chip isn't read (this project's).
-use Rattle.std.specs.Prelude.{◌≡◌, ◌≢◌, ◌⊎◌, ◌<◌, ℕ, true, false, List, take, slice_index, Option, Ok, Err}
+use Rattle.std.specs.Prelude.{◌≡◌, ◌≢◌, ◌⊎◌, ◌<◌, ℕ, true, false, List, ◌++◌, take, slice_index, Option, Ok, Err}
 use Rattle.nor_base.specs.declared.meaning.Start.{Start}
 use Rattle.nor_base.specs.Device.{Ahead}
 use Rattle.nor_base.specs.Parameters.{Parameters}
@@ -24,6 +24,7 @@ use Rattle.norprog_read.specs.declared.asked.Known.TheVariants.{Own, Tables as O
 use Rattle.norprog_read.specs.declared.fault.Unlike.TheVariants.{Busy, Asking, Mode, At, Tables, Id, Unreadable}
 use Rattle.norprog_read.specs.declared.fault.Unread.{Unread}
 use Rattle.norprog_read.specs.declared.fault.Unread.TheVariants.{Refused, Unlike}
+use Rattle.norprog_read.specs.Came.{HidesLine}
 use Rattle.norprog_read.specs.Chip.{both_go, chip_task, is_otherwise, AreAlike, GivesContent, GivesTables, IsDriven, IsUndriven}
 use Rattle.norprog_read.specs.Way.{first_by, is_readable, second_by}
 
@@ -194,6 +195,15 @@ pub record StopsAtEnd (held_before held_after : Option (List ℕ)) (ahead_before
   pub is_held : IsHeld held_before held ahead_before ahead ask id
   pub stop : StopsId held held_after ahead ahead_after why ⊎ GivesOtherId held held_after ahead ahead_after id why
 
+-- after all came: it doesn't show that the terminal hands on each byte as it comes
+pub record StopsAtLine (held_before held_after : Option (List ℕ)) (ahead_before ahead_after : Ahead) (ask : Ask) (why : Unread) : Type 0 where
+  pub id : List ℕ
+  pub held : Option (List ℕ)
+  pub ahead : Ahead
+  pub is_held : IsHeld held_before held ahead_before ahead ask id
+  pub again : Identifies held held_after ahead ahead_after (Ok id)
+  pub stop : HidesLine ask (id ++ (is_held.chip ++ is_held.content)) why
+
 -- in the order in which the chip is asked
 abbrev pub StopsChip : Option (List ℕ) → Option (List ℕ) → Ahead → Ahead → Ask → Unread → Type 0
 StopsChip held_before held_after ahead_before ahead_after ask why =
@@ -202,4 +212,5 @@ StopsChip held_before held_after ahead_before ahead_after ask why =
     ⊎ (StopsAtTables held_before held_after ahead_before ahead_after ask why
     ⊎ (StopsAtMeaning held_before held_after ahead_before ahead_after ask why
     ⊎ (StopsAtContent held_before held_after ahead_before ahead_after ask why
-    ⊎ StopsAtEnd held_before held_after ahead_before ahead_after ask why))))
+    ⊎ (StopsAtEnd held_before held_after ahead_before ahead_after ask why
+    ⊎ StopsAtLine held_before held_after ahead_before ahead_after ask why)))))

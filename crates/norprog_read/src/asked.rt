@@ -31,6 +31,9 @@ pub struct Ask<'a> {
     pub content: bool,
     /// Whether its meaning is that of the profile that programs only erased bytes.
     pub erased_only: bool,
+    /// Whether the terminal is said to hand on each byte as it comes. Else what comes with the
+    /// content has to show it.
+    pub raw: bool,
 }
 
 /// What a chip gave.

@@ -38,6 +38,6 @@ pub fn fault_of_unlike(why: Unlike) -> Option<Fault>
     match why {
         Unlike::Asking(fault) => Some(fault),
         Unlike::Busy | Unlike::Mode(_) | Unlike::At(_) => None,
-        Unlike::Tables(_) | Unlike::Id(_) | Unlike::Unreadable => None,
+        Unlike::Tables(_) | Unlike::Id(_) | Unlike::Line | Unlike::Unreadable => None,
     }
 }

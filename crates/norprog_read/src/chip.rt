@@ -1,7 +1,7 @@
 //! What the chip behind a device says and holds.
 
-ghost use Rattle.std.specs.Prelude.{◌≡◌, ◌≢◌, ◌<◌, ◌≤◌, ◌+◌, ◌-◌, ◌^◌, ◌∷◌, [], true, false, Ok};
-ghost use Rattle.std.specs.Prelude.{length, take, IfOk, IfErr, MatchResult};
+ghost use Rattle.std.specs.Prelude.{◌≡◌, ◌≢◌, ◌<◌, ◌≤◌, ◌+◌, ◌-◌, ◌^◌, ◌∷◌, [], ◌++◌, true, false};
+ghost use Rattle.std.specs.Prelude.{length, take, IfOk, IfErr, MatchResult, Ok};
 ghost use Rattle.nor_base.specs.Device.{HaveRoom};
 ghost use Rattle.nor_job.specs.Chip.{HasChip};
 ghost use Rattle.nor_job.specs.Status.{start_of};
@@ -11,13 +11,17 @@ ghost use Rattle.nor_reader.specs.Id.{Identifies};
 ghost use Rattle.nor_reader.specs.Tables.{HasReadTables};
 ghost use Rattle.norprog_device.specs.Blame.{Blames};
 ghost use Rattle.norprog_read.specs.Blame.{fault_in, CountsBoth};
+ghost use Rattle.norprog_read.specs.Came.{HidesLine, ShowsLine};
 ghost use Rattle.norprog_read.specs.Chip.{is_otherwise, AreAlike, GivesContent, GivesTables};
 ghost use Rattle.norprog_read.specs.Chip.{HasMeaning, HasReadChip, IsDriven, IsUndriven, both_go};
 ghost use Rattle.norprog_read.specs.Chip.{chip_task};
+ghost use Rattle.norprog_read.specs.declared.fault.Unlike.TheVariants.{Line};
+ghost use Rattle.norprog_read.specs.declared.fault.Unread.TheVariants as unread;
 ghost use Rattle.norprog_read.specs.Stops.{DiffersFrom, RefusesFile, RefusesMeaning, StopsAsked};
 ghost use Rattle.norprog_read.specs.Stops.{StopsChip, StopsContent, StopsId, StopsOwn, StopsStatus};
 
 use crate::asked::{Ask, Known, Reading};
+use crate::came::shows_line;
 use crate::content::read_whole;
 use crate::fault::{Unlike, Unread};
 use nor_base::{ByteIn, ByteOut, Meaning, Part, Start};
@@ -29,8 +33,9 @@ use nor_sfdp::SfdpFault;
 use norprog_common::{Refusal, known_chip};
 use std::alloc::Global;
 
-/// Has the chip behind a device say what it is, wait until it is idle, and give its tables and its
-/// content, each byte twice; at the end it says again what it is. Memory is taken for what is read.
+/// Has the chip behind a device say what it is, wait until it is idle, give its tables and its
+/// content, each byte twice, and say again what it is. A content has to show the line, unless
+/// `ask` is `raw`.
 ///
 /// `Unlike` where it doesn't do so; `Refused` where its tables or size have no meaning, and for
 /// `Memory`.
@@ -86,6 +91,9 @@ fn ask_chip<R: ByteIn, W: ByteOut>(
     if !is_same(again, id) {
         return Err(Unread::Unlike(Unlike::Id(again)));
     }
+    if hides_line(ask, id, tables.as_slice(), content.as_slice()) {
+        return Err(Unread::Unlike(Unlike::Line));
+    }
     Ok(Reading {
         part: ask.part,
         whole: ask.content,
@@ -95,6 +103,15 @@ fn ask_chip<R: ByteIn, W: ByteOut>(
         meaning,
         content,
     })
+}
+
+/// Whether what came has to show that the terminal hands on each byte as it comes, and doesn't.
+fn hides_line(ask: &Ask<'_>, id: [u8; 3], tables: &[u8], content: &[u8]) -> bool
+    ensures shown { result ≡ false → ShowsLine ask.now (id ++ (tables.now ++ content.now)) }
+    ensures hidden { result ≡ true
+        → HidesLine ask.now (id ++ (tables.now ++ content.now)) (unread.Unlike Line) }
+{
+    ask.content && !ask.raw && !shows_line(&id, tables, content)
 }
 
 /// Whether two identifications are the same.

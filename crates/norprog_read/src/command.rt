@@ -1,18 +1,19 @@
 //! `read`: from the texts of the command line to the lines of a chip that was read.
 
 ghost use Rattle.std.specs.Prelude.{◌≡◌, ◌≤◌, ◌<◌, ◌-◌, ◌^◌, ◌∷◌, [], ◌++◌, true, option_map};
-ghost use Rattle.std.specs.Prelude.{IfOk, IfErr};
+ghost use Rattle.std.specs.Prelude.{option_to_list, IfOk, IfErr};
 ghost use Rattle.norprog_common.specs.Chip.{origin_of};
 ghost use Rattle.norprog_common.specs.declared.faults.FileName.TheVariants.{Sfdp};
 ghost use Rattle.norprog_common.specs.Files.{RefusesFile, TellsFile};
 ghost use Rattle.norprog_common.specs.FileStore.{Adds, Breaks, LacksNamed, MayReadNamed, Opened};
+ghost use Rattle.norprog_common.specs.FileStore.{OpensAt, OpensIf};
 ghost use Rattle.norprog_read.specs.Answer.{AnswersRead, AreSavedIf, AreUnsaved, IsKept};
 ghost use Rattle.norprog_read.specs.Answer.{IsUnread, IsUnsavedIf, PrintsReading, Reports};
 ghost use Rattle.norprog_read.specs.Line.{reading_text, unlike_line};
 ghost use Rattle.norprog_read.specs.Made.{creates};
 ghost use Rattle.norprog_read.specs.Opened.{IsReadOn, IsUnreadOn};
 ghost use Rattle.norprog_read.specs.Request.{is_well_formed};
-ghost use Rattle.norprog_read.specs.Served.{tables_named, AreTablesIf};
+ghost use Rattle.norprog_read.specs.Served.{files_asked, tables_named, AreTablesIf};
 
 use crate::asked::{Ask, Reading};
 use crate::fault::{Unlike, Unread};
@@ -33,6 +34,7 @@ pub fn read<S: FileStore, O: ByteOut, E: ByteOut>(
     alloc: Global,
     store: &S,
     journal: &mut S::Journal,
+    ledger: &mut S::Ledger,
     given: ReadArgs<'_>,
     out: &mut O,
     err: &mut E,
@@ -42,6 +44,8 @@ pub fn read<S: FileStore, O: ByteOut, E: ByteOut>(
     requires err { E.count err.old < 2 ^ 64 - 1 }
     ensures status { result ≤ 2 }
     ensures quiet { result ≡ 0 → err.new ≡ err.old }
+    ensures opened { OpensAt (S.Ledger.opened ledger.old) (S.Ledger.opened ledger.new)
+        (files_asked given.entry) result }
     ensures done { result ≡ 0 → PrintsReading (S.facts store.now) given.entry
         (Adds (S.Journal.changes journal.old) (S.Journal.changes journal.new))
         (O.held out.old) (O.held out.new) }
@@ -51,7 +55,7 @@ pub fn read<S: FileStore, O: ByteOut, E: ByteOut>(
         (O.held out.old) (O.held out.new) (err.new ≡ err.old)
         (E.count err.new ≡ E.count err.old) (E.held err.old) (E.held err.new) result }
 {
-    match read_texts(alloc, store, journal, given) {
+    match read_texts(alloc, store, journal, ledger, given) {
         Ok(reading) => report_reading(&reading, out, err),
         Err(Unread::Unlike(why)) => report_unlike(why, out, err),
         Err(Unread::Device(fault)) => refuse_device(fault, err),
@@ -94,9 +98,12 @@ fn read_texts<S: FileStore>(
     alloc: Global,
     store: &S,
     journal: &mut S::Journal,
+    ledger: &mut S::Ledger,
     given: ReadArgs<'_>,
 ) -> Result<Reading, Unread>
     requires read { MayReadNamed (S.facts store.now) (option_map (λ t. t.now) given.chip.sfdp) }
+    ensures opened { OpensIf (S.Ledger.opened ledger.old) (S.Ledger.opened ledger.new)
+        (files_asked given.entry) result }
     ensures kept { IfOk result (IsKept (S.facts store.now) given.entry
         (Adds (S.Journal.changes journal.old) (S.Journal.changes journal.new))) }
     ensures asked { IfOk result (λ _. is_well_formed given.entry ≡ true) }
@@ -104,7 +111,7 @@ fn read_texts<S: FileStore>(
         (Adds (S.Journal.changes journal.old) (S.Journal.changes journal.new))) }
 {
     let request = request_of(given).ok_or(Refusal::Usage)?;
-    let file = file_of(alloc, store, request.chip)?;
+    let file = file_of(alloc, store, ledger, request.chip)?;
     let ask = ask_of(request, file.as_slice());
     let reading = read_device(alloc, store, journal, request.device, &ask)?;
     save_all(alloc, store, journal, request, &reading)?;
@@ -117,18 +124,21 @@ fn read_texts<S: FileStore>(
 pub fn file_of<S: FileStore>(
     alloc: Global,
     store: &S,
+    ledger: &mut S::Ledger,
     chip: Option<Chip<'_>>,
 ) -> Result<Vec<u8>, Refusal>
     requires read { MayReadNamed (S.facts store.now) (tables_named (option_map origin_of chip)) }
     ensures file { IfOk result
         (λ file. AreTablesIf (S.facts store.now) (option_map origin_of chip.entry) file.items) }
+    ensures opened { Adds (S.Ledger.opened ledger.old) (S.Ledger.opened ledger.new)
+        (option_to_list (tables_named (option_map origin_of chip.entry))) }
     ensures refused { IfErr result (RefusesFile Sfdp) }
     ensures lacked { IfErr result
         (TellsFile (LacksNamed (S.facts store.now)
         (tables_named (option_map origin_of chip.entry)))) }
 {
     match chip {
-        Some(chip) => tables_of(alloc, store, chip),
+        Some(chip) => tables_of(alloc, store, ledger, chip),
         None => Ok(Vec::new(alloc)),
     }
 }

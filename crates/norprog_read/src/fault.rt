@@ -37,6 +37,8 @@ pub enum Unlike {
     Tables(Difference),
     /// At the end it gave another identification.
     Id([u8; 3]),
+    /// What came doesn't show that the terminal hands on each byte as it comes.
+    Line,
     /// It can't be read whole in the mode that it is in.
     Unreadable,
 }

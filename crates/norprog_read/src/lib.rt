@@ -4,15 +4,18 @@
 //! [`read`] does what the texts of a command line ask for. [`read_opened`] does the work from the
 //! handshake on, over any reader and writer; [`read_chip`] after it. [`save`] makes an output,
 //! [`write_reading`] and [`write_unlike`] print how it ended. [`fault_of_unlike`] says how the
-//! exchange ended early that is why a chip isn't read.
+//! exchange ended early that is why a chip isn't read. [`shown_line_keeps`] is the law that a
+//! terminal changed nothing of what came where that shows it.
 #![tactic(auto)]
 
 mod asked;
 mod blame;
+mod came;
 mod chip;
 mod command;
 mod content;
 mod fault;
+mod laws;
 mod line;
 mod opened;
 mod request;
@@ -23,6 +26,7 @@ pub use blame::fault_of_unlike;
 pub use chip::read_chip;
 pub use command::{file_of, read};
 pub use fault::{Unlike, Unread};
+pub use laws::shown_line_keeps;
 pub use line::{write_reading, write_unlike};
 pub use norprog_common::ReadArgs;
 pub use norprog_device::DeviceFault;

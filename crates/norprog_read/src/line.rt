@@ -96,7 +96,7 @@ fn write_digits<W: ByteOut>(front: &[u8], bytes: &[u8; 3], writer: &mut W) -> Re
 
 /// Writes why the chip isn't read, in a line: `unlike busy`, `unlike WHY` of an exchange, `unlike
 /// status HHHHHH`, `unlike at AAAAAAAA`, `unlike tables at AAAAAAAA chip HH file HH`, `unlike id
-/// HHHHHH`, or `unreadable`.
+/// HHHHHH`, `unlike line`, or `unreadable`.
 ///
 /// At `Failed` a proper prefix was taken; it comes only from the writer, whose count of failures
 /// rose by one.
@@ -112,6 +112,7 @@ pub fn write_unlike<W: ByteOut>(why: Unlike, writer: &mut W) -> Result<(), Faile
         Unlike::At(address) => { put_parts(writer, &[b"unlike at ", &hex_number(address), b"\n"]) }
         Unlike::Tables(d) => write_tables(d, writer),
         Unlike::Id(id) => write_digits(b"unlike id ", &id, writer),
+        Unlike::Line => put_all(writer, b"unlike line\n"),
         Unlike::Unreadable => put_all(writer, b"unreadable\n"),
     }
 }

@@ -24,6 +24,8 @@ pub struct ReadRequest<'a> {
     pub tables: Option<&'a str>,
     /// The name of the file that the content is saved in.
     pub out: Option<&'a str>,
+    /// The terminal is said to hand on each byte as it comes.
+    pub raw: bool,
 }
 
 /// The request that the values spell. None where one isn't of its form, where no device is named,
@@ -44,6 +46,7 @@ pub fn request_of<'a>(given: ReadArgs<'a>) -> Option<ReadRequest<'a>>
         limit: limit(given.limit.unwrap_or("1000000"))?,
         tables: given.tables,
         out: given.out,
+        raw: given.raw,
     })
 }
 
@@ -91,5 +94,6 @@ pub fn ask_of<'a>(request: ReadRequest<'a>, file: &'a [u8]) -> Ask<'a>
         turns: request.limit,
         content: request.out.is_some(),
         erased_only: false,
+        raw: request.raw,
     }
 }

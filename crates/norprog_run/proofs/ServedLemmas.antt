@@ -13,11 +13,12 @@ use Rattle.norprog_common.specs.declared.faults.Refusal.TheVariants.{Text, Usage
 use Rattle.norprog_common.specs.Chip.{origin_of}
 use Rattle.norprog_common.specs.Files.{TellsFile}
 use Rattle.norprog_common.specs.Setup.{setup_task}
-use Rattle.norprog_common.specs.FileStore.{FileFacts, Change, Emptied, Adds, Tries, MakesNamed, MayMake, AreTables, GoesOut, HasGone, IsMadeApart, IsTextIn, Lacks, LacksEarly, MayRead, Named, Notes, WhereNamed, tables_file}
+use Rattle.norprog_common.specs.FileStore.{FileFacts, Change, Emptied, Adds, Tries, MakesNamed, MayMake, AreTables, GoesOut, HasGone, IsMadeApart, IsTextIn, Lacks, LacksEarly, MayRead, Named, Notes, OpensFirst, WhereNamed, tables_file}
 use Rattle.norprog_common.specs.Served.{out_path}
 use Rattle.norprog_common.proofs.LackedLemmas.{early_same, may_same, tables_named}
 use Rattle.norprog_common.proofs.StoreLemmas.{made_apart, more_noted, one_noted}
-use Rattle.norprog_common.proofs.JournalLemmas.{adds_none, may_make, output_made}
+use Rattle.norprog_common.proofs.JournalLemmas.{adds_both, adds_none, may_make, output_made}
+use Rattle.norprog_common.proofs.LedgerLemmas.{all_first, file_asked, first_of_more}
 use Rattle.norprog_common.specs.Content.{CountsReader, CountsWriter, of_reader, of_writer}
 use Rattle.norprog_common.specs.Reading.{FailsReading, HasFailed}
 use Rattle.norprog_common.specs.Told.{RefusesFor, OrUsage, TellsBroken}
@@ -31,7 +32,7 @@ use Rattle.norprog_run.specs.Play.{WasPlayed}
 use Rattle.norprog_run.specs.Refusals.{RefusesPaged, RefusesPlay}
 use Rattle.norprog_run.specs.Request.{is_well_formed, AsksFor, RefusesGiven}
 use Rattle.norprog_run.specs.Streams.{CountsScript, PlaysStreams, RefusesStreams}
-use Rattle.norprog_run.specs.Served.{PlayTask, play_with, IsMadeFor, IsTaskOf, input_files_of, input_files_asked, paths_of, paths_asked, FailsScriptOf, MakesFor, MayMakeFor, Serves, ServesScript}
+use Rattle.norprog_run.specs.Served.{PlayTask, play_with, IsMadeFor, IsTaskOf, files_asked, input_files_of, input_files_asked, paths_of, paths_asked, FailsScriptOf, MakesFor, MayMakeFor, Serves, ServesScript}
 
 -- no texts ask for a play and for none
 both : (asks : Bool) → asks ≡ true → asks ≡ false → ⊥
@@ -47,6 +48,27 @@ same_paths given request asks =
     let tables = tables_named (option_map (λ t. t.now) chip.sfdp) (option_map (λ t. t.now) chip.uniform) (option_map (λ t. t.now) chip.bits)
     (origin_of request.setup.chip) asks.beside.setup.chip in
     rw (asks.beside.content, asks.beside.script, asks.beside.out, tables) refl
+
+pub same_files : (given : RunArgs) (request : RunRequest) → AsksFor given request → files_asked given ≡ input_files_of request
+same_files given request asks =
+    let chip = given.setup.chip in
+    let tables = file_asked (option_map (λ t. t.now) chip.sfdp) (option_map (λ t. t.now) chip.uniform) (option_map (λ t. t.now) chip.bits)
+    (origin_of request.setup.chip) asks.beside.setup.chip in
+    rw (asks.beside.content, asks.beside.script, tables) refl
+
+-- they are opened one after the other
+pub two_opened : (request : RunRequest) (a b c : Option (List (List ℕ))) → Adds a b (tables_file (origin_of request.setup.chip)) → Adds b c (request.content.now ∷ [])
+    → OpensFirst a c (input_files_of request)
+two_opened request a b c tables content =
+    let chip = tables_file (origin_of request.setup.chip) in
+    let two = chip ++ (request.content.now ∷ []) in
+    first_of_more a c two (request.script.now ∷ []) (all_first a c two (adds_both a b c chip (request.content.now ∷ []) tables content))
+
+pub three_opened : (request : RunRequest) (a b c d : Option (List (List ℕ))) → Adds a b (tables_file (origin_of request.setup.chip)) → Adds b c (request.content.now ∷ [])
+    → Adds c d (request.script.now ∷ []) → Adds a d (input_files_of request)
+three_opened request a b c d tables content script =
+    let chip = tables_file (origin_of request.setup.chip) in
+    adds_both a c d (chip ++ (request.content.now ∷ [])) (request.script.now ∷ []) (adds_both a b c chip (request.content.now ∷ []) tables content) script
 
 -- they may be read where those may
 pub may_read : (files : FileFacts) (given : RunArgs) (request : RunRequest) → AsksFor given request → MayRead files (paths_asked given) → MayRead files (paths_of request)

@@ -47,6 +47,12 @@ input_files_of request = input_files (origin_of request.setup.chip) (Some reques
 abbrev pub input_files_asked : RunArgs → Origin → List (List ℕ)
 input_files_asked given origin = input_files origin (option_map (λ t. t.now) given.content) (option_map (λ t. t.now) given.script)
 
+-- the names that the texts give of these files, also where the texts ask for nothing
+abbrev pub files_asked : RunArgs → List (List ℕ)
+files_asked given =
+    (option_to_list (option_map (λ t. t.now) given.setup.chip.sfdp) ++ option_to_list (option_map (λ t. t.now) given.content))
+    ++ option_to_list (option_map (λ t. t.now) given.script)
+
 -- the name that each option gives: of the tables, the content, the script and the output these
 abbrev pub run_paths : Option (List ℕ) → Option (List ℕ) → Option (List ℕ) → Option (List ℕ) → FileName → Option (List ℕ)
 run_paths tables content script out Sfdp = tables

@@ -6,7 +6,7 @@ ghost use Rattle.nor_job.specs.declared.fault.BuildFault.TheVariants.{Write};
 ghost use Rattle.std.specs.Io.KnownBytes.{Appends};
 ghost use Rattle.norprog_common.specs.FileStore.{Adds, Breaks, DoNotFail, Emptied, HasGone};
 ghost use Rattle.norprog_common.specs.FileStore.{IsTextIn, IsTextOfFile, LacksEarly, MakesNamed};
-ghost use Rattle.norprog_common.specs.FileStore.{MayMake, MayRead, Tries};
+ghost use Rattle.norprog_common.specs.FileStore.{MayMake, MayRead, OpensAt, OpensIf, Tries};
 ghost use Rattle.norprog_common.specs.Reading.{FailsReading, FailsScript, HasFailed, IsTextRead};
 ghost use Rattle.norprog_common.specs.declared.faults.FileName.TheVariants.{Out};
 ghost use Rattle.norprog_common.specs.declared.faults.Refusal.TheVariants.{Build};
@@ -17,7 +17,7 @@ ghost use Rattle.norprog_run.specs.Answer.{HoldsRun, RefusesRun, RefusesToRun, A
 ghost use Rattle.norprog_run.specs.Request.{is_well_formed};
 ghost use Rattle.norprog_run.specs.Served.{play_with, IsMadeFor, IsTaskOf, Serves};
 ghost use Rattle.norprog_run.specs.Served.{ServesScript, MakesFor, MayMakeFor, input_files_of};
-ghost use Rattle.norprog_run.specs.Served.{paths_asked, paths_of};
+ghost use Rattle.norprog_run.specs.Served.{files_asked, paths_asked, paths_of};
 ghost use Rattle.norprog_run.specs.Verdict.{verdict_line};
 
 use crate::play::play_script;
@@ -38,6 +38,7 @@ pub fn run<S: FileStore, O: ByteOut, E: ByteOut>(
     alloc: Global,
     store: &S,
     journal: &mut S::Journal,
+    ledger: &mut S::Ledger,
     given: RunArgs<'_>,
     out: &mut O,
     err: &mut E,
@@ -47,13 +48,15 @@ pub fn run<S: FileStore, O: ByteOut, E: ByteOut>(
     requires read { MayRead (S.facts store.now) (paths_asked given) }
     ensures status { result ≤ 2 }
     ensures quiet { result ≡ 0 → err.new ≡ err.old }
+    ensures opened { OpensAt (S.Ledger.opened ledger.old) (S.Ledger.opened ledger.new)
+        (files_asked given.entry) result }
     ensures answer { AnswersRun (S.facts store.now) (HasFailed S.Input.ahead S.Input.count)
         given.entry (Adds (S.Journal.changes journal.old) (S.Journal.changes journal.new))
         (Breaks (S.facts store.now) (O.count out.old) (O.count out.new))
         (O.held out.old) (O.held out.new) (err.new ≡ err.old)
         (E.count err.new ≡ E.count err.old) (E.held err.old) (E.held err.new) result }
 {
-    match report_run(alloc, store, journal, given, out) {
+    match report_run(alloc, store, journal, ledger, given, out) {
         Ok(verdict) => status_of(&verdict),
         Err(refusal) => refuse(&refusal, err),
     }
@@ -64,11 +67,14 @@ fn report_run<S: FileStore, O: ByteOut>(
     alloc: Global,
     store: &S,
     journal: &mut S::Journal,
+    ledger: &mut S::Ledger,
     given: RunArgs<'_>,
     out: &mut O,
 ) -> Result<Verdict, Refusal>
     requires out { O.count out.old < 2 ^ 64 - 1 }
     requires read { MayRead (S.facts store.now) (paths_asked given) }
+    ensures opened { OpensIf (S.Ledger.opened ledger.old) (S.Ledger.opened ledger.new)
+        (files_asked given.entry) result }
     ensures played { IfOk result (IsPlayVerdict (Serves (S.facts store.now) given.entry)
         (ServesScript (S.facts store.now) given.entry) (S.facts store.now).flushed) }
     ensures printed { IfOk result (λ verdict. (is_well_formed given.entry ≡ true)
@@ -90,7 +96,7 @@ fn report_run<S: FileStore, O: ByteOut>(
         (Adds (S.Journal.changes journal.old) (S.Journal.changes journal.new))
         (Serves (S.facts store.now) given.entry)) }
 {
-    let verdict = verdict_of(alloc, store, journal, given)?;
+    let verdict = verdict_of(alloc, store, journal, ledger, given)?;
     match write_verdict(&verdict, out) {
         Ok(()) => Ok(verdict),
         Err(_) => Err(Refusal::WRITE),
@@ -102,9 +108,12 @@ fn verdict_of<S: FileStore>(
     alloc: Global,
     store: &S,
     journal: &mut S::Journal,
+    ledger: &mut S::Ledger,
     given: RunArgs<'_>,
 ) -> Result<Verdict, Refusal>
     requires read { MayRead (S.facts store.now) (paths_asked given) }
+    ensures opened { OpensIf (S.Ledger.opened ledger.old) (S.Ledger.opened ledger.new)
+        (files_asked given.entry) result }
     ensures played { IfOk result (IsPlayVerdict (Serves (S.facts store.now) given.entry)
         (ServesScript (S.facts store.now) given.entry) (S.facts store.now).flushed) }
     ensures asked { IfOk result (λ _. is_well_formed given.entry ≡ true) }
@@ -123,7 +132,7 @@ fn verdict_of<S: FileStore>(
         (Serves (S.facts store.now) given.entry)) }
 {
     let request = request_of(alloc, given)?;
-    play_request(alloc, store, journal, request)
+    play_request(alloc, store, journal, ledger, request)
 }
 
 /// Opens the files of a request in their order, and plays.
@@ -131,10 +140,13 @@ fn play_request<S: FileStore>(
     alloc: Global,
     store: &S,
     journal: &mut S::Journal,
+    ledger: &mut S::Ledger,
     request: RunRequest<'_>,
 ) -> Result<Verdict, Refusal>
     requires limit { 0 < request.bench.limit }
     requires read { MayRead (S.facts store.now) (paths_of request) }
+    ensures opened { OpensIf (S.Ledger.opened ledger.old) (S.Ledger.opened ledger.new)
+        (input_files_of request.entry) result }
     ensures played { IfOk result (IsPlayVerdict (IsTaskOf (S.facts store.now) request.entry)
         (IsTextIn (S.facts store.now) request.entry.script.now) (S.facts store.now).flushed) }
     ensures refused { IfErr result
@@ -158,10 +170,10 @@ fn play_request<S: FileStore>(
         (IsTaskOf (S.facts store.now) request.entry)) }
 {
     let mut places = Vec::new(alloc);
-    let sfdp = noted_tables(alloc, store, request.setup.chip, &mut places)?;
-    let (mut content, place, len) = store.open(request.content, FileName::Content)?;
+    let sfdp = noted_tables(alloc, store, ledger, request.setup.chip, &mut places)?;
+    let (mut content, place, len) = store.open(ledger, request.content, FileName::Content)?;
     places.push(place)?;
-    let (script, place) = store.open_script(alloc, request.script)?;
+    let (script, place) = store.open_script(ledger, alloc, request.script)?;
     places.push(place)?;
     let inputs = setup_inputs(request.setup, sfdp.as_slice());
     match request.out {

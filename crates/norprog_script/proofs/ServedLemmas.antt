@@ -1,5 +1,5 @@
 -- What is written for a request is what its texts ask for, and what is so of it is so of that.
-use Rattle.std.proofs.Common.{◌≡◌, ◌+◌, arith, inl, ◌++◌, ◌||◌, Bool, Bor, true, false, is_some, option_map, option_to_list, refl, sym, subst, List, [], ◌∷◌, ℕ, Option, None, Some, Result, Ok, Err, IfOk, IfErr, inr}
+use Rattle.std.proofs.Common.{◌≡◌, ◌∙◌, ap, ◌+◌, arith, inl, ◌++◌, ◌||◌, Bool, Bor, true, false, is_some, option_map, option_to_list, refl, sym, subst, List, [], ◌∷◌, ℕ, Option, None, Some, Result, Ok, Err, IfOk, IfErr, inr}
 use Rattle.norprog_common.specs.FileStore.{FileFacts, Change, AreTables, Breaks, HasGone, IsMadeApart, LacksEarly, MayRead, Named, Notes, TookNothing, tables_file}
 use Rattle.norprog_common.specs.Chip.{origin_of}
 use Rattle.norprog_common.specs.Setup.{setup_task}
@@ -17,13 +17,14 @@ use Rattle.norprog_common.specs.declared.faults.FileName.TheVariants.{Out}
 use Rattle.norprog_common.specs.declared.faults.Refusal.{Refusal}
 use Rattle.norprog_common.specs.declared.given.SetupArgs.{SetupArgs}
 use Rattle.norprog_common.proofs.LackedLemmas.{early_same, may_same, tables_named}
+use Rattle.norprog_common.proofs.LedgerLemmas.{file_named}
 use Rattle.norprog_common.proofs.ToldLemmas.{asked_wider, refuses_wider, by_fault, by_files, write_is_other}
 use Rattle.norprog_common.specs.declared.given.ScriptArgs.{ScriptArgs}
 use Rattle.norprog_script.specs.declared.request.ScriptRequest.{ScriptRequest}
 use Rattle.norprog_script.specs.declared.tally.Tally.{Tally}
 use Rattle.norprog_script.specs.Answer.{HoldsScript, IsScriptedAs, IsScripted, IsStopOf, IsLogFault, RefusesScript, done}
 use Rattle.norprog_script.specs.Request.{AsksChip, AsksFor}
-use Rattle.norprog_script.specs.Served.{LogTask, IsSourceOf, IsTaskOf, Serves, chip_file, chip_name, paths_asked, paths_of}
+use Rattle.norprog_script.specs.Served.{LogTask, IsSourceOf, IsTaskOf, Serves, chip_file, chip_name, files_asked, files_of, paths_asked, paths_of}
 use Rattle.norprog_script.specs.Written.{Source, foreign, listed, WasWritten, RefusesLog}
 
 -- what a request has is what the texts ask for
@@ -59,6 +60,15 @@ tables_said given (Some setup) asks =
 -- the files of a request are those that the texts name
 same_paths : (given : ScriptArgs) (request : ScriptRequest) → AsksFor given request → Path (FileName → Option (List ℕ)) (paths_of request) (paths_asked given)
 same_paths given request asks = let tables = tables_said given.setup request.chip asks.chip in rw (asks.log, asks.out, tables) refl
+
+chip_file_said : (chip : Option Setup) → option_to_list (chip_name chip) ≡ chip_file chip
+chip_file_said None = refl
+chip_file_said (Some setup) = file_named (origin_of setup.chip)
+
+-- the files that are read are those that they name
+pub files_are : (given : ScriptArgs) (request : ScriptRequest) → AsksFor given request → files_asked given ≡ files_of request
+files_are given request asks =
+    let tables = sym (ap option_to_list (tables_said given.setup request.chip asks.chip)) ∙ chip_file_said request.chip in rw (asks.log, tables) refl
 
 -- they may be read where those may
 pub may_read : (files : FileFacts) (given : ScriptArgs) (request : ScriptRequest) → AsksFor given request → MayRead files (paths_asked given) → MayRead files (paths_of request)

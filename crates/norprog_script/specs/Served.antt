@@ -75,3 +75,11 @@ MakesScript files given Made =
 
 abbrev pub MayMakeScript : FileFacts → ScriptArgs → (List Change → Type 0) → Type 0
 MayMakeScript files given Made = (Made [] ⊎ MakesScript files given Made) × (is_well_formed given ≡ false → Made [])
+
+-- the names of the files that are read, in the order in which they are opened: tables and log
+abbrev pub files_of : ScriptRequest → List (List ℕ)
+files_of request = chip_file request.chip ++ request.log.now ∷ []
+
+-- those that the texts name, also where they ask for nothing
+abbrev pub files_asked : ScriptArgs → List (List ℕ)
+files_asked given = option_to_list (option_map (λ t. t.now) given.setup.chip.sfdp) ++ option_to_list (option_map (λ t. t.now) given.log)

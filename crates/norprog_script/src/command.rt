@@ -4,13 +4,13 @@ ghost use Rattle.std.specs.Prelude.{◌≡◌, ◌<◌, ◌≤◌, ◌-◌, ◌^
 ghost use Rattle.std.specs.Prelude.{option_map};
 ghost use Rattle.std.specs.Prelude.{IfOk, IfErr, MatchResult};
 ghost use Rattle.norprog_common.specs.FileStore.{Adds, Breaks, HasGone, LacksEarly, MakesIf};
-ghost use Rattle.norprog_common.specs.FileStore.{MayRead};
+ghost use Rattle.norprog_common.specs.FileStore.{MayRead, OpensAt, OpensIf};
 ghost use Rattle.norprog_common.specs.declared.faults.FileName.TheVariants.{Out};
 ghost use Rattle.norprog_common.specs.Told.{OrUsage};
 ghost use Rattle.norprog_script.specs.Answer.{IsScripted, RefusesScript, PrintsTally, CutsTally};
 ghost use Rattle.norprog_script.specs.Answer.{AnswersScript, HoldsScript, done};
 ghost use Rattle.norprog_script.specs.Request.{is_well_formed};
-ghost use Rattle.norprog_script.specs.Served.{IsTaskOf, Serves, chip_file};
+ghost use Rattle.norprog_script.specs.Served.{IsTaskOf, Serves, chip_file, files_asked, files_of};
 ghost use Rattle.norprog_script.specs.Served.{paths_asked, paths_of, MakesScript, MayMakeScript};
 
 use crate::listing::script_listing;
@@ -31,6 +31,7 @@ pub fn script<S: FileStore, O: ByteOut, E: ByteOut>(
     alloc: Global,
     store: &S,
     journal: &mut S::Journal,
+    ledger: &mut S::Ledger,
     given: ScriptArgs<'_>,
     out: &mut O,
     err: &mut E,
@@ -40,13 +41,15 @@ pub fn script<S: FileStore, O: ByteOut, E: ByteOut>(
     requires read { MayRead (S.facts store.now) (paths_asked given) }
     ensures status { result ≤ 2 }
     ensures quiet { result ≡ 0 → err.new ≡ err.old }
+    ensures opened { OpensAt (S.Ledger.opened ledger.old) (S.Ledger.opened ledger.new)
+        (files_asked given.entry) result }
     ensures answer { AnswersScript (S.facts store.now) given.entry
         (Adds (S.Journal.changes journal.old) (S.Journal.changes journal.new))
         (Breaks (S.facts store.now) (O.count out.old) (O.count out.new))
         (O.held out.old) (O.held out.new) (err.new ≡ err.old)
         (E.count err.new ≡ E.count err.old) (E.held err.old) (E.held err.new) result }
 {
-    answered(scripted_in(alloc, store, journal, given, out), err)
+    answered(scripted_in(alloc, store, journal, ledger, given, out), err)
 }
 
 /// Does what is asked for, and prints how many steps there are.
@@ -54,12 +57,15 @@ fn scripted_in<S: FileStore, O: ByteOut>(
     alloc: Global,
     store: &S,
     journal: &mut S::Journal,
+    ledger: &mut S::Ledger,
     given: ScriptArgs<'_>,
     out: &mut O,
 ) -> Result<u8, Refusal>
     requires out { O.count out.old < 2 ^ 64 - 1 }
     requires read { MayRead (S.facts store.now) (paths_asked given) }
     ensures done { IfOk result (λ status. (status ≡ 0) × (is_well_formed given.entry ≡ true)) }
+    ensures opened { OpensIf (S.Ledger.opened ledger.old) (S.Ledger.opened ledger.new)
+        (files_asked given.entry) result }
     ensures journal { MatchResult result
         (λ _. MakesScript (S.facts store.now) given.entry
         (Adds (S.Journal.changes journal.old) (S.Journal.changes journal.new)))
@@ -83,7 +89,7 @@ fn scripted_in<S: FileStore, O: ByteOut>(
         (Serves (S.facts store.now) given.entry)) }
 {
     let request = request_of(given).ok_or(Refusal::Usage)?;
-    let tally = run_script(alloc, store, journal, request)?;
+    let tally = run_script(alloc, store, journal, ledger, request)?;
     match write_tally(tally, out) {
         Ok(()) => Ok(0),
         Err(_) => Err(Refusal::WRITE),
@@ -95,12 +101,15 @@ fn run_script<S: FileStore>(
     alloc: Global,
     store: &S,
     journal: &mut S::Journal,
+    ledger: &mut S::Ledger,
     request: ScriptRequest<'_>,
 ) -> Result<Tally, Refusal>
     requires read { MayRead (S.facts store.now) (paths_of request) }
     ensures journal { MakesIf (S.facts store.now)
         (chip_file request.entry.chip ++ request.entry.log.now ∷ []) (Some request.entry.out.now)
         (Adds (S.Journal.changes journal.old) (S.Journal.changes journal.new)) result }
+    ensures opened { OpensIf (S.Ledger.opened ledger.old) (S.Ledger.opened ledger.new)
+        (files_of request.entry) result }
     ensures written { IfOk result
         (IsScripted (IsTaskOf (S.facts store.now) request.entry) (S.facts store.now).flushed) }
     ensures refused { IfErr result
@@ -114,8 +123,8 @@ fn run_script<S: FileStore>(
         (IsTaskOf (S.facts store.now) request.entry)) }
 {
     match request.chip {
-        Some(setup) => run_listing(alloc, store, journal, setup, request),
-        None => run_log(alloc, store, journal, request),
+        Some(setup) => run_listing(alloc, store, journal, ledger, setup, request),
+        None => run_log(alloc, store, journal, ledger, request),
     }
 }
 
@@ -124,6 +133,7 @@ fn run_listing<S: FileStore>(
     alloc: Global,
     store: &S,
     journal: &mut S::Journal,
+    ledger: &mut S::Ledger,
     setup: Setup<'_>,
     request: ScriptRequest<'_>,
 ) -> Result<Tally, Refusal>
@@ -132,6 +142,8 @@ fn run_listing<S: FileStore>(
     ensures journal { MakesIf (S.facts store.now)
         (chip_file request.entry.chip ++ request.entry.log.now ∷ []) (Some request.entry.out.now)
         (Adds (S.Journal.changes journal.old) (S.Journal.changes journal.new)) result }
+    ensures opened { OpensIf (S.Ledger.opened ledger.old) (S.Ledger.opened ledger.new)
+        (files_of request.entry) result }
     ensures written { IfOk result
         (IsScripted (IsTaskOf (S.facts store.now) request.entry) (S.facts store.now).flushed) }
     ensures refused { IfErr result
@@ -145,8 +157,8 @@ fn run_listing<S: FileStore>(
         (IsTaskOf (S.facts store.now) request.entry)) }
 {
     let mut places = Vec::new(alloc);
-    let tables = noted_tables(alloc, store, setup.chip, &mut places)?;
-    let (listing, place) = store.read(alloc, request.log, FileName::Log)?;
+    let tables = noted_tables(alloc, store, ledger, setup.chip, &mut places)?;
+    let (listing, place) = store.read(ledger, alloc, request.log, FileName::Log)?;
     places.push(place)?;
     let mut out = store.create(
         journal,
@@ -166,6 +178,7 @@ fn run_log<S: FileStore>(
     alloc: Global,
     store: &S,
     journal: &mut S::Journal,
+    ledger: &mut S::Ledger,
     request: ScriptRequest<'_>,
 ) -> Result<Tally, Refusal>
     requires chip { request.chip ≡ None }
@@ -173,6 +186,8 @@ fn run_log<S: FileStore>(
     ensures journal { MakesIf (S.facts store.now)
         (chip_file request.entry.chip ++ request.entry.log.now ∷ []) (Some request.entry.out.now)
         (Adds (S.Journal.changes journal.old) (S.Journal.changes journal.new)) result }
+    ensures opened { OpensIf (S.Ledger.opened ledger.old) (S.Ledger.opened ledger.new)
+        (files_of request.entry) result }
     ensures written { IfOk result
         (IsScripted (IsTaskOf (S.facts store.now) request.entry) (S.facts store.now).flushed) }
     ensures refused { IfErr result
@@ -185,7 +200,7 @@ fn run_log<S: FileStore>(
         (Adds (S.Journal.changes journal.old) (S.Journal.changes journal.new))
         (IsTaskOf (S.facts store.now) request.entry)) }
 {
-    let (log, place) = store.read(alloc, request.log, FileName::Log)?;
+    let (log, place) = store.read(ledger, alloc, request.log, FileName::Log)?;
     let mut out = store.create(journal, alloc, request.out, FileName::Out, &[place])?;
     let answer = script_log(alloc, log.as_slice(), request.without_identity, &mut out);
     let flushed = store.flush(out);

@@ -1,8 +1,10 @@
 //! `sfdp`: from the texts of the command line to the lines that tell what a chip's tables mean.
 
-ghost use Rattle.std.specs.Prelude.{◌≡◌, ◌<◌, ◌≤◌, ◌-◌, ◌^◌, true, option_map, IfOk, IfErr};
+ghost use Rattle.std.specs.Prelude.{◌≡◌, ◌<◌, ◌≤◌, ◌-◌, ◌^◌, true, option_map};
+ghost use Rattle.std.specs.Prelude.{option_to_list, IfOk, IfErr};
 ghost use Rattle.norprog_common.specs.Chip.{origin_of};
-ghost use Rattle.norprog_common.specs.FileStore.{Lacks, MayRead, MayReadNamed, tables_name};
+ghost use Rattle.norprog_common.specs.FileStore.{Adds, Lacks, MayRead, MayReadNamed};
+ghost use Rattle.norprog_common.specs.FileStore.{OpensAt, OpensIf, tables_file, tables_name};
 ghost use Rattle.norprog_common.specs.Told.{OrUsage};
 ghost use Rattle.norprog_sfdp.specs.Served.{asks_chip, tables_path, IsChipTask, IsTaskAlone};
 ghost use Rattle.norprog_sfdp.specs.Served.{ServesChip};
@@ -24,6 +26,7 @@ use std::alloc::Global;
 pub fn sfdp<S: FileStore, O: ByteOut, E: ByteOut>(
     alloc: Global,
     store: &S,
+    ledger: &mut S::Ledger,
     given: ChipArgs<'_>,
     out: &mut O,
     err: &mut E,
@@ -34,17 +37,20 @@ pub fn sfdp<S: FileStore, O: ByteOut, E: ByteOut>(
         (tables_path (option_map (λ t. t.now) given.sfdp)) }
     ensures status { result ≤ 2 }
     ensures quiet { result ≡ 0 → err.new ≡ err.old }
+    ensures opened { OpensAt (S.Ledger.opened ledger.old) (S.Ledger.opened ledger.new)
+        (option_to_list (option_map (λ t. t.now) given.entry.sfdp)) result }
     ensures answer { AnswersChip (S.facts store.now) given.entry (O.count out.old < O.count out.new)
         (O.held out.old) (O.held out.new) (err.new ≡ err.old)
         (E.count err.new ≡ E.count err.old) (E.held err.old) (E.held err.new) result }
 {
-    answered(report_meaning(alloc, store, given, out), err)
+    answered(report_meaning(alloc, store, ledger, given, out), err)
 }
 
 /// Writes what the tables mean.
 fn report_meaning<S: FileStore, O: ByteOut>(
     alloc: Global,
     store: &S,
+    ledger: &mut S::Ledger,
     given: ChipArgs<'_>,
     out: &mut O,
 ) -> Result<u8, Refusal>
@@ -52,6 +58,8 @@ fn report_meaning<S: FileStore, O: ByteOut>(
     requires read { MayRead (S.facts store.now)
         (tables_path (option_map (λ t. t.now) given.sfdp)) }
     ensures done { IfOk result (λ status. (status ≡ 0) × (asks_chip given.entry ≡ true)) }
+    ensures opened { OpensIf (S.Ledger.opened ledger.old) (S.Ledger.opened ledger.new)
+        (option_to_list (option_map (λ t. t.now) given.entry.sfdp)) result }
     ensures printed { IfOk result
         (λ _. PrintsMeaning (ServesChip (S.facts store.now) given.entry) (O.held out.old)
         (O.held out.new)) }
@@ -66,7 +74,7 @@ fn report_meaning<S: FileStore, O: ByteOut>(
 {
     let chip = chip_of(given.sfdp, given.uniform, given.bits).ok_or(Refusal::Usage)?;
     let part = part(given.part.unwrap_or("generic")).ok_or(Refusal::Usage)?;
-    let meaning = run_meaning(alloc, store, chip, part)?;
+    let meaning = run_meaning(alloc, store, ledger, chip, part)?;
     match sfdp_text(&meaning, out) {
         Ok(()) => Ok(0),
         Err(_) => Err(Refusal::WRITE),
@@ -77,18 +85,21 @@ fn report_meaning<S: FileStore, O: ByteOut>(
 fn run_meaning<S: FileStore>(
     alloc: Global,
     store: &S,
+    ledger: &mut S::Ledger,
     chip: Chip<'_>,
     part: Part,
 ) -> Result<Meaning, Refusal>
     requires read { MayReadNamed (S.facts store.now) (tables_name (origin_of chip)) }
     ensures means { IfOk result
         (IsMeaning (IsChipTask (S.facts store.now) (origin_of chip.entry) part)) }
+    ensures opened { Adds (S.Ledger.opened ledger.old) (S.Ledger.opened ledger.new)
+        (tables_file (origin_of chip.entry)) }
     ensures refused { IfErr result
         (RefusesMeaning (Lacks (S.facts store.now)
         (tables_path (tables_name (origin_of chip.entry)))) ⊥
         (IsChipTask (S.facts store.now) (origin_of chip.entry) part)) }
 {
-    let tables = tables_of(alloc, store, chip)?;
+    let tables = tables_of(alloc, store, ledger, chip)?;
     chip_alone(chip, part, tables.as_slice())
 }
 

@@ -5,7 +5,7 @@ ghost use Rattle.std.specs.Prelude.{◌<◌, ◌-◌, ◌^◌};
 use nor_base::{ByteOut, IntoWrite, Nowhere};
 use norprog_build::build;
 use norprog_check::check;
-use norprog_common::{Refusal, SystemFiles, Unrecorded, refuse};
+use norprog_common::{Refusal, SystemFiles, Unlisted, Unrecorded, refuse};
 use norprog_details::{Heard, write_details};
 use norprog_draw::draw;
 use norprog_explain::explain;
@@ -54,6 +54,7 @@ fn status_into(rt: &HostRuntime, line: Result<Line<'_>, Refusal>, out: File, err
         write_details(
             rt.alloc(),
             &files,
+            &mut Unlisted,
             typed.as_line(),
             refusal.as_slice(),
             &mut err.out,
@@ -72,7 +73,15 @@ pub(crate) fn details_into(rt: &HostRuntime, line: Line<'_>, refusal: &str, err:
     if let Some(typed) = details {
         let files = SystemFiles::new(rt);
         let refusal = refusal.as_bytes();
-        write_details(rt.alloc(), &files, typed.as_line(), refusal, &mut err);
+        let ledger = &mut Unlisted;
+        write_details(
+            rt.alloc(),
+            &files,
+            ledger,
+            typed.as_line(),
+            refusal,
+            &mut err,
+        );
     }
 }
 
@@ -88,20 +97,39 @@ fn answer(
 {
     let alloc = rt.alloc();
     let files = SystemFiles::new(rt);
-    let mut journal = Unrecorded;
+    let journal = &mut Unrecorded;
+    let ledger = &mut Unlisted;
     match asked {
-        Asked::Build(given) => build(alloc, &files, &mut journal, given, out, err),
-        Asked::Plan(given) => plan(alloc, &files, &mut journal, given, out, err),
-        Asked::Check(given) => check(alloc, &files, given, out, err),
-        Asked::Run(given) => run(alloc, &files, &mut journal, given, out, err),
-        Asked::List(given) => list(alloc, &files, given, out, err),
-        Asked::Draw(given) => draw(alloc, &files, &mut journal, given, err),
-        Asked::Play(given) => play(alloc, &files, &mut journal, given, out, err, &mut Nowhere),
-        Asked::Read(given) => read(alloc, &files, &mut journal, given, out, err),
-        Asked::Flash(given) => flash(alloc, &files, &mut journal, given, out, err, &mut Nowhere),
-        Asked::Sfdp(given) => sfdp(alloc, &files, given, out, err),
-        Asked::Hex(given) => hex(alloc, &files, &mut journal, given, err),
-        Asked::Script(given) => script(alloc, &files, &mut journal, given, out, err),
+        Asked::Build(given) => build(alloc, &files, journal, ledger, given, out, err),
+        Asked::Plan(given) => plan(alloc, &files, journal, ledger, given, out, err),
+        Asked::Check(given) => check(alloc, &files, ledger, given, out, err),
+        Asked::Run(given) => run(alloc, &files, journal, ledger, given, out, err),
+        Asked::List(given) => list(alloc, &files, ledger, given, out, err),
+        Asked::Draw(given) => draw(alloc, &files, journal, ledger, given, err),
+        Asked::Play(given) => play(
+            alloc,
+            &files,
+            journal,
+            ledger,
+            given,
+            out,
+            err,
+            &mut Nowhere,
+        ),
+        Asked::Read(given) => read(alloc, &files, journal, ledger, given, out, err),
+        Asked::Flash(given) => flash(
+            alloc,
+            &files,
+            journal,
+            ledger,
+            given,
+            out,
+            err,
+            &mut Nowhere,
+        ),
+        Asked::Sfdp(given) => sfdp(alloc, &files, ledger, given, out, err),
+        Asked::Hex(given) => hex(alloc, &files, journal, ledger, given, err),
+        Asked::Script(given) => script(alloc, &files, journal, ledger, given, out, err),
         Asked::Explain(words) => explain(words.as_slice(), out, err),
     }
 }

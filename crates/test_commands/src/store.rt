@@ -6,7 +6,7 @@ use nor_base::IntoWrite;
 use norprog_common::FileId;
 use std::alloc::Global;
 use std::process::Abort;
-use test_files::{Note, Noted, build_of, check_of, run_of};
+use test_files::{Listed, Note, Noted, build_of, check_of, run_of};
 use test_samples::texts::{IMAGE, ONE_BYTE};
 
 /// What a script is built from, checked for and played on: by each command the status, what is
@@ -20,22 +20,40 @@ fn commands_go_over_files_in_memory(rt: HostRuntime) {
 
 fn builds(rt: &impl Abort, alloc: Global) {
     let mut journal = unchanged(alloc);
+    let mut ledger = Listed::Empty;
     let mut out = IntoWrite::new(Vec::new(alloc));
     let mut err = IntoWrite::new(Vec::new(alloc));
     let image = IMAGE.as_bytes();
     let content = &BLANK[..8192];
-    let (status, script) = build_of(alloc, image, content, &mut journal, &mut out, &mut err);
+    let (status, script) = build_of(
+        alloc,
+        image,
+        content,
+        &mut journal,
+        &mut ledger,
+        &mut out,
+        &mut err,
+    );
     same(rt, "the build", status, 0);
     holds(rt, "the script", script.as_slice() == ONE_BYTE.as_bytes());
     holds(rt, "its file", is_output(journal.notes.as_slice(), "new"));
 }
 
 fn checks(rt: &impl Abort, alloc: Global) {
+    let mut ledger = Listed::Empty;
     let mut out = IntoWrite::new(Vec::new(alloc));
     let mut err = IntoWrite::new(Vec::new(alloc));
     let image = IMAGE.as_bytes();
     let script = ONE_BYTE.as_bytes();
-    let status = check_of(alloc, image, &BLANK[..8192], script, &mut out, &mut err);
+    let status = check_of(
+        alloc,
+        image,
+        &BLANK[..8192],
+        script,
+        &mut ledger,
+        &mut out,
+        &mut err,
+    );
     same(rt, "the check", status, 0);
     holds(
         rt,
@@ -46,11 +64,20 @@ fn checks(rt: &impl Abort, alloc: Global) {
 
 fn plays(rt: &impl Abort, alloc: Global) {
     let mut journal = unchanged(alloc);
+    let mut ledger = Listed::Empty;
     let mut out = IntoWrite::new(Vec::new(alloc));
     let mut err = IntoWrite::new(Vec::new(alloc));
     let content = &BLANK[..8192];
     let script = ONE_BYTE.as_bytes();
-    let (status, after) = run_of(alloc, content, script, &mut journal, &mut out, &mut err);
+    let (status, after) = run_of(
+        alloc,
+        content,
+        script,
+        &mut journal,
+        &mut ledger,
+        &mut out,
+        &mut err,
+    );
     same(rt, "the play", status, 0);
     holds(rt, "its line", out.inner.as_slice() == b"ok 3\n".as_slice());
     same(rt, "the byte", after.as_slice().first().copied(), Some(0));

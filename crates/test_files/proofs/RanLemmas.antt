@@ -9,16 +9,25 @@ use Rattle.norprog_common.specs.declared.faults.FileName.TheVariants as name
 use Rattle.norprog_common.specs.declared.files.FileId.{FileId}
 use Rattle.norprog_common.specs.declared.given.RunArgs.{RunArgs}
 use Rattle.norprog_run.specs.Answer.{PrintsVerdict, WasPlayedSo}
-use Rattle.norprog_run.specs.Served.{MakesFor, Serves, ServesScript, input_files_asked, paths_asked}
+use Rattle.norprog_run.specs.Served.{MakesFor, Serves, ServesScript, files_asked, input_files_asked, paths_asked}
 use Rattle.norprog_run.specs.Verdict.{status_of}
 use Rattle.norprog_run.specs.declared.verdict.Verdict.{Verdict}
 use Rattle.norprog_run.specs.declared.verdict.Verdict.TheVariants.{Done, Wrong}
 use Rattle.norprog_common.proofs.LackedLemmas.{tables_named}
+use Rattle.norprog_common.proofs.LedgerLemmas.{file_asked}
 use Rattle.test_files.proofs.WorkedLemmas.{given_bytes, none_may, of_named, one_may, some_origin, text_is, two_places}
 use Rattle.test_files.specs.Told.{bytes_in, file_of, told_files}
 use Rattle.test_files.specs.Worked.{IsRunOf}
 use Rattle.test_files.specs.declared.memory.Device.{Device}
 use Rattle.test_files.specs.declared.memory.File.{File}
+
+-- a play opens the content and the script
+pub run_files : (given : RunArgs) → option_map (λ t. t.now) given.content ≡ Some (codes "content") → option_map (λ t. t.now) given.script ≡ Some (codes "script")
+    → chip_asked given.setup.chip ≡ Some (Uniform 8192) → files_asked given ≡ (codes "content" ∷ codes "script" ∷ [])
+run_files given content script chip =
+    let of = given.setup.chip in
+    let tables = file_asked (option_map (λ t. t.now) of.sfdp) (option_map (λ t. t.now) of.uniform) (option_map (λ t. t.now) of.bits) (Uniform 8192) chip in
+    rw (content, script, tables) refl
 
 -- the content and the script of a play may be read, and it names no other file that is
 pub run_may : (files : List File) (device : Option Device) (given : RunArgs) → is_some (file_of files (codes "content")) ≡ true

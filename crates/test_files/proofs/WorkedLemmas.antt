@@ -7,6 +7,7 @@ use Rattle.nor_check.specs.declared.verdict.Verdict.TheVariants.{Yes, No}
 use Rattle.nor_script.specs.Stream.{IsTextOf}
 use Rattle.norprog_check.specs.Answer.{PrintsJudgement, verdict_status}
 use Rattle.norprog_check.specs.Served.{check_paths, ServesCheck, ServesScript}
+use Rattle.norprog_check.specs.Served as check
 use Rattle.norprog_common.specs.Strict.{Filled}
 use Rattle.norprog_check.specs.Checked.{IsChecked}
 use Rattle.norprog_build.specs.Answer.{PrintsReport}
@@ -14,7 +15,7 @@ use Rattle.norprog_build.specs.Served.{ServesBuild}
 use Rattle.norprog_common.specs.Chip.{Origin, Uniform}
 use Rattle.norprog_common.specs.FileStore.{FileFacts, Change, Emptied, MakesNamed, MakesOutput, MayRead, MayReadNamed, Named, IsTextIn, StoodAt}
 use Rattle.norprog_common.specs.Request.{asked_chip}
-use Rattle.norprog_common.specs.Served.{Job, MakesFor, Serves, input_files_asked, no_path, paths_asked, script_path}
+use Rattle.norprog_common.specs.Served.{Job, MakesFor, Serves, files_asked, input_files_asked, no_path, paths_asked, script_path}
 use Rattle.norprog_common.specs.declared.faults.FileName.{FileName}
 use Rattle.norprog_common.specs.declared.faults.FileName.TheVariants as name
 use Rattle.norprog_common.specs.declared.files.FileId.{FileId}
@@ -22,6 +23,7 @@ use Rattle.norprog_common.specs.declared.given.BuildArgs.{BuildArgs}
 use Rattle.norprog_common.specs.declared.given.CheckArgs.{CheckArgs}
 use Rattle.norprog_common.specs.declared.given.Given.{Given}
 use Rattle.norprog_common.proofs.LackedLemmas.{tables_named}
+use Rattle.norprog_common.proofs.LedgerLemmas.{file_asked}
 use Rattle.test_files.specs.Told.{bytes_in, file_of, told_files}
 use Rattle.test_files.specs.Worked.{IsBuiltOf, IsJobOfBytes, IsYesOf}
 use Rattle.test_files.specs.declared.memory.Device.{Device}
@@ -49,6 +51,20 @@ one_may files device named known is there = λ path at.
 
 pub none_may : (files : FileFacts) (named : Option (List ℕ)) → named ≡ None → MayReadNamed files named
 none_may files named is = λ path at. let none : Path (Option (List ℕ)) None (Some path) = sym is ∙ at in cc
+
+-- a job opens the image and the content, and a check then its script
+pub job_files : (given : Given) → option_map (λ t. t.now) given.hex ≡ Some (codes "image") → option_map (λ t. t.now) given.content ≡ Some (codes "content")
+    → given.layout ≡ None → asked_chip given ≡ Some (Uniform 8192) → files_asked given ≡ (codes "image" ∷ codes "content" ∷ [])
+job_files given hex content layout chip =
+    let tables = file_asked (option_map (λ t. t.now) given.sfdp) (option_map (λ t. t.now) given.uniform) (option_map (λ t. t.now) given.bits) (Uniform 8192) chip in
+    rw (hex, content, layout, tables) refl
+
+pub check_files : (given : CheckArgs) → option_map (λ t. t.now) given.job.hex ≡ Some (codes "image") → option_map (λ t. t.now) given.job.content ≡ Some (codes "content")
+    → given.job.layout ≡ None → asked_chip given.job ≡ Some (Uniform 8192) → option_map (λ t. t.now) given.script ≡ Some (codes "script")
+    → check.files_asked given ≡ (codes "image" ∷ codes "content" ∷ codes "script" ∷ [])
+check_files given hex content layout chip script =
+    let tables = file_asked (option_map (λ t. t.now) given.job.sfdp) (option_map (λ t. t.now) given.job.uniform) (option_map (λ t. t.now) given.job.bits) (Uniform 8192) chip in
+    rw (hex, content, layout, tables, script) refl
 
 -- the image and the content of a job may be read, and it names no other file but a command's own
 job_may : (files : List File) (device : Option Device) (given : Given) (own : FileName → Option (List ℕ)) → is_some (file_of files (codes "image")) ≡ true

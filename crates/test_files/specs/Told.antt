@@ -1,5 +1,5 @@
 -- What files in memory tell (this project's).
-use Rattle.std.specs.Prelude.{◌≡◌, ◌⊎◌, ⊤, ℕ, ◌^◌, ◌<◌, Bool, true, if◌then◌else◌, List, [], length, map, Option, Some, None, is_some, option_map}
+use Rattle.std.specs.Prelude.{◌≡◌, ◌⊎◌, ⊤, ℕ, ◌^◌, ◌<◌, Bool, true, if◌then◌else◌, List, [], ◌∷◌, ◌++◌, length, map, Option, Some, None, is_some, option_map}
 use Rattle.std.specs.List.{find}
 use Rattle.std.specs.Str.{bytes_eq}
 use Rattle.nor_base.specs.Device.{Finite}
@@ -7,6 +7,7 @@ use Rattle.norprog_common.specs.declared.faults.FileName.{FileName}
 use Rattle.norprog_common.specs.declared.files.FileId.{FileId}
 use Rattle.norprog_common.specs.declared.faults.FileName.TheVariants as told_as
 use Rattle.norprog_common.specs.FileStore.{FileFacts, Change, Emptied, Created, Opened}
+use Rattle.test_files.specs.declared.listed.Listed.{Listed, Empty, More'}
 use Rattle.test_files.specs.declared.memory.Device.{Device}
 use Rattle.test_files.specs.declared.memory.File.{File}
 use Rattle.test_files.specs.declared.noted.Note.{Note}
@@ -71,3 +72,11 @@ change_of (note.Opened name) = Opened name.bytes.items
 
 abbrev pub told_changes : Noted → Option (List Change)
 told_changes j = Some (map change_of j.notes.items)
+
+-- the names that were noted, in order
+abbrev pub names_of : Listed → List (List ℕ)
+names_of Empty = []
+names_of (More' marker before name) = names_of before ++ name.now ∷ []
+
+abbrev pub told_names : Listed → Option (List (List ℕ))
+told_names l = Some (names_of l)

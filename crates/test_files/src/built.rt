@@ -4,10 +4,11 @@ ghost use Rattle.std.specs.Prelude.{◌≡◌, ◌<◌, ◌-◌, ◌^◌, ◌∷
 ghost use Rattle.norprog_common.specs.Chip.{Uniform};
 ghost use Rattle.norprog_common.specs.FileStore.{Adds, Emptied};
 ghost use Rattle.norprog_common.specs.Request.{asked_chip};
-ghost use Rattle.test_files.specs.Told.{place, told_changes};
+ghost use Rattle.test_files.specs.Told.{place, told_changes, told_names};
 ghost use Rattle.test_files.specs.Worked.{IsBuiltOf};
 
 use crate::given::{file, files_alone, job_in_memory};
+use crate::listed::Listed;
 use crate::noted::Noted;
 use nor_base::ByteOut;
 use norprog_build::build;
@@ -22,6 +23,7 @@ pub fn build_of<O: ByteOut, E: ByteOut>(
     image: &[u8],
     content: &[u8],
     journal: &mut Noted,
+    ledger: &mut Listed,
     out: &mut O,
     err: &mut E,
 ) -> (u8, Vec<u8>)
@@ -30,10 +32,12 @@ pub fn build_of<O: ByteOut, E: ByteOut>(
     ensures built { result.0 ≡ 0 → IsBuiltOf image.now content.now }
     ensures made { result.0 ≡ 0 → Adds (told_changes journal.old) (told_changes journal.new)
         (Emptied (codes "new") (place 0 ∷ place 1 ∷ []) ∷ []) }
+    ensures opened { result.0 ≡ 0 → Adds (told_names ledger.old) (told_names ledger.new)
+        (codes "image" ∷ codes "content" ∷ []) }
 {
     let files = [file("image", image, 0), file("content", content, 1)];
     let store = files_alone(alloc, &files);
-    let status = build(alloc, &store, journal, build_args(alloc), out, err);
+    let status = build(alloc, &store, journal, ledger, build_args(alloc), out, err);
     (status, store.flushed.replace(Vec::new(alloc)))
 }
 

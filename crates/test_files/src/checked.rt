@@ -1,11 +1,14 @@
 //! A check of files in memory.
 
-ghost use Rattle.std.specs.Prelude.{◌≡◌, ◌<◌, ◌-◌, ◌^◌, None, Some, codes, option_map};
+ghost use Rattle.std.specs.Prelude.{◌≡◌, ◌<◌, ◌-◌, ◌^◌, ◌∷◌, [], None, Some, codes, option_map};
 ghost use Rattle.norprog_common.specs.Chip.{Uniform};
+ghost use Rattle.norprog_common.specs.FileStore.{Adds};
 ghost use Rattle.norprog_common.specs.Request.{asked_chip};
+ghost use Rattle.test_files.specs.Told.{told_names};
 ghost use Rattle.test_files.specs.Worked.{IsYesOf};
 
 use crate::given::{file, files_alone, job_in_memory};
+use crate::listed::Listed;
 use nor_base::ByteOut;
 use norprog_check::check;
 use norprog_common::CheckArgs;
@@ -18,12 +21,15 @@ pub fn check_of<O: ByteOut, E: ByteOut>(
     image: &[u8],
     content: &[u8],
     script: &[u8],
+    ledger: &mut Listed,
     out: &mut O,
     err: &mut E,
 ) -> u8
     requires out { O.count out.old < 2 ^ 64 - 1 }
     requires err { E.count err.old < 2 ^ 64 - 1 }
     ensures yes { result ≡ 0 → IsYesOf image.now content.now script.now }
+    ensures opened { result ≡ 0 → Adds (told_names ledger.old) (told_names ledger.new)
+        (codes "image" ∷ codes "content" ∷ codes "script" ∷ []) }
 {
     let files = [
         file("image", image, 0),
@@ -31,7 +37,7 @@ pub fn check_of<O: ByteOut, E: ByteOut>(
         file("script", script, 2),
     ];
     let store = files_alone(alloc, &files);
-    check(alloc, &store, check_args(alloc), out, err)
+    check(alloc, &store, ledger, check_args(alloc), out, err)
 }
 
 /// The job of files in memory, and the file `script`.

@@ -37,7 +37,7 @@ pub(crate) fn job_in_memory<'a>(alloc: Global) -> Given<'a>
 }
 
 /// A file of this name and number.
-pub(crate) fn file<'a>(name: &'a str, bytes: &'a [u8], inode: u64) -> File<'a>
+pub(crate) fn file<'a>(name: &'static str, bytes: &'a [u8], inode: u64) -> File<'a>
     ensures { result
         ≡ record { name = name.entry; bytes = bytes.entry; id = place inode } }
 {

@@ -1,10 +1,11 @@
 //! Files in memory.
 
-ghost use Rattle.std.specs.Prelude.{◌≡◌, ◌≤◌, ◌<◌, ◌^◌, length, IfOk, IfErr, Some};
+ghost use Rattle.std.specs.Prelude.{◌≡◌, ◌≤◌, ◌<◌, ◌^◌, length, IfOk, IfErr, None, Some};
 ghost use Rattle.norprog_common.specs.Files.{RefusesFile, TellsFile};
 ghost use Rattle.norprog_common.specs.declared.faults.FileName.TheVariants.{Device as TheDevice};
 ghost use Rattle.test_files.specs.Told.{answers_of, file_of, lacks};
 
+use crate::listed::Listed;
 use crate::noted::{Note, Noted};
 use nor_base::{Failed, FromRead, IntoWrite};
 use norprog_common::{FileId, FileName, FileStore, Refusal, ScriptFile};
@@ -17,7 +18,7 @@ const MOST_BYTES: u64 = 1 << 36;
 /// A file in memory.
 #[derive(Clone, Copy)]
 pub struct File<'a> {
-    pub name: &'a str,
+    pub name: &'static str,
     pub bytes: &'a [u8],
     /// Which file it is.
     pub id: FileId,
@@ -47,6 +48,7 @@ impl<'a> Memory<'a> {
         ensures refused { IfErr result (RefusesFile name) }
         ensures lacked { IfErr result
             (TellsFile (lacks self.now.files.now self.now.device path.now)) }
+        ensures absent { IfErr result (λ _. file_of self.now.files.now path.now ≡ None) }
     {
         for file in self.files {
             if file.name == path {
@@ -97,33 +99,41 @@ impl<'a> FileStore for Memory<'a> {
 
     type Journal = Noted;
 
+    type Ledger = Listed;
+
     ghost facts = { λ s. told_files s.files.now s.device };
 
     fn read(
         &self,
+        ledger: &mut Listed,
         alloc: Global,
         path: &str,
         name: FileName,
     ) -> Result<(Vec<u8>, FileId), Refusal> {
         let file = self.file(path, name)?;
+        ledger.note(file.name);
         Ok((whole(alloc, file.bytes, name)?, file.id))
     }
 
     fn open(
         &self,
+        ledger: &mut Listed,
         path: &str,
         name: FileName,
     ) -> Result<(FromRead<&'a [u8]>, FileId, u64), Refusal> {
         let file = self.file(path, name)?;
+        ledger.note(file.name);
         Ok((FromRead::new(file.bytes), file.id, file.bytes.len() as u64))
     }
 
     fn open_script(
         &self,
+        ledger: &mut Listed,
         _alloc: Global,
         path: &str,
     ) -> Result<(ScriptFile<FromRead<&'a [u8]>>, FileId), Refusal> {
         let file = self.file(path, FileName::Script)?;
+        ledger.note(file.name);
         Ok((
             ScriptFile::Twice(FromRead::new(file.bytes), FromRead::new(file.bytes)),
             file.id,

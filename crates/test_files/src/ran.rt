@@ -4,10 +4,11 @@ ghost use Rattle.std.specs.Prelude.{◌≡◌, ◌<◌, ◌-◌, ◌^◌, ◌∷
 ghost use Rattle.norprog_common.specs.Chip.{Uniform};
 ghost use Rattle.norprog_common.specs.FileStore.{Adds, Emptied};
 ghost use Rattle.norprog_common.specs.Setup.{chip_asked};
-ghost use Rattle.test_files.specs.Told.{place, told_changes};
+ghost use Rattle.test_files.specs.Told.{place, told_changes, told_names};
 ghost use Rattle.test_files.specs.Worked.{IsRunOf};
 
 use crate::given::{file, files_alone};
+use crate::listed::Listed;
 use crate::noted::Noted;
 use nor_base::ByteOut;
 use norprog_common::{ChipArgs, RunArgs, SetupArgs};
@@ -22,6 +23,7 @@ pub fn run_of<O: ByteOut, E: ByteOut>(
     content: &[u8],
     script: &[u8],
     journal: &mut Noted,
+    ledger: &mut Listed,
     out: &mut O,
     err: &mut E,
 ) -> (u8, Vec<u8>)
@@ -30,10 +32,12 @@ pub fn run_of<O: ByteOut, E: ByteOut>(
     ensures run { result.0 ≡ 0 → IsRunOf content.now script.now }
     ensures made { result.0 ≡ 0 → Adds (told_changes journal.old) (told_changes journal.new)
         (Emptied (codes "after") (place 0 ∷ place 1 ∷ []) ∷ []) }
+    ensures opened { result.0 ≡ 0 → Adds (told_names ledger.old) (told_names ledger.new)
+        (codes "content" ∷ codes "script" ∷ []) }
 {
     let files = [file("content", content, 0), file("script", script, 1)];
     let store = files_alone(alloc, &files);
-    let status = run(alloc, &store, journal, run_args(), out, err);
+    let status = run(alloc, &store, journal, ledger, run_args(), out, err);
     (status, store.flushed.replace(Vec::new(alloc)))
 }
 

@@ -17,3 +17,4 @@ mod scripts;
 mod steps_done;
 mod store;
 mod strategies;
+mod terminals;

@@ -4,8 +4,8 @@ use Rattle.norprog_details.proofs.MayLemmas.{ask_about}
 use Rattle.norprog_details.specs.Heard.{IsLastLine}
 use Rattle.norprog_cli.proofs.add_lines.Goals as goal
 
-pub returns-then-failures-lt18446744073709551615 : goal.returns-then-failures-lt18446744073709551615
-returns-then-failures-lt18446744073709551615 g c = (
+pub returns-then-failures-lt18446744073709551615-clause-added : goal.returns-then-failures-lt18446744073709551615-clause-added
+returns-then-failures-lt18446744073709551615-clause-added g c = (
   c.as_line-line.result,
   c.as_slice.result.now,
   c.as_line-line.ensures,
@@ -17,3 +17,7 @@ returns-then-failures-lt18446744073709551615 g c = (
 pub write_details-requires-clause-ask : goal.write_details-requires-clause-ask
 write_details-requires-clause-ask g c =
     ask_about (g.S.FileStore.facts c.args.store.now) c.as_line-line.result c.as_slice.result.now (c.requires _ c.as_line-line.ensures)
+
+pub returns-then-failures-lt18446744073709551615-clause-opened : goal.returns-then-failures-lt18446744073709551615-clause-opened
+returns-then-failures-lt18446744073709551615-clause-opened g c =
+    (c.as_line-line.result, c.as_slice.result.now, c.as_line-line.ensures, c.write_details.ensures.opened)

@@ -1,6 +1,7 @@
--- Each command its answer; one that isn't handed the journal changes nothing.
-use Rattle.std.proofs.Common.{refl}
+-- Each command its answer; one that isn't handed the journal changes nothing, and one that isn't handed the ledger opens nothing.
+use Rattle.std.proofs.Common.{refl, []}
 use Rattle.norprog_common.proofs.JournalLemmas.{adds_none}
+use Rattle.norprog_common.proofs.LedgerLemmas.{all_first}
 use Rattle.norprog_cli.proofs.answer_to.Goals as goal
 
 pub returns-in-Check-clause-answer : goal.returns-in-Check-clause-answer
@@ -20,3 +21,42 @@ returns-in-List-clause-answer g c = rw c.in-List.is (record { held = refl; count
 
 pub returns-in-Hex-clause-answer : goal.returns-in-Hex-clause-answer
 returns-in-Hex-clause-answer g c = rw c.in-Hex.is (record { held = refl; count = refl }, refl, c.hex.ensures.answer)
+
+pub returns-in-Build-clause-opened : goal.returns-in-Build-clause-opened
+returns-in-Build-clause-opened g c = rw c.in-Build.is c.build.ensures.opened
+
+pub returns-in-Plan-clause-opened : goal.returns-in-Plan-clause-opened
+returns-in-Plan-clause-opened g c = rw c.in-Plan.is c.plan.ensures.opened
+
+pub returns-in-Check-clause-opened : goal.returns-in-Check-clause-opened
+returns-in-Check-clause-opened g c = rw c.in-Check.is c.check.ensures.opened
+
+pub returns-in-Run-clause-opened : goal.returns-in-Run-clause-opened
+returns-in-Run-clause-opened g c = rw c.in-Run.is c.run.ensures.opened
+
+pub returns-in-List-clause-opened : goal.returns-in-List-clause-opened
+returns-in-List-clause-opened g c = rw c.in-List.is c.list.ensures.opened
+
+pub returns-in-Draw-clause-opened : goal.returns-in-Draw-clause-opened
+returns-in-Draw-clause-opened g c = rw c.in-Draw.is c.draw.ensures.opened
+
+pub returns-in-Play-clause-opened : goal.returns-in-Play-clause-opened
+returns-in-Play-clause-opened g c = rw c.in-Play.is c.play.ensures.opened
+
+pub returns-in-Read-clause-opened : goal.returns-in-Read-clause-opened
+returns-in-Read-clause-opened g c = rw c.in-Read.is c.read.ensures.opened
+
+pub returns-in-Flash-clause-opened : goal.returns-in-Flash-clause-opened
+returns-in-Flash-clause-opened g c = rw c.in-Flash.is c.flash.ensures.opened
+
+pub returns-in-Sfdp-clause-opened : goal.returns-in-Sfdp-clause-opened
+returns-in-Sfdp-clause-opened g c = rw c.in-Sfdp.is c.sfdp.ensures.opened
+
+pub returns-in-Hex-clause-opened : goal.returns-in-Hex-clause-opened
+returns-in-Hex-clause-opened g c = rw c.in-Hex.is c.hex.ensures.opened
+
+pub returns-in-Script-clause-opened : goal.returns-in-Script-clause-opened
+returns-in-Script-clause-opened g c = rw c.in-Script.is c.script.ensures.opened
+
+pub returns-in-Explain-clause-opened : goal.returns-in-Explain-clause-opened
+returns-in-Explain-clause-opened g c = rw c.in-Explain.is (all_first _ _ [] (adds_none _ _ refl), λ zero. adds_none _ _ refl)

@@ -9,7 +9,7 @@ returns-in-Ok-clause-answer g c = (
   Ok c.in-Ok.line,
   (
     subst (λ words. Spells (map string_bytes words) c.in-Ok.line) c.as_slice.ensures.value c.in-Ok.ensures.line,
-    record { answered = c.answer_to-status.new.err; answers = c.answer_to-status.ensures.answer; details = c.add_details.ensures },
+    record { answered = c.answer_to-status.new.err; answers = c.answer_to-status.ensures.answer; details = c.add_details.ensures.added },
   ),
 )
 
@@ -33,3 +33,19 @@ answer_to-status-requires-clause-read g c =
 pub add_details-requires : goal.add_details-requires
 add_details-requires g c =
     (c.requires.read c.in-Ok.line (subst (λ words. Spells (map string_bytes words) c.in-Ok.line) c.as_slice.ensures.value c.in-Ok.ensures.line)).1
+
+-- the files of the command, and then what more is said of a refusal
+pub returns-in-Ok-clause-opened : goal.returns-in-Ok-clause-opened
+returns-in-Ok-clause-opened g c = (
+  Ok c.in-Ok.line,
+  (
+    subst (λ words. Spells (map string_bytes words) c.in-Ok.line) c.as_slice.ensures.value c.in-Ok.ensures.line,
+    record { mid = _; opened = c.answer_to-status.ensures.opened; details = c.add_details.ensures.opened },
+  ),
+)
+
+pub returns-clause-opened : goal.returns-clause-opened
+returns-clause-opened g c = (
+  Err c.in-Err.refusal,
+  (subst (λ words. Refuses (map string_bytes words) c.in-Err.refusal) c.as_slice.ensures.value c.in-Err.ensures.refused, adds_none _ _ refl),
+)

@@ -35,3 +35,13 @@ returns-in_default-2-clause-ends g c = record {
   kept = c.flush_out.ensures.kept;
   ends = inl (search rules, search rules, refl, refl);
 }
+
+-- 0 only where the command's own status is
+pub returns-in-Err-clause-opened : goal.returns-in-Err-clause-opened
+returns-in-Err-clause-opened g c = (c.command-status.result, search rules, c.command-status.ensures.opened)
+
+pub returns-in_default-clause-opened : goal.returns-in_default-clause-opened
+returns-in_default-clause-opened g c = (c.command-status.result, search rules, c.command-status.ensures.opened)
+
+pub returns-in_default-2-clause-opened : goal.returns-in_default-2-clause-opened
+returns-in_default-2-clause-opened g c = (c.command-status.result, λ zero. zero, c.command-status.ensures.opened)

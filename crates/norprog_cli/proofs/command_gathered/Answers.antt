@@ -1,5 +1,5 @@
 -- Nothing is gathered at first, and what is printed to is given back.
-use Rattle.std.proofs.Common.{◌≡◌, ◌∙◌, ℕ, List, [], Option, Some, None, refl, ap, append-nil, subst, sym, inl}
+use Rattle.std.proofs.Common.{◌≡◌, ◌∙◌, ℕ, All, Any, List, [], Option, Some, None, refl, ap, append-nil, rules, subst, sym, inl}
 use Rattle.std.specs.Io.KnownBytes.{append_known, Keeps}
 use Rattle.nor_base.specs.Device.{Ahead}
 use Rattle.norprog_common.specs.FileStore.{FileFacts, Change}
@@ -23,8 +23,8 @@ ends_at {E} {count} {held} {files} {Failed} {Made} {words} {n} {m} {f} {k} {left
     (subst (λ (known : Option (List ℕ)). EndsCommand count held files Failed Made words n f left known last err_before err_after status shown) is
     (subst (λ (known : Option (List ℕ)). EndsCommand count held files Failed Made words n f left before known err_before err_after status shown) ends_as ends)))
 
-pub returns : goal.returns
-returns g c =
+pub returns-clause-ends : goal.returns-clause-ends
+returns-clause-ends g c =
     let count = g.W.ByteOut.count in
     let held = g.W.ByteOut.held in
     let left = c.command_flushed-status.new.out.left.items in
@@ -43,8 +43,8 @@ keeps_all None = tt
 keeps_all (Some bytes) = append-nil bytes
 
 -- what isn't gathered has gone out
-pub returns-then-any : goal.returns-then-any
-returns-then-any g c = (
+pub returns-then-is_flash_among-clause-ends : goal.returns-then-is_flash_among-clause-ends
+returns-then-is_flash_among-clause-ends g c = (
   [],
   record {
     written = g.W.ByteOut.held c.command-status.new.out;
@@ -57,3 +57,17 @@ returns-then-any g c = (
   },
   λ zero. refl,
 )
+
+pub returns-then-is_flash_among-clause-opened : goal.returns-then-is_flash_among-clause-opened
+returns-then-is_flash_among-clause-opened g c = (c.command-status.result, λ zero. zero, c.command-status.ensures.opened)
+
+-- what is so of none isn't so of some
+none_any : {X : Type 0} (P : X → Type 0) (xs : List X) → All (λ x. P x → ⊥) xs → Any P xs → ⊥
+none_any P xs none some = subst (λ x. P x → ⊥) some.3 (none some.0 some.1 some.2) some.4
+
+-- `flash` prints at once
+pub returns-then-is_flash_among-clause-direct : goal.returns-then-is_flash_among-clause-direct
+returns-then-is_flash_among-clause-direct g c = λ flash. c.command-status.ensures.answer
+
+pub returns-clause-direct : goal.returns-clause-direct
+returns-clause-direct g c = λ flash. absurd (none_any _ _ (search rules) flash)

@@ -18,7 +18,7 @@ returns-then-is_terminal g c = record {
   before = _;
   after = _;
   shown = _;
-  ends = c.run_words.ensures;
+  ends = c.run_words.ensures.ends;
 }
 
 pub returns-else-is_terminal : goal.returns-else-is_terminal
@@ -30,5 +30,5 @@ returns-else-is_terminal g c = record {
   before = _;
   after = _;
   shown = _;
-  ends = c.run_words-else-is_terminal.ensures;
+  ends = c.run_words-else-is_terminal.ensures.ends;
 }

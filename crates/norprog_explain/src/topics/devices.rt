@@ -59,8 +59,8 @@ pub(crate) const TOPICS: &[Topic] = &[
     ),
     (
         "unlike busy",
-        "The chip said busy at each status read, as many as --limit allows. play sent no\n\
-         step. Wait until its work is done, give a greater --limit, or power it off and\n\
+        "The chip said busy at each status read, as many as --limit allows. No step was\n\
+         sent. Wait until its work is done, give a greater --limit, or power it off and\n\
          on.",
     ),
     (
@@ -70,14 +70,14 @@ pub(crate) const TOPICS: &[Topic] = &[
          power. Two digits are its bits 7 to 0: bit 1 is the write enable latch, bits 2\n\
          to 5 are block protection. Six digits are bits 23 to 0, as --status takes them:\n\
          14 and 18 protect too, 15 says suspended, and 16 and 9 must be the address mode\n\
-         and the quad setting that the options say. play sent no step. Unprotect the\n\
+         and the quad setting that the options say. No step was sent. Unprotect the\n\
          chip, clear its latch (04), or give its --status, and build anew.",
     ),
     (
         "unlike tables",
         "The chip's SFDP bytes aren't those of the --sfdp file: at this address of the\n\
          tables it has another byte. It is another chip than the file's, or the device\n\
-         reads wrongly. play sent no step. Read the chip's SFDP bytes and the chip\n\
+         reads wrongly. No step was sent. Read the chip's SFDP bytes and the chip\n\
          itself again, and build anew from them.",
     ),
     (
@@ -93,6 +93,14 @@ pub(crate) const TOPICS: &[Topic] = &[
          the chip lost its power. No file was made. Seat the clip anew, and read again.",
     ),
     (
+        "unlike line",
+        "What came from the chip doesn't show that its tty hands on each byte as it is:\n\
+         it has 0Ah without 0Dh (or 0Dh without 0Ah), small letters without capitals, or\n\
+         no byte from 80h on, as after icrnl, inlcr, iuclc or istrip. No file was made,\n\
+         and no step was sent. Set the tty first: stty -F DEVICE 115200 raw -echo min 0\n\
+         time 20. Where it is set so, the chip holds just such bytes: add --raw.",
+    ),
+    (
         "unreadable",
         "The chip can't be read whole: it is larger than three address bytes reach, and\n\
          its tables offer no read with four and no way into four-byte address mode. Or\n\
@@ -103,15 +111,15 @@ pub(crate) const TOPICS: &[Topic] = &[
         "unlike differs",
         "At this address the chip holds another byte than the dump, the content file;\n\
          without an address the device answered by a byte that serprog hasn't there. It\n\
-         is another chip, or it was written after the dump was read. play sent no step.\n\
+         is another chip, or it was written after the dump was read. No step was sent.\n\
          Read the chip again, whole, and build anew from that dump.",
     ),
     (
         "unlike",
-        "play couldn't read the chip before the steps: the device was silent or refused\n\
-         a command (nak), or reading from it or writing to it failed. play sent no step.\n\
-         Check its line and its power, after `write` power it off and on, since it may\n\
-         wait for the rest of a request, and play again.",
+        "norprog couldn't read the chip: the device was silent or refused a command\n\
+         (nak), or reading from it or writing to it failed. No step was sent. Check its\n\
+         line and its power, after `write` power it off and on, since it may wait for\n\
+         the rest of a request, and try again.",
     ),
     (
         "blank",

@@ -57,8 +57,9 @@ pub(crate) const TOPICS: &[Topic] = &[
     ),
     (
         "file device",
-        "The device isn't there, you may not read and write it, or it is no character\n\
-         device, as a tty is. Check its name and its rights. norprog sent nothing to it.",
+        "The device isn't there, you may not read and write it, or it is no terminal: no\n\
+         line of /proc/tty/drivers has its numbers. Check its name and its rights.\n\
+         norprog sent nothing to it.",
     ),
     (
         "file bin",

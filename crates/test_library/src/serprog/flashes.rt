@@ -719,6 +719,7 @@ fn job_of<'a>(row: &Row, old: &'a [u8]) -> Job<'a>
             turns: 3,
             content: true,
             erased_only: false,
+            raw: false,
         },
         hex: row.hex.as_bytes(),
         layout: None,

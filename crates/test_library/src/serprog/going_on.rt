@@ -6,7 +6,7 @@ use crate::serprog::canned::{End, Held};
 use crate::serprog::flashes::stopped_answers;
 use crate::serprog::store::Store;
 use nor_base::{Bytes, IntoWrite};
-use norprog_common::{ChipArgs, Unrecorded};
+use norprog_common::{ChipArgs, Unlisted, Unrecorded};
 use norprog_flash::{FlashArgs, flash};
 use std::alloc::{AllocError, Global};
 use std::cell::Cell;
@@ -38,7 +38,7 @@ static ROWS: [(Option<&str>, bool, &str, &str); 2] = [
         Some("tables"),
         false,
         "tables",
-        "norprog flash --uniform=8192 --device=device --limit=3 --hex=content --strict \
+        "norprog flash --uniform=8192 --device=device --limit=3 --hex=content --strict --raw \
         --resume=tables --before='it'\\''s kept'.2\n",
     ),
 ];
@@ -77,6 +77,7 @@ fn args_of(
         erased_only: false,
         strict: !all,
         dry_run: false,
+        raw: !all,
         regions: names(alloc, all)?,
     })
 }
@@ -101,6 +102,7 @@ fn told_of(
         alloc,
         &store,
         &mut journal,
+        &mut Unlisted,
         given,
         &mut out,
         &mut err,

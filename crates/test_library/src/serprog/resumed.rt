@@ -93,6 +93,7 @@ fn job_for<'a>(older: &'a [u8]) -> Job<'a>
             turns: 3,
             content: true,
             erased_only: false,
+            raw: false,
         },
         hex: HEX,
         layout: None,

@@ -6,7 +6,7 @@ use crate::serprog::canned::{End, Held};
 use crate::serprog::line::{ANSWERS, PUT, joined};
 use crate::serprog::store::Store;
 use nor_base::IntoWrite;
-use norprog_common::{ChipArgs, PlayArgs, SetupArgs, Unrecorded};
+use norprog_common::{ChipArgs, PlayArgs, SetupArgs, Unlisted, Unrecorded};
 use norprog_play::play;
 use std::alloc::{AllocError, Global};
 use std::cell::Cell;
@@ -739,6 +739,7 @@ fn tells<'a>(
         alloc,
         &store,
         &mut journal,
+        &mut Unlisted,
         given(row),
         &mut out,
         &mut err,

@@ -5,7 +5,7 @@ ghost use Rattle.norprog_common.specs.Files.{RefusesFile, IsOfFiles};
 
 use crate::serprog::canned::{Canned, End};
 use nor_base::{Failed, FromRead, IntoWrite};
-use norprog_common::{FileId, FileName, FileStore, Refusal, ScriptFile, Unrecorded};
+use norprog_common::{FileId, FileName, FileStore, Refusal, ScriptFile, Unlisted, Unrecorded};
 use std::alloc::Global;
 use std::cell::Cell;
 use std::io;
@@ -119,10 +119,13 @@ impl<'a> FileStore for Store<'a> {
 
     type Journal = Unrecorded;
 
+    type Ledger = Unlisted;
+
     ghost facts = { λ _. nothing_known };
 
     fn read(
         &self,
+        _ledger: &mut Unlisted,
         alloc: Global,
         path: &str,
         name: FileName,
@@ -133,6 +136,7 @@ impl<'a> FileStore for Store<'a> {
 
     fn open(
         &self,
+        _ledger: &mut Unlisted,
         path: &str,
         name: FileName,
     ) -> Result<(FromRead<&'a [u8]>, FileId, u64), Refusal> {
@@ -142,6 +146,7 @@ impl<'a> FileStore for Store<'a> {
 
     fn open_script(
         &self,
+        _ledger: &mut Unlisted,
         _alloc: Global,
         path: &str,
     ) -> Result<(ScriptFile<FromRead<&'a [u8]>>, FileId), Refusal> {

@@ -269,6 +269,8 @@ fn job_of(row: &Row) -> Job<'static>
             turns: 3,
             content: true,
             erased_only: row.erased_only,
+            // some of the tables have a line feed, and no carriage return
+            raw: true,
         },
         hex: row.hex,
         layout: None,

@@ -8,6 +8,7 @@ use Rattle.norprog_common.specs.Reading.{HasFailed}
 use Rattle.norprog_common.specs.Strict.{Filled}
 use Rattle.norprog_common.specs.declared.faults.FileName.TheVariants.{Out}
 use Rattle.norprog_common.proofs.ToldLemmas.{and_also, answer_is}
+use Rattle.norprog_common.proofs.LedgerLemmas.{opens_answered}
 use Rattle.norprog_build.proofs.command.build.Goals as goal
 
 pub returns-clause-answer : goal.returns-clause-answer
@@ -29,3 +30,7 @@ returns-clause-answer g c =
     c.report_build.ensures.done c.report_build.ensures.journal c.report_build.ensures.printed c.report_build.ensures.unprinted
     (and_also (asks_build given) Refuses Holds c.report_build.result c.report_build.ensures.first.0 c.report_build.ensures.first.1)
     c.answered.ensures.done c.answered.ensures.told
+
+-- the files that the texts name are opened in their order, each once
+pub returns-clause-opened : goal.returns-clause-opened
+returns-clause-opened g c = opens_answered _ _ _ _ _ _ c.answered.ensures.told c.report_build.ensures.opened

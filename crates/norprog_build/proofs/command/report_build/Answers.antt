@@ -11,7 +11,8 @@ use Rattle.norprog_common.specs.Reading.{HasFailed}
 use Rattle.norprog_common.specs.Strict.{Filled}
 use Rattle.norprog_build.proofs.AnswerLemmas.{gone, rose}
 use Rattle.norprog_build.proofs.ServedLemmas.{build_filled, build_holds, build_may, build_refused, build_asked}
-use Rattle.norprog_common.proofs.ServedLemmas.{no_job}
+use Rattle.norprog_common.proofs.ServedLemmas.{asks_of, no_job}
+use Rattle.norprog_common.proofs.LedgerLemmas.{all_first, files_are}
 use Rattle.norprog_build.proofs.command.report_build.Goals as goal
 
 -- the files that the request names are those that the texts name
@@ -103,3 +104,11 @@ returns-in-Ok-clause-done g c = (
   build_asked c.args.given c.request_of.result c.in_ok-request.request c.in_ok-path.path.now
       c.in_ok-request.ensures.ok_part c.request_of.ensures.forms (ap (option_map (λ t. t.now)) c.in_ok-path.ensures.ok_part),
 )
+
+-- the files that were opened are those that the texts name
+pub returns-clause-opened : goal.returns-clause-opened
+returns-clause-opened g c =
+    let job = c.args.given.job in
+    let request = c.in_ok-request.request in
+    rw (files_are job request (asks_of job c.request_of.result request c.in_ok-request.ensures.ok_part c.request_of.ensures.values))
+    (all_first _ _ _ c.in_ok-report.ensures.opened)

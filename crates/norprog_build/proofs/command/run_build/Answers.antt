@@ -13,6 +13,7 @@ use Rattle.norprog_common.specs.declared.faults.FileName.TheVariants.{Out}
 use Rattle.norprog_build.proofs.AnswerLemmas.{build_blames, build_broke, memory_of_build, report_of, refusal_of_build, empty_refused, file_refused}
 use Rattle.norprog_common.proofs.ServedLemmas.{job_of}
 use Rattle.norprog_common.specs.Reading.{HasFailed}
+use Rattle.norprog_common.proofs.LedgerLemmas.{all_first, all_opened}
 use Rattle.norprog_build.proofs.command.run_build.Goals as goal
 
 pub returns-clause-built : goal.returns-clause-built
@@ -143,3 +144,14 @@ returns-clause-memory g c =
     _ _ _ _ _ _ c.build-answer.result c.flush-flushed.result _ (asked, c.in-Ok.ensures.filled) c.build-answer.ensures.refused (ap g.S.Output.ByteOut.held)
     (inr c.flush-flushed.ensures.closed)
     (build_blames g.S.Input.ByteIn.ahead g.S.Input.ByteIn.count _ _ _ c.build-answer.result c.build-answer.ensures.within c.build-answer.ensures.counts.0) c.done.ensures
+
+-- all files are opened before the output is made, whatever comes of it
+pub returns-clause-opened : goal.returns-clause-opened
+returns-clause-opened g c = all_opened _ _ (input_files_of c.args.request.now) c.done.result c.in_ok-texts.ensures.opened
+
+pub returns-in-Err-clause-opened : goal.returns-in-Err-clause-opened
+returns-in-Err-clause-opened g c = all_first _ _ (input_files_of c.args.request.now) c.in_ok-texts.ensures.opened
+
+pub returns-in_err-script-clause-opened : goal.returns-in_err-script-clause-opened
+returns-in_err-script-clause-opened g c =
+    all_opened _ _ (input_files_of c.args.request.now) c.from_residual-in_err-script.result c.in_ok-texts.ensures.opened

@@ -1,15 +1,17 @@
 -- The verdict is on what the texts ask for.
-use Rattle.std.proofs.Common.{ap, inr, is_some, None, option_map, ◌&&◌}
+use Rattle.std.proofs.Common.{ap, inr, is_some, refl, None, option_map, ◌&&◌}
 use Rattle.norprog_common.specs.FileStore.{IsTextIn}
 use Rattle.norprog_common.specs.Reading.{HasFailed}
 use Rattle.norprog_common.specs.Strict.{Filled}
 use Rattle.nor_base.proofs.FaultLaws.{handed_on}
 use Rattle.norprog_common.proofs.ToldLemmas.{or_usage}
-use Rattle.norprog_check.specs.Served.{asks_check, ServesCheck, ServesScript}
+use Rattle.norprog_check.specs.Served.{asks_check, files_asked, ServesCheck, ServesScript}
 use Rattle.norprog_common.specs.Served.{IsJobOf}
 use Rattle.norprog_check.proofs.AnswerLemmas.{rose, verdict_wider}
-use Rattle.norprog_check.proofs.ServedLemmas.{check_filled, check_may, check_refused, check_asked, script_serves}
+use Rattle.norprog_check.proofs.ServedLemmas.{check_filled, check_files, check_may, check_refused, check_asked, script_serves}
 use Rattle.norprog_common.proofs.ServedLemmas.{no_job}
+use Rattle.norprog_common.proofs.LedgerLemmas.{all_first, failed_opened, none_opened}
+use Rattle.norprog_common.proofs.JournalLemmas.{adds_none}
 use Rattle.norprog_check.proofs.command.report_check.Goals as goal
 
 -- the files that the request names are those that the texts name
@@ -75,3 +77,31 @@ returns-in_err-request-clause-first g c =
     handed_on _ _ _ c.from_residual.ensures.1
     (no_job (asks_check c.args.given) c.args.given.job c.request_of.result _ c.in_err-request.field-0.0
     (ap (λ b. b && is_some c.args.given.script)) c.request_of.ensures.forms c.in_err-request.ensures.ok_part c.in_err-request.ensures.value)
+
+-- the files that were opened are those that the texts name
+pub returns-in-Ok-clause-opened : goal.returns-in-Ok-clause-opened
+returns-in-Ok-clause-opened g c =
+    let same = check_files c.args.given c.request_of.result c.in_ok-request.request c.in_ok-path.path.now c.in_ok-request.ensures.ok_part
+    c.request_of.ensures.values (ap (option_map (λ t. t.now)) c.in_ok-path.ensures.ok_part) in
+    rw same c.in_ok-found.ensures.opened
+
+pub returns-clause-opened : goal.returns-clause-opened
+returns-clause-opened g c =
+    let same = check_files c.args.given c.request_of.result c.in_ok-request.request c.in_ok-path.path.now c.in_ok-request.ensures.ok_part
+    c.request_of.ensures.values (ap (option_map (λ t. t.now)) c.in_ok-path.ensures.ok_part) in
+    rw same (all_first _ _ _ c.in_ok-found.ensures.opened)
+
+pub returns-in_err-found-clause-opened : goal.returns-in_err-found-clause-opened
+returns-in_err-found-clause-opened g c =
+    let same = check_files c.args.given c.request_of.result c.in_ok-request.request c.in_ok-path.path.now c.in_ok-request.ensures.ok_part
+    c.request_of.ensures.values (ap (option_map (λ t. t.now)) c.in_ok-path.ensures.ok_part) in
+    rw same (failed_opened _ _ _ _ _ c.from_residual-in_err-found.ensures.1 c.in_err-found.ensures.opened)
+
+-- where the texts ask for nothing none is
+pub returns-in_err-request-clause-opened : goal.returns-in_err-request-clause-opened
+returns-in_err-request-clause-opened g c =
+    failed_opened _ _ (files_asked c.args.given) _ _ c.from_residual.ensures.1 (none_opened _ _ (files_asked c.args.given) (adds_none _ _ refl))
+
+pub returns-in_err-path-clause-opened : goal.returns-in_err-path-clause-opened
+returns-in_err-path-clause-opened g c =
+    failed_opened _ _ (files_asked c.args.given) _ _ c.from_residual-in_err-path.ensures.1 (none_opened _ _ (files_asked c.args.given) (adds_none _ _ refl))

@@ -1,18 +1,20 @@
 -- The verdict, or the stop, is that of the request's job and script.
-use Rattle.std.proofs.Common.{None, Some, inl, inr, option_map, refl}
+use Rattle.std.proofs.Common.{[], ◌∷◌, ◌++◌, None, Some, inl, inr, option_map, refl}
 use Rattle.norprog_common.specs.Chip.{origin_of}
 use Rattle.norprog_common.specs.FileStore.{IsTextIn, Lacks, tables_name}
 use Rattle.norprog_common.specs.Told.{OrScript}
 use Rattle.norprog_common.proofs.StoreLemmas.{text_in}
 use Rattle.norprog_common.specs.Reading.{FailsReading, HasFailed}
 use Rattle.norprog_common.proofs.ReadingLemmas.{fails_in, read_in}
-use Rattle.norprog_common.specs.Served.{IsJobOf, held_in, no_path, paths_of, script_path}
+use Rattle.norprog_common.specs.Served.{IsJobOf, held_in, input_files_of, no_path, paths_of, script_path}
 use Rattle.norprog_common.specs.Strict.{Filled}
 use Rattle.nor_base.proofs.FaultLaws.{handed_on}
 use Rattle.norprog_common.specs.declared.faults.FileName.TheVariants as file
 use Rattle.norprog_common.proofs.LackedLemmas.{lacks_at, lacks_own, may_job}
 use Rattle.norprog_common.proofs.ServedLemmas.{of_one, job_of}
 use Rattle.norprog_check.proofs.AnswerLemmas.{verdicts_wider, refusals_wider, asked_refused, empty_refused, lacked_refused}
+use Rattle.norprog_common.proofs.JournalLemmas.{adds_both}
+use Rattle.norprog_common.proofs.LedgerLemmas.{all_opened, failed_opened, first_of_more}
 use Rattle.norprog_check.proofs.command.run_check.Goals as goal
 
 -- the files of the job may be read, and so may the script's
@@ -77,3 +79,27 @@ returns-in_err-script-clause-refused g c =
     (lacked_refused c.args.request.now.strict (Lacks files paths) (OrScript (Lacks files paths) (FailsReading files Failed c.args.path.now)) ⊥
     (IsJobOf files c.args.request.now None) (IsTextIn files c.args.path.now) Failed _ (λ name lacks. inl lacks)
     (lacks_at files paths file.Script c.args.path.now _ refl c.in_err-script.ensures.refused c.in_err-script.ensures.lacked))
+
+-- the script's file is opened after those of the job, whatever comes of it
+pub returns-clause-opened : goal.returns-clause-opened
+returns-clause-opened g c =
+    let names = input_files_of c.args.request.now in
+    all_opened _ _ (names ++ (c.args.path.now ∷ [])) c.check_file.result
+    (adds_both _ _ _ names (c.args.path.now ∷ []) c.in_ok-texts.ensures.opened c.in_ok-script.ensures.ledger)
+
+pub returns-in_err-refuse_empty-clause-opened : goal.returns-in_err-refuse_empty-clause-opened
+returns-in_err-refuse_empty-clause-opened g c =
+    let names = input_files_of c.args.request.now in
+    all_opened _ _ (names ++ (c.args.path.now ∷ [])) c.from_residual-in_err-refuse_empty.result
+    (adds_both _ _ _ names (c.args.path.now ∷ []) c.in_ok-texts.ensures.opened c.in_ok-script.ensures.ledger)
+
+pub returns-in_err-script-clause-opened : goal.returns-in_err-script-clause-opened
+returns-in_err-script-clause-opened g c =
+    let names = input_files_of c.args.request.now in
+    all_opened _ _ (names ++ (c.args.path.now ∷ [])) c.from_residual-in_err-script.result
+    (adds_both _ _ _ names (c.args.path.now ∷ []) c.in_ok-texts.ensures.opened c.in_err-script.ensures.ledger)
+
+pub returns-in_err-texts-clause-opened : goal.returns-in_err-texts-clause-opened
+returns-in_err-texts-clause-opened g c =
+    failed_opened _ _ _ _ _ c.from_residual.ensures.1
+    (first_of_more _ _ (input_files_of c.args.request.now) (c.args.path.now ∷ []) c.in_err-texts.ensures.opened)

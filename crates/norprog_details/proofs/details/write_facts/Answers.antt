@@ -4,7 +4,7 @@ use Rattle.std.specs.Prelude.{codes, option_map, string_bytes}
 use Rattle.std.specs.Str.{bytes_eq}
 use Rattle.nor_base.specs.Device.{Writes}
 use Rattle.norprog_details.specs.Subject.{option_of}
-use Rattle.norprog_details.specs.Details.{about_lines, AreFacts, AreFactsIf, IsSaidOf}
+use Rattle.norprog_details.specs.Details.{about_lines, AreFacts, AreFactsIf, IsSaidOf, OpensAbout}
 use Rattle.norprog_details.proofs.details.write_facts.Goals as goal
 
 pub returns-clause-bytes : goal.returns-clause-bytes
@@ -16,7 +16,7 @@ returns-clause-bytes g c =
     let trouble = option_map string_bytes c.trouble_of-trouble.result in
     let text = c.held_by-text.result.items in
     let said = about_lines pair trouble text (map (λ (name : Bor (List ℕ)). name.now) line.regions.now) refusal in
-    let of : IsSaidOf files line refusal (Some pair) said = (trouble, text, c.trouble_of-trouble.ensures, c.held_by-text.ensures, refl) in
+    let of : IsSaidOf files line refusal (Some pair) said = (trouble, text, c.trouble_of-trouble.ensures, c.held_by-text.ensures.held, refl) in
     let other : false ≡ bytes_eq refusal (codes "norprog: usage") = search rules in
     let is : Some pair ≡ option_of line.typed.now refusal = search rules in
     let are : AreFacts files line refusal said =
@@ -39,3 +39,11 @@ held_by-text-requires g c =
     let pair : List ℕ × List ℕ = (c.in-Some.option.name.now, c.in-Some.option.value.now) in
     let is : Some pair ≡ option_of c.args.line.typed.now c.args.refusal.now = search rules in
     c.requires.ask pair (sym is)
+
+-- its file is the only one that is opened
+pub returns-clause-opened : goal.returns-clause-opened
+returns-clause-opened g c =
+    let opened = g.S.Ledger.Ledger.opened in
+    let pair : List ℕ × List ℕ = (c.in-Some.option.name.now, c.in-Some.option.value.now) in
+    let is : Some pair ≡ option_of c.args.line.typed.now c.args.refusal.now = search rules in
+    subst (λ (o : Option (List ℕ × List ℕ)). OpensAbout (opened c.args.ledger.now) (opened c.held_by-text.new.ledger) o) is c.held_by-text.ensures.opened

@@ -5,6 +5,7 @@ use Rattle.nor_base.specs.Device.{Writes}
 use Rattle.nor_base.proofs.FaultLaws.{handed_on}
 use Rattle.nor_waves.specs.Waves.{waves}
 use Rattle.norprog_common.proofs.JournalLemmas.{adds_none}
+use Rattle.norprog_common.proofs.LedgerLemmas.{all_first, all_opened, failed_opened}
 use Rattle.norprog_common.specs.FileStore.{Adds, HasGone, Lacks, TookNothing}
 use Rattle.norprog_common.specs.declared.faults.FileName.TheVariants.{Script, Out}
 use Rattle.norprog_common.proofs.LackedLemmas.{lacks_at}
@@ -90,3 +91,16 @@ returns-in_err-out-clause-unmade g c =
 
 pub returns-clause-unmade : goal.returns-clause-unmade
 returns-clause-unmade g c = unmade_done _ _ c.draw_steps-answer.result c.flush-flushed.result _ c.done.ensures
+
+-- the script is opened once, whatever comes of the work
+pub returns-in_err-script-clause-opened : goal.returns-in_err-script-clause-opened
+returns-in_err-script-clause-opened g c = failed_opened _ _ _ _ _ c.from_residual.ensures.1 (all_first _ _ _ c.in_err-script.ensures.ledger)
+
+pub returns-in_err-steps-clause-opened : goal.returns-in_err-steps-clause-opened
+returns-in_err-steps-clause-opened g c = failed_opened _ _ _ _ _ c.from_residual-in_err-steps.ensures.1 (all_first _ _ _ c.in_ok-script.ensures.ledger)
+
+pub returns-in_err-out-clause-opened : goal.returns-in_err-out-clause-opened
+returns-in_err-out-clause-opened g c = failed_opened _ _ _ _ _ c.from_residual-in_err-out.ensures.1 (all_first _ _ _ c.in_ok-script.ensures.ledger)
+
+pub returns-clause-opened : goal.returns-clause-opened
+returns-clause-opened g c = all_opened _ _ _ c.done.result c.in_ok-script.ensures.ledger

@@ -1,8 +1,10 @@
 -- The ending, or why there is none, is reported.
 use Rattle.std.proofs.Common.{◌<◌, inl, inr, ap, subst, ℕ, arith}
 use Rattle.norprog_common.specs.FileStore.{Breaks}
+use Rattle.norprog_common.proofs.LedgerLemmas.{all_first}
 use Rattle.norprog_flash.specs.Answer.{family_of}
 use Rattle.norprog_flash.proofs.CountLemmas.{breaks_later, ending_wider, told_wider, unflashed_wider}
+use Rattle.norprog_read.proofs.ReportLemmas.{not_zero}
 use Rattle.norprog_flash.proofs.command.flash.Goals as goal
 
 pub returns-in-Ok-clause-answer : goal.returns-in-Ok-clause-answer
@@ -39,6 +41,14 @@ returns-clause-answer g c =
       reported = unflashed_wider _ (Breaks files n p) (λ rose. inr (omega (arith, low, rose))) _ _ _ _ _ _ _ c.in-Err.why c.family_of.result
           (family_of c.args.given) c.family_of.ensures c.report_unflashed.ensures.reported;
     })
+
+-- its status is 0 only where all were opened
+pub returns-in-Ok-clause-opened : goal.returns-in-Ok-clause-opened
+returns-in-Ok-clause-opened g c = (all_first _ _ _ c.in-Ok.ensures.opened, λ zero. c.in-Ok.ensures.opened)
+
+pub returns-clause-opened : goal.returns-clause-opened
+returns-clause-opened g c =
+    (c.in-Err.ensures.opened, λ zero. absurd (not_zero c.report_unflashed.result c.report_unflashed.ensures.some zero))
 
 pub flash_texts-requires-clause-read : goal.flash_texts-requires-clause-read
 flash_texts-requires-clause-read g c = c.requires.read

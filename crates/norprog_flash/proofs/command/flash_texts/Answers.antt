@@ -1,8 +1,9 @@
 -- The job of the texts, and its ending.
-use Rattle.std.proofs.Common.{◌≡◌, ℕ, true, List, rules, subst, refl}
+use Rattle.std.proofs.Common.{◌≡◌, ℕ, true, List, rules, sym, subst, refl}
 use Rattle.nor_base.proofs.FaultLaws.{answered, handed_on}
-use Rattle.norprog_common.specs.FileStore.{Adds}
+use Rattle.norprog_common.specs.FileStore.{Adds, OpensFirst}
 use Rattle.norprog_common.proofs.JournalLemmas.{adds_none}
+use Rattle.norprog_common.proofs.LedgerLemmas.{all_opened, failed_opened}
 use Rattle.norprog_flash.specs.declared.ending.Unflashed.TheVariants.{Refused}
 use Rattle.norprog_flash.specs.Answer.{IsUnbegunFor}
 use Rattle.norprog_flash.specs.Request.{is_well_formed, AsksFor}
@@ -11,7 +12,7 @@ use Rattle.norprog_flash.specs.Served.{paths_of}
 use Rattle.norprog_flash.specs.Stops.{CountsOut}
 use Rattle.norprog_flash.specs.Worked.{Showing}
 use Rattle.norprog_flash.proofs.CountLemmas.{lacked_told}
-use Rattle.norprog_flash.proofs.ServedLemmas.{ending_by, lacked_by, may_by, unbegun_by, wanted}
+use Rattle.norprog_flash.proofs.ServedLemmas.{ending_by, files_are, lacked_by, may_by, unbegun_by, wanted}
 use Rattle.norprog_read.specs.Request.{IsAskOf}
 use Rattle.norprog_flash.proofs.command.flash_texts.Goals as goal
 
@@ -46,7 +47,7 @@ returns-clause-ends g c =
     (record {
       held = c.in_ok-files.files;
       given = c.in_ok-files.ensures.given;
-      ask = record { known = e.known; bits = e.bits; part = e.part; mode4 = e.mode4; turns = e.turns; content = e.content };
+      ask = record { known = e.known; bits = e.bits; part = e.part; mode4 = e.mode4; turns = e.turns; content = e.content; raw = e.raw };
       erased_only = refl;
       hex = c.as_slice-2.ensures.value;
       layout = c.bytes_in.ensures;
@@ -69,7 +70,7 @@ returns-clause-unbegun g c =
     (record {
       held = c.in_ok-files.files;
       given = c.in_ok-files.ensures.given;
-      ask = record { known = e.known; bits = e.bits; part = e.part; mode4 = e.mode4; turns = e.turns; content = e.content };
+      ask = record { known = e.known; bits = e.bits; part = e.part; mode4 = e.mode4; turns = e.turns; content = e.content; raw = e.raw };
       erased_only = refl;
       hex = c.as_slice-2.ensures.value;
       layout = c.bytes_in.ensures;
@@ -89,3 +90,15 @@ returns-in_err-files-clause-counts g c =
     answered c.from_residual-in_err-files.result (λ r. CountsOut files n n r) (Refused c.in_err-files.field-0.0)
     (lacked_told files n (Lacks files (paths_of c.in_ok-request.request)) c.in_err-files.field-0.0 c.in_err-files.ensures.lacked)
     c.from_residual-in_err-files.ensures.1
+
+-- the files are opened once, in order
+pub returns-clause-opened : goal.returns-clause-opened
+returns-clause-opened g c =
+    let asks : AsksFor c.args.given.now c.in_ok-request.request = search rules in
+    all_opened _ _ _ c.flash_device.result (subst (Adds _ _) (sym (files_are c.args.given.now c.in_ok-request.request asks)) c.in_ok-files.ensures.opened)
+
+pub returns-in_err-files-clause-opened : goal.returns-in_err-files-clause-opened
+returns-in_err-files-clause-opened g c =
+    let asks : AsksFor c.args.given.now c.in_ok-request.request = search rules in
+    failed_opened _ _ _ _ _ c.from_residual-in_err-files.ensures.1
+    (subst (OpensFirst _ _) (sym (files_are c.args.given.now c.in_ok-request.request asks)) c.in_err-files.ensures.opened)

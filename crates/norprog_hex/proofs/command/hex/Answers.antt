@@ -1,5 +1,6 @@
 -- What is answered is what the work came to.
 use Rattle.std.proofs.Common.{[], option_map, option_to_list}
+use Rattle.norprog_common.proofs.LedgerLemmas.{opens_answered}
 use Rattle.norprog_common.specs.FileStore.{Adds, HasGone, LacksEarly}
 use Rattle.norprog_common.specs.Reading.{HasFailed}
 use Rattle.norprog_common.specs.Told.{ForAsked}
@@ -21,3 +22,7 @@ returns-clause-answer g c =
     (RefusesHex (LacksEarly files (paths_asked given) Out (Adds (changes c.args.journal.now) (changes c.converted_in.new.journal) [])) files.broke (HasFailed g.S.Input.ByteIn.ahead g.S.Input.ByteIn.count) (HasGone files) (ServesBin files given) (Serves files given)) _ _ c.converted_in.result c.answered.result
     c.converted_in.ensures.done c.converted_in.ensures.journal c.converted_in.ensures.written c.converted_in.ensures.first
     c.converted_in.ensures.unmade c.answered.ensures.done c.answered.ensures.told
+
+-- the raw image is opened once
+pub returns-clause-opened : goal.returns-clause-opened
+returns-clause-opened g c = opens_answered _ _ _ _ _ _ c.answered.ensures.told c.converted_in.ensures.opened

@@ -2,6 +2,7 @@
 use Rattle.std.proofs.Common.{[], ◌∷◌, Some, inl, inr, arith, refl}
 use Rattle.nor_base.proofs.FaultLaws.{handed_on}
 use Rattle.norprog_common.proofs.JournalLemmas.{adds_none}
+use Rattle.norprog_common.proofs.LedgerLemmas.{all_first, all_opened, failed_opened}
 use Rattle.norprog_common.specs.FileStore.{Adds, HasGone, LacksEarly}
 use Rattle.norprog_hex.specs.Answer.{IsUnmade, IsUntaken}
 use Rattle.norprog_common.specs.Reading.{HasFailed}
@@ -84,3 +85,16 @@ returns-clause-unmade g c =
     (is_untaken files c.args.request _ c.in_ok-bin.len c.in_ok-bin.ensures.opened (Unit {0}) _ _ (c.in_ok-bin.place ∷ [], (c.in_ok-bin.ensures.stood, tt), c.in_ok-out.ensures.made)
     (omega (arith, c.if-len-from.false, c.from.ensures)) (Adds (changes c.args.journal.now) (changes c.create.new.journal)) (inr c.flush-flushed.ensures.closed))
     c.write_bin-answer.ensures.stopped c.done.ensures
+
+-- the raw image is opened once, whatever comes of the work
+pub returns-in_err-bin-clause-opened : goal.returns-in_err-bin-clause-opened
+returns-in_err-bin-clause-opened g c = failed_opened _ _ _ _ _ c.from_residual.ensures.1 (all_first _ _ _ c.in_err-bin.ensures.ledger)
+
+pub returns-then-len-from-clause-opened : goal.returns-then-len-from-clause-opened
+returns-then-len-from-clause-opened g c = all_first _ _ _ c.in_ok-bin.ensures.ledger
+
+pub returns-in_err-out-clause-opened : goal.returns-in_err-out-clause-opened
+returns-in_err-out-clause-opened g c = failed_opened _ _ _ _ _ c.from_residual-in_err-out.ensures.1 (all_first _ _ _ c.in_ok-bin.ensures.ledger)
+
+pub returns-clause-opened : goal.returns-clause-opened
+returns-clause-opened g c = all_opened _ _ _ c.done.result c.in_ok-bin.ensures.ledger

@@ -1,17 +1,19 @@
 -- What was listed is the script of the request's file, by the chip of its tables.
-use Rattle.std.proofs.Common.{ℕ, ◌<◌, refl, sym, subst}
+use Rattle.std.proofs.Common.{ℕ, ◌<◌, [], ◌∷◌, refl, sym, subst}
 use Rattle.nor_base.specs.Device.{Ahead}
 use Rattle.norprog_common.specs.Chip.{origin_of}
-use Rattle.norprog_common.specs.FileStore.{AreTables, Lacks, tables_name}
+use Rattle.norprog_common.specs.FileStore.{AreTables, Lacks, tables_file, tables_name}
 use Rattle.norprog_common.specs.Reading.{HasFailed}
 use Rattle.norprog_common.specs.declared.faults.FileName.TheVariants.{Sfdp, Script}
 use Rattle.nor_base.proofs.FaultLaws.{handed_on}
 use Rattle.norprog_common.proofs.LackedLemmas.{lacks_at, lacks_named}
 use Rattle.norprog_list.specs.Answer.{RefusesList}
-use Rattle.norprog_list.specs.Served.{IsTaskOf, paths_of}
+use Rattle.norprog_list.specs.Served.{IsTaskOf, input_files_of, paths_of}
 use Rattle.norprog_list.proofs.ServedLemmas.{file_refused}
 use Rattle.norprog_list.proofs.ListedLemmas.{all_blamed, refused_cut, all_printed, refused_so, asked_of}
 use Rattle.norprog_list.proofs.command.run_list.Given as given
+use Rattle.norprog_common.proofs.JournalLemmas.{adds_both}
+use Rattle.norprog_common.proofs.LedgerLemmas.{all_opened}
 use Rattle.norprog_list.proofs.command.run_list.Goals as goal
 
 module _ (g : given.Over) (c : goal.After-drop-tables-2 g) where
@@ -66,3 +68,16 @@ returns-in_err-script-clause-refused g c =
     handed_on (RefusesList Lacked Broke (IsTaskOf files request) Failed out out) _ _ c.from_residual-in_err-script.ensures.1
     (file_refused Lacked Broke (IsTaskOf files request) Failed out out why
     (lacks_at files (paths_of request) Script request.script.now why refl c.in_err-script.ensures.refused c.in_err-script.ensures.lacked))
+
+-- the script's file is opened after that of the tables, whatever comes of it
+pub returns-clause-opened : goal.returns-clause-opened
+returns-clause-opened g c =
+    let request = c.args.request in
+    all_opened _ _ (input_files_of request) c.list_script.result
+    (adds_both _ _ _ (tables_file (origin_of request.setup.chip)) (request.script.now ∷ []) c.in_ok-tables.ensures.opened c.in_ok-script.ensures.ledger)
+
+pub returns-in_err-script-clause-opened : goal.returns-in_err-script-clause-opened
+returns-in_err-script-clause-opened g c =
+    let request = c.args.request in
+    all_opened _ _ (input_files_of request) c.from_residual-in_err-script.result
+    (adds_both _ _ _ (tables_file (origin_of request.setup.chip)) (request.script.now ∷ []) c.in_ok-tables.ensures.opened c.in_err-script.ensures.ledger)

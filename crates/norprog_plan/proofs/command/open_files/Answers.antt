@@ -5,9 +5,10 @@ use Rattle.norprog_common.specs.Chip.{origin_of}
 use Rattle.norprog_common.specs.declared.faults.FileName.TheVariants.{Map}
 use Rattle.norprog_common.specs.Files.{TellsFile}
 use Rattle.norprog_common.specs.FileStore.{Adds, Lacks, LacksEarly, TookNothing, tables_name}
-use Rattle.norprog_common.specs.Served.{map_path, no_path, paths_of}
+use Rattle.norprog_common.specs.Served.{input_files_of, map_path, no_path, paths_of}
 use Rattle.norprog_common.proofs.JournalLemmas.{adds_none}
 use Rattle.norprog_common.proofs.LackedLemmas.{files_wider, lacks_at, lacks_early, lacks_output, lacks_own}
+use Rattle.norprog_common.proofs.LedgerLemmas.{all_opened}
 use Rattle.norprog_plan.proofs.command.open_files.Goals as goal
 
 pub returns-in_err-texts-clause-lacked : goal.returns-in_err-texts-clause-lacked
@@ -43,3 +44,8 @@ returns-in_err-create-in-Some-clause-lacked g c =
       handed_on (λ _. TookNothing files map Made) _ _ c.from_residual-in_err-create-in-Some.ensures.1
           (subst (λ (out : Option (List ℕ)). TookNothing files out Made) (sym named) c.in_err-create-in-Some.ensures.untaken),
     )
+
+-- all files are opened before the picture's is made
+pub returns-in_err-create-in-Some-clause-opened : goal.returns-in_err-create-in-Some-clause-opened
+returns-in_err-create-in-Some-clause-opened g c =
+    all_opened _ _ (input_files_of c.args.request.now) c.from_residual-in_err-create-in-Some.result c.in_ok-texts.ensures.opened

@@ -8,6 +8,7 @@ use Rattle.norprog_common.specs.Strict.{Filled}
 use Rattle.norprog_common.proofs.ToldLemmas.{and_also, answer_is}
 use Rattle.norprog_plan.specs.Answer.{PrintsPlan, CutsPlan, HoldsPlan, RefusesPlan}
 use Rattle.norprog_plan.specs.Served.{asks_plan, shows_of, ServesPlan}
+use Rattle.norprog_common.proofs.LedgerLemmas.{opens_answered}
 use Rattle.norprog_plan.proofs.command.plan.Goals as goal
 
 pub returns-clause-answer : goal.returns-clause-answer
@@ -30,3 +31,7 @@ returns-clause-answer g c =
     c.report_plan.ensures.done c.report_plan.ensures.journal c.report_plan.ensures.printed c.report_plan.ensures.unprinted
     (and_also (asks_plan given) Refuses Holds c.report_plan.result c.report_plan.ensures.first.0 c.report_plan.ensures.first.1)
     c.answered.ensures.done c.answered.ensures.told
+
+-- the files that the texts name are opened in their order, each once
+pub returns-clause-opened : goal.returns-clause-opened
+returns-clause-opened g c = opens_answered _ _ _ _ _ _ c.answered.ensures.told c.report_plan.ensures.opened

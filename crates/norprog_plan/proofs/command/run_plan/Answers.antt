@@ -4,11 +4,12 @@ use Rattle.nor_base.proofs.FaultLaws.{handed_on}
 use Rattle.norprog_common.specs.declared.faults.FileName.TheVariants.{Map}
 use Rattle.norprog_common.specs.FileStore.{Adds, Breaks, HasGone, LacksEarly, TookNothing}
 use Rattle.norprog_common.specs.Reading.{HasFailed}
-use Rattle.norprog_common.specs.Served.{IsJobOf, held_in, map_path, paths_of}
+use Rattle.norprog_common.specs.Served.{IsJobOf, held_in, input_files_of, map_path, paths_of}
 use Rattle.norprog_common.specs.Strict.{Filled}
 use Rattle.norprog_common.proofs.ServedLemmas.{job_of}
 use Rattle.norprog_plan.specs.Answer.{HoldsPlan, RefusesPlan}
 use Rattle.norprog_plan.proofs.AnswerLemmas.{empty_holds, empty_refused, file_refused, job_cuts, job_holds, job_prints, job_stops}
+use Rattle.norprog_common.proofs.LedgerLemmas.{all_first, all_opened}
 use Rattle.norprog_plan.proofs.command.run_plan.Goals as goal
 
 -- where a file couldn't be used
@@ -79,3 +80,10 @@ returns-in-Ok-clause-refused g c =
       job_holds c.print_job.result (TookNothing files out (Adds (changes c.args.journal.now) (changes c.open_files.new.journal))) (Breaks files (g.O.ByteOut.count c.args.out.now) (g.O.ByteOut.count c.print_job.new.out)) files.broke
           (HasFailed g.S.Input.ByteIn.ahead g.S.Input.ByteIn.count) (HasGone files) files.flushed c.args.shows (IsJobOf files c.args.request.now out) _ _ _ asked c.print_job.ensures.refused c.print_job.ensures.memory,
     )
+
+-- all files are opened before the work, whatever comes of it
+pub returns-in-Ok-clause-opened : goal.returns-in-Ok-clause-opened
+returns-in-Ok-clause-opened g c = all_opened _ _ (input_files_of c.args.request.now) c.print_job.result c.in_ok-texts.ensures.opened
+
+pub returns-clause-opened : goal.returns-clause-opened
+returns-clause-opened g c = all_first _ _ (input_files_of c.args.request.now) c.in_ok-texts.ensures.opened

@@ -1,12 +1,14 @@
 -- The ending, or why there is none, is of what the texts ask for.
-use Rattle.std.proofs.Common.{rules, ◌≡◌, true, List}
+use Rattle.std.proofs.Common.{rules, ◌≡◌, true, List, refl}
 use Rattle.nor_base.specs.declared.step.Step.{Step}
 use Rattle.norprog_common.specs.FileStore.{Adds}
+use Rattle.norprog_common.proofs.JournalLemmas.{adds_none}
+use Rattle.norprog_common.proofs.LedgerLemmas.{failed_opened, none_opened, opens_same}
 use Rattle.norprog_common.specs.Reading.{HasFailed}
 use Rattle.norprog_play.specs.declared.ending.Ending.{Ending}
 use Rattle.norprog_play.specs.Progress.{ReportsPlay}
 use Rattle.norprog_play.specs.Request.{is_well_formed, AsksFor}
-use Rattle.norprog_play.proofs.ServedLemmas.{endings_asked, may_by, refusals_asked}
+use Rattle.norprog_play.proofs.ServedLemmas.{endings_asked, files_are, may_by, refusals_asked}
 use Rattle.norprog_play.proofs.command.ending_of.Goals as goal
 
 pub returns-clause-played : goal.returns-clause-played
@@ -27,3 +29,11 @@ pub play_request-requires-clause-read : goal.play_request-requires-clause-read
 play_request-requires-clause-read g c =
     let asks : AsksFor c.args.given c.in_ok-request.request = search rules in
     may_by (g.S.FileStore.facts c.args.store.now) c.args.given c.in_ok-request.request asks c.requires.read
+
+pub returns-clause-opened : goal.returns-clause-opened
+returns-clause-opened g c =
+    let asks : AsksFor c.args.given c.in_ok-request.request = search rules in
+    opens_same _ _ _ _ _ (files_are c.args.given c.in_ok-request.request asks) c.play_request.ensures.opened
+
+pub returns-in_err-request-clause-opened : goal.returns-in_err-request-clause-opened
+returns-in_err-request-clause-opened g c = failed_opened _ _ _ _ _ c.from_residual.ensures.1 (none_opened _ _ _ (adds_none _ _ refl))

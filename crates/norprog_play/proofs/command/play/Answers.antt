@@ -1,6 +1,8 @@
 -- An ending is reported; where there is none why is written.
-use Rattle.std.proofs.Common.{ap, inl, inr, refl, subst}
+use Rattle.std.proofs.Common.{arith, ap, inl, inr, refl, subst}
 use Rattle.norprog_common.specs.FileStore.{Adds, Breaks}
+use Rattle.norprog_common.proofs.LedgerLemmas.{all_first}
+use Rattle.norprog_common.proofs.ToldLemmas.{refused_status}
 use Rattle.norprog_common.specs.Reading.{HasFailed}
 use Rattle.norprog_play.specs.Answer.{RefusesToPlay}
 use Rattle.norprog_play.proofs.ReportLemmas.{reports_wider}
@@ -28,3 +30,14 @@ returns-in-Ok-clause-answer g c =
 
 pub ending_of-requires-clause-read : goal.ending_of-requires-clause-read
 ending_of-requires-clause-read g c = c.requires.read
+
+-- each file is opened once, in their order; after a refusal the status isn't 0
+pub returns-in-Ok-clause-opened : goal.returns-in-Ok-clause-opened
+returns-in-Ok-clause-opened g c = (all_first _ _ _ c.in-Ok.ensures.opened, λ zero. c.in-Ok.ensures.opened)
+
+pub returns-in-Err-Refused-clause-opened : goal.returns-in-Err-Refused-clause-opened
+returns-in-Err-Refused-clause-opened g c =
+    (c.in-Err-Refused.ensures.opened, λ zero. absurd (omega (arith, refused_status c.in-Err-Refused.refusal _ c.refuse.ensures.status, zero)))
+
+pub returns-in-Err-Device-clause-opened : goal.returns-in-Err-Device-clause-opened
+returns-in-Err-Device-clause-opened g c = (c.in-Err-Device.ensures.opened, λ zero. absurd (omega (arith, c.refuse_device.ensures.status, zero)))

@@ -1,12 +1,13 @@
 -- The ending, or why there is none, is of the request's chip, script, content, limit and trust.
-use Rattle.std.proofs.Common.{◌≡◌, Some, ap, refl, sym, subst, List}
+use Rattle.std.proofs.Common.{◌≡◌, [], ◌∷◌, Some, ap, refl, sym, subst, List}
 use Rattle.nor_base.specs.declared.step.Step.{Step}
 use Rattle.nor_job.specs.Task.{Task}
 use Rattle.norprog_common.specs.Chip.{origin_of}
 use Rattle.norprog_common.specs.FileStore.{Adds, AreTables, tables_name}
 use Rattle.norprog_common.specs.declared.faults.FileName.TheVariants as file
 use Rattle.norprog_common.specs.Reading.{HasFailed}
-use Rattle.norprog_common.proofs.JournalLemmas.{adds_none}
+use Rattle.norprog_common.proofs.JournalLemmas.{adds_both, adds_none}
+use Rattle.norprog_common.proofs.LedgerLemmas.{all_first, all_opened, failed_opened, first_of_more, then_first}
 use Rattle.nor_base.proofs.FaultLaws.{handed_on}
 use Rattle.norprog_play.specs.declared.unplayed.Unplayed.TheVariants.{Refused}
 use Rattle.norprog_play.specs.Answer.{IsUnplayed}
@@ -88,3 +89,32 @@ open-requires g c = c.requires.read file.Content c.args.request.content.now refl
 
 pub open-requires-2 : goal.open-requires-2
 open-requires-2 g c = c.requires.read file.Script c.args.request.script.now refl
+
+-- the tables are opened, then the content, then the script
+pub returns-in_err-tables-clause-opened : goal.returns-in_err-tables-clause-opened
+returns-in_err-tables-clause-opened g c =
+    failed_opened _ _ _ _ _ c.from_residual.ensures.1
+    (first_of_more _ _ _ (c.args.request.content.now ∷ c.args.request.script.now ∷ []) (all_first _ _ _ c.in_err-tables.ensures.opened))
+
+pub returns-in_err-content-clause-opened : goal.returns-in_err-content-clause-opened
+returns-in_err-content-clause-opened g c =
+    failed_opened _ _ _ _ _ c.from_residual-in_err-content.ensures.1
+    (then_first _ _ _ _ _ c.in_ok-tables.ensures.opened
+    (first_of_more _ _ (c.args.request.content.now ∷ []) (c.args.request.script.now ∷ []) (all_first _ _ _ c.in_err-content.ensures.ledger)))
+
+pub returns-in_err-script-clause-opened : goal.returns-in_err-script-clause-opened
+returns-in_err-script-clause-opened g c =
+    failed_opened _ _ _ _ _ c.from_residual-in_err-script.ensures.1
+    (all_first _ _ _ (adds_both _ _ _ _ _ c.in_ok-tables.ensures.opened
+    (adds_both _ _ _ (c.args.request.content.now ∷ []) _ c.in_ok-content.ensures.ledger c.in_err-script.ensures.ledger)))
+
+pub returns-in_err-job-clause-opened : goal.returns-in_err-job-clause-opened
+returns-in_err-job-clause-opened g c =
+    failed_opened _ _ _ _ _ c.from_residual-in_err-job.ensures.1
+    (all_first _ _ _ (adds_both _ _ _ _ _ c.in_ok-tables.ensures.opened
+    (adds_both _ _ _ (c.args.request.content.now ∷ []) _ c.in_ok-content.ensures.ledger c.in_ok-script.ensures.ledger)))
+
+pub returns-clause-opened : goal.returns-clause-opened
+returns-clause-opened g c =
+    all_opened _ _ _ c.play_job.result
+    (adds_both _ _ _ _ _ c.in_ok-tables.ensures.opened (adds_both _ _ _ (c.args.request.content.now ∷ []) _ c.in_ok-content.ensures.ledger c.in_ok-script.ensures.ledger))

@@ -3,7 +3,9 @@ use Rattle.std.proofs.Common.{◌≡◌, inl, inr, subst}
 use Rattle.norprog_common.specs.FileStore.{Adds, Breaks}
 use Rattle.norprog_read.specs.Answer.{IsUnread}
 use Rattle.norprog_read.specs.Line.{reading_text, unlike_line}
-use Rattle.norprog_read.proofs.ReportLemmas.{reports_wider}
+use Rattle.norprog_common.proofs.LedgerLemmas.{all_first}
+use Rattle.norprog_common.proofs.ToldLemmas.{refused_status}
+use Rattle.norprog_read.proofs.ReportLemmas.{not_zero, reported_some, reports_wider}
 use Rattle.norprog_read.proofs.command.read.Goals as goal
 
 pub returns-in-Ok-clause-done : goal.returns-in-Ok-clause-done
@@ -42,3 +44,19 @@ returns-in-Err-Unlike-clause-answer g c =
 
 pub read_texts-requires : goal.read_texts-requires
 read_texts-requires g c = record { read = c.requires.read }
+
+-- its status is 0 only where all was opened
+pub returns-in-Ok-clause-opened : goal.returns-in-Ok-clause-opened
+returns-in-Ok-clause-opened g c = (all_first _ _ _ c.in-Ok.ensures.opened, λ zero. c.in-Ok.ensures.opened)
+
+pub returns-in-Err-Unlike-clause-opened : goal.returns-in-Err-Unlike-clause-opened
+returns-in-Err-Unlike-clause-opened g c =
+    (c.in-Err-Unlike.ensures.opened, λ zero. absurd (not_zero _ (reported_some _ _ _ _ _ _ _ _ _ c.report_unlike.ensures) zero))
+
+pub returns-in-Err-Device-clause-opened : goal.returns-in-Err-Device-clause-opened
+returns-in-Err-Device-clause-opened g c =
+    (c.in-Err-Device.ensures.opened, λ zero. let one : c.refuse_device.result ≡ 1 = c.refuse_device.ensures.status in absurd (cc zero))
+
+pub returns-in-Err-Refused-clause-opened : goal.returns-in-Err-Refused-clause-opened
+returns-in-Err-Refused-clause-opened g c =
+    (c.in-Err-Refused.ensures.opened, λ zero. absurd (not_zero _ (refused_status c.in-Err-Refused.refusal _ c.refuse.ensures.status) zero))

@@ -8,7 +8,8 @@ use Rattle.norprog_read.specs.Answer.{IsUnread}
 use Rattle.norprog_read.specs.Request.{is_well_formed, AsksFor}
 use Rattle.norprog_read.specs.Served.{AreTablesIf}
 use Rattle.norprog_common.proofs.JournalLemmas.{adds_none}
-use Rattle.norprog_read.proofs.ServedLemmas.{kept, may_by, tables_told, unread, unsaved}
+use Rattle.norprog_common.proofs.LedgerLemmas.{all_first, failed_opened}
+use Rattle.norprog_read.proofs.ServedLemmas.{by_texts, kept, may_by, tables_told, unread, unsaved}
 use Rattle.norprog_read.proofs.command.read_texts.Goals as goal
 
 pub returns-in_err-file-clause-unread : goal.returns-in_err-file-clause-unread
@@ -57,3 +58,27 @@ file_of-requires g c =
     let asks : AsksFor c.args.given c.in_ok-request.request = search rules in record {
       read = may_by (g.S.FileStore.facts c.args.store.now) c.args.given c.in_ok-request.request asks c.requires.read;
     }
+
+-- it is opened once, where one is named
+pub returns-clause-opened : goal.returns-clause-opened
+returns-clause-opened g c =
+    let asks : AsksFor c.args.given c.in_ok-request.request = search rules in
+    by_texts (g.S.FileStore.facts c.args.store.now) c.args.given c.in_ok-request.request asks _ _ c.in_ok-file.ensures.opened
+
+pub returns-in_err-file-clause-opened : goal.returns-in_err-file-clause-opened
+returns-in_err-file-clause-opened g c =
+    let asks : AsksFor c.args.given c.in_ok-request.request = search rules in
+    failed_opened _ _ _ _ _ c.from_residual-in_err-file.ensures.1
+    (all_first _ _ _ (by_texts (g.S.FileStore.facts c.args.store.now) c.args.given c.in_ok-request.request asks _ _ c.in_err-file.ensures.opened))
+
+pub returns-in_err-reading-clause-opened : goal.returns-in_err-reading-clause-opened
+returns-in_err-reading-clause-opened g c =
+    let asks : AsksFor c.args.given c.in_ok-request.request = search rules in
+    failed_opened _ _ _ _ _ c.from_residual-in_err-reading.ensures.1
+    (all_first _ _ _ (by_texts (g.S.FileStore.facts c.args.store.now) c.args.given c.in_ok-request.request asks _ _ c.in_ok-file.ensures.opened))
+
+pub returns-in_err-save_all-clause-opened : goal.returns-in_err-save_all-clause-opened
+returns-in_err-save_all-clause-opened g c =
+    let asks : AsksFor c.args.given c.in_ok-request.request = search rules in
+    failed_opened _ _ _ _ _ c.from_residual-in_err-save_all.ensures.1
+    (all_first _ _ _ (by_texts (g.S.FileStore.facts c.args.store.now) c.args.given c.in_ok-request.request asks _ _ c.in_ok-file.ensures.opened))

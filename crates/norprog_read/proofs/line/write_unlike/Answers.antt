@@ -16,5 +16,8 @@ returns-in-Mode-clause-bytes g c =
 pub returns-in-Tables-clause-bytes : goal.returns-in-Tables-clause-bytes
 returns-in-Tables-clause-bytes g c = rw c.in-Tables.is c.write_tables.ensures.bytes
 
+pub returns-in-Line-clause-bytes : goal.returns-in-Line-clause-bytes
+returns-in-Line-clause-bytes g c = rw c.in-Line.is c.put_all-in-Line.ensures.bytes
+
 pub returns-in-Unreadable-clause-bytes : goal.returns-in-Unreadable-clause-bytes
 returns-in-Unreadable-clause-bytes g c = rw c.in-Unreadable.is c.put_all-in-Unreadable.ensures.bytes

@@ -1,7 +1,7 @@
 -- What was played is of the chip, the content and the script of the request's files.
-use Rattle.std.proofs.Common.{List, [], ℕ, ◌<◌, IfErr, inl, option_map, Some, None, refl, sym, subst}
+use Rattle.std.proofs.Common.{List, [], ◌∷◌, ◌++◌, ℕ, ◌<◌, IfErr, inl, option_map, Some, None, refl, sym, subst}
 use Rattle.norprog_common.specs.Chip.{origin_of}
-use Rattle.norprog_common.specs.FileStore.{Adds, AreTables, HasGone, IsTextIn, IsTextOfFile, LacksEarly, LeavesOutput, tables_name}
+use Rattle.norprog_common.specs.FileStore.{Adds, AreTables, HasGone, IsTextIn, IsTextOfFile, LacksEarly, LeavesOutput, tables_file, tables_name}
 use Rattle.norprog_common.specs.Served.{out_path}
 use Rattle.norprog_common.specs.declared.faults.FileName.TheVariants as file
 use Rattle.norprog_common.proofs.LackedLemmas.{lacks_at, lacks_early, lacks_named}
@@ -11,8 +11,9 @@ use Rattle.norprog_common.specs.Reading.{FailsReading, FailsScript, HasFailed, I
 use Rattle.norprog_common.proofs.ReadingLemmas.{fails_in, read_in}
 use Rattle.nor_base.proofs.FaultLaws.{handed_on}
 use Rattle.norprog_run.specs.Answer.{HoldsRun, RefusesRun}
-use Rattle.norprog_run.specs.Served.{IsTaskOf, paths_of}
-use Rattle.norprog_run.proofs.ServedLemmas.{never, all_noted, asked_of, made_for, made_beside, named_made, none_made, all_played, all_refused, lacked_refused, out_lacks, verdicts_wider, refusals_wider, holds_wider, none_holds}
+use Rattle.norprog_run.specs.Served.{IsTaskOf, input_files_of, paths_of}
+use Rattle.norprog_run.proofs.ServedLemmas.{never, all_noted, asked_of, made_for, made_beside, named_made, none_made, all_played, all_refused, lacked_refused, out_lacks, verdicts_wider, refusals_wider, holds_wider, none_holds, three_opened, two_opened}
+use Rattle.norprog_common.proofs.LedgerLemmas.{all_first, all_opened, failed_opened, first_of_more}
 use Rattle.norprog_run.proofs.command.play_request.Goals as goal
 
 -- the files that are opened are those of the request
@@ -190,3 +191,43 @@ returns-in_err-push-2-clause-memory g c =
     let changes = g.S.Journal.Journal.changes in
     let Made = Adds (changes c.args.journal.now) (changes c.args.journal.now) in
     handed_on (HoldsRun files (option_map (λ t. t.now) c.args.request.out) Made (IsTaskOf files c.args.request)) _ _ c.from_residual-in_err-push-2.ensures.1 (λ memory. inl (inl (adds_none _ _ refl)))
+
+-- the files of the request are opened in their order before the play, whatever comes of it
+pub returns-clause-opened : goal.returns-clause-opened
+returns-clause-opened g c =
+    all_opened _ _ (input_files_of c.args.request) c.play_file.result
+    (three_opened c.args.request _ _ _ _ c.in_ok-sfdp.ensures.opened c.in_ok-content.ensures.ledger c.in_ok-script.ensures.ledger)
+
+pub returns-in-Some-clause-opened : goal.returns-in-Some-clause-opened
+returns-in-Some-clause-opened g c =
+    all_opened _ _ (input_files_of c.args.request) c.play_to.result
+    (three_opened c.args.request _ _ _ _ c.in_ok-sfdp.ensures.opened c.in_ok-content.ensures.ledger c.in_ok-script.ensures.ledger)
+
+pub returns-in_err-push-2-clause-opened : goal.returns-in_err-push-2-clause-opened
+returns-in_err-push-2-clause-opened g c =
+    all_opened _ _ (input_files_of c.args.request) c.from_residual-in_err-push-2.result
+    (three_opened c.args.request _ _ _ _ c.in_ok-sfdp.ensures.opened c.in_ok-content.ensures.ledger c.in_ok-script.ensures.ledger)
+
+pub returns-in_err-script-clause-opened : goal.returns-in_err-script-clause-opened
+returns-in_err-script-clause-opened g c =
+    all_opened _ _ (input_files_of c.args.request) c.from_residual-in_err-script.result
+    (three_opened c.args.request _ _ _ _ c.in_ok-sfdp.ensures.opened c.in_ok-content.ensures.ledger c.in_err-script.ensures.ledger)
+
+-- or the first of them
+pub returns-in_err-push-clause-opened : goal.returns-in_err-push-clause-opened
+returns-in_err-push-clause-opened g c =
+    failed_opened _ _ (input_files_of c.args.request) _ _ c.from_residual-in_err-push.ensures.1
+    (two_opened c.args.request _ _ _ c.in_ok-sfdp.ensures.opened c.in_ok-content.ensures.ledger)
+
+pub returns-in_err-content-clause-opened : goal.returns-in_err-content-clause-opened
+returns-in_err-content-clause-opened g c =
+    failed_opened _ _ (input_files_of c.args.request) _ _ c.from_residual-in_err-content.ensures.1
+    (two_opened c.args.request _ _ _ c.in_ok-sfdp.ensures.opened c.in_err-content.ensures.ledger)
+
+pub returns-in_err-sfdp-clause-opened : goal.returns-in_err-sfdp-clause-opened
+returns-in_err-sfdp-clause-opened g c =
+    let request = c.args.request in
+    let chip = tables_file (origin_of request.setup.chip) in
+    failed_opened _ _ (input_files_of request) _ _ c.from_residual.ensures.1
+    (first_of_more _ _ (chip ++ (request.content.now ∷ [])) (request.script.now ∷ [])
+    (first_of_more _ _ chip (request.content.now ∷ []) (all_first _ _ chip c.in_err-sfdp.ensures.opened)))

@@ -7,6 +7,7 @@ use Rattle.norprog_run.specs.Answer.{HoldsRun, RefusesToRun}
 use Rattle.norprog_run.specs.Served.{Serves}
 use Rattle.norprog_run.proofs.ServedLemmas.{late_refused, rose, told_wider}
 use Rattle.norprog_common.proofs.ToldLemmas.{write_is_other}
+use Rattle.norprog_common.proofs.LedgerLemmas.{all_first, failed_opened}
 use Rattle.norprog_run.proofs.command.report_run.Goals as goal
 
 pub returns-in-Err-clause-first : goal.returns-in-Err-clause-first
@@ -30,3 +31,12 @@ returns-in_err-verdict-clause-first g c =
           (told_wider files Failed c.args.given (Made []) files.broke Broke (λ broke. inl broke) c.in_err-verdict.field-0.0 c.in_err-verdict.ensures.first),
       handed_on (HoldsRun files (option_map (λ t. t.now) c.args.given.out) Made (Serves files c.args.given)) _ _ c.from_residual.ensures.1 c.in_err-verdict.ensures.memory,
     )
+
+-- all files are opened before the verdict is written
+pub returns-in-Err-clause-opened : goal.returns-in-Err-clause-opened
+returns-in-Err-clause-opened g c =
+    all_first _ _ _ c.in_ok-verdict.ensures.opened
+
+pub returns-in_err-verdict-clause-opened : goal.returns-in_err-verdict-clause-opened
+returns-in_err-verdict-clause-opened g c =
+    failed_opened _ _ _ _ _ c.from_residual.ensures.1 c.in_err-verdict.ensures.opened

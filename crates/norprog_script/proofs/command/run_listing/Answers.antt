@@ -1,8 +1,9 @@
 -- What was written, or the fault, is that of the request.
-use Rattle.std.proofs.Common.{inl, inr, Some, [], ap, refl, sym, subst}
+use Rattle.std.proofs.Common.{inl, inr, Some, [], ◌∷◌, ap, refl, sym, subst}
 use Rattle.norprog_common.specs.Chip.{origin_of}
 use Rattle.nor_base.proofs.FaultLaws.{handed_on}
-use Rattle.norprog_common.proofs.JournalLemmas.{adds_none}
+use Rattle.norprog_common.proofs.JournalLemmas.{adds_both, adds_none}
+use Rattle.norprog_common.proofs.LedgerLemmas.{all_first, all_opened, failed_opened, first_of_more}
 use Rattle.norprog_common.specs.FileStore.{Adds, AreTables, HasGone, LacksEarly, MayReadNamed, tables_name}
 use Rattle.norprog_common.specs.declared.faults.FileName.TheVariants.{Sfdp, Log, Out}
 use Rattle.norprog_common.proofs.LackedLemmas.{lacks_at, lacks_early, lacks_named, lacks_output}
@@ -120,3 +121,28 @@ returns-clause-memory g c =
     (apart_listing files c.args.request c.args.setup _ _ _ _ _ _ c.requires.chip c.new-places.ensures.items c.in_ok-tables.ensures.noted c.in_ok-listing.ensures.stood
     c.in_ok-push.ensures.items c.as_slice.ensures.value c.in_ok-out.ensures.made) (Adds (changes c.args.journal.now) (changes c.create.new.journal)) c.script_listing-answer.result
     c.flush-flushed.result _ c.script_listing-answer.ensures.refused (inr c.flush-flushed.ensures.closed) c.done.ensures
+
+-- the tables are opened, and then the log
+pub returns-in_err-tables-clause-opened : goal.returns-in_err-tables-clause-opened
+returns-in_err-tables-clause-opened g c =
+    rw c.requires.chip
+    (failed_opened _ _ _ _ _ c.from_residual.ensures.1 (first_of_more _ _ _ (c.args.request.log.now ∷ []) (all_first _ _ _ c.in_err-tables.ensures.opened)))
+
+pub returns-in_err-listing-clause-opened : goal.returns-in_err-listing-clause-opened
+returns-in_err-listing-clause-opened g c =
+    rw c.requires.chip
+    (failed_opened _ _ _ _ _ c.from_residual-in_err-listing.ensures.1 (all_first _ _ _ (adds_both _ _ _ _ _ c.in_ok-tables.ensures.opened c.in_err-listing.ensures.ledger)))
+
+pub returns-in_err-push-clause-opened : goal.returns-in_err-push-clause-opened
+returns-in_err-push-clause-opened g c =
+    rw c.requires.chip
+    (failed_opened _ _ _ _ _ c.from_residual-in_err-push.ensures.1 (all_first _ _ _ (adds_both _ _ _ _ _ c.in_ok-tables.ensures.opened c.in_ok-listing.ensures.ledger)))
+
+pub returns-in_err-out-clause-opened : goal.returns-in_err-out-clause-opened
+returns-in_err-out-clause-opened g c =
+    rw c.requires.chip
+    (failed_opened _ _ _ _ _ c.from_residual-in_err-out.ensures.1 (all_first _ _ _ (adds_both _ _ _ _ _ c.in_ok-tables.ensures.opened c.in_ok-listing.ensures.ledger)))
+
+pub returns-clause-opened : goal.returns-clause-opened
+returns-clause-opened g c =
+    rw c.requires.chip (all_opened _ _ _ c.done.result (adds_both _ _ _ _ _ c.in_ok-tables.ensures.opened c.in_ok-listing.ensures.ledger))

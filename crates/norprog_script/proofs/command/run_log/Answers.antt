@@ -2,6 +2,7 @@
 use Rattle.std.proofs.Common.{inl, inr, Some, refl, sym, subst, [], ◌∷◌}
 use Rattle.nor_base.proofs.FaultLaws.{handed_on}
 use Rattle.norprog_common.proofs.JournalLemmas.{adds_none}
+use Rattle.norprog_common.proofs.LedgerLemmas.{all_first, all_opened, failed_opened}
 use Rattle.norprog_common.specs.FileStore.{Adds, HasGone, LacksEarly}
 use Rattle.norprog_common.specs.declared.faults.FileName.TheVariants.{Log, Out}
 use Rattle.norprog_common.proofs.LackedLemmas.{lacks_at, lacks_early, lacks_output}
@@ -81,3 +82,13 @@ returns-clause-memory g c =
     done_holds files (Unit {0}) c.args.request _ (foreign c.args.request.without_identity) _ _ gave (of_foreign files c.args.request c.requires.chip)
     (apart_foreign files c.args.request _ c.requires.chip (c.in_ok-log.place ∷ [], (c.in_ok-log.ensures.stood, tt), c.in_ok-out.ensures.made)) (Adds (changes c.args.journal.now) (changes c.create.new.journal)) c.script_log-answer.result
     c.flush-flushed.result _ c.script_log-answer.ensures.refused (inr c.flush-flushed.ensures.closed) c.done.ensures
+
+-- the log is opened once, whatever comes of the work
+pub returns-in_err-log-clause-opened : goal.returns-in_err-log-clause-opened
+returns-in_err-log-clause-opened g c = rw c.requires.chip (failed_opened _ _ _ _ _ c.from_residual.ensures.1 (all_first _ _ _ c.in_err-log.ensures.ledger))
+
+pub returns-in_err-out-clause-opened : goal.returns-in_err-out-clause-opened
+returns-in_err-out-clause-opened g c = rw c.requires.chip (failed_opened _ _ _ _ _ c.from_residual-in_err-out.ensures.1 (all_first _ _ _ c.in_ok-log.ensures.ledger))
+
+pub returns-clause-opened : goal.returns-clause-opened
+returns-clause-opened g c = rw c.requires.chip (all_opened _ _ _ c.done.result c.in_ok-log.ensures.ledger)

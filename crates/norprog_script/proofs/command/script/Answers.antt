@@ -2,6 +2,7 @@
 use Rattle.std.proofs.Common.{[], option_map}
 use Rattle.norprog_common.specs.FileStore.{Adds, Breaks, HasGone, LacksEarly}
 use Rattle.norprog_common.specs.declared.faults.FileName.TheVariants.{Out}
+use Rattle.norprog_common.proofs.LedgerLemmas.{opens_answered}
 use Rattle.norprog_common.proofs.ToldLemmas.{and_also, answer_is}
 use Rattle.norprog_script.specs.Answer.{PrintsTally, CutsTally, HoldsScript, RefusesScript}
 use Rattle.norprog_script.specs.Request.{is_well_formed}
@@ -23,3 +24,7 @@ returns-clause-answer g c =
     c.scripted_in.ensures.done c.scripted_in.ensures.journal c.scripted_in.ensures.printed c.scripted_in.ensures.unprinted
     (and_also (is_well_formed given) Refuses Holds c.scripted_in.result c.scripted_in.ensures.first.0 c.scripted_in.ensures.first.1)
     c.answered.ensures.done c.answered.ensures.told
+
+-- each file is opened once, in their order
+pub returns-clause-opened : goal.returns-clause-opened
+returns-clause-opened g c = opens_answered _ _ _ _ _ _ c.answered.ensures.told c.scripted_in.ensures.opened

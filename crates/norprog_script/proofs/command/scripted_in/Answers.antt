@@ -1,11 +1,13 @@
 -- What was written, or the refusal, is of what the texts ask for.
-use Rattle.std.proofs.Common.{rules, ◌≡◌, true, inl, inr, arith}
+use Rattle.std.proofs.Common.{rules, ◌≡◌, true, inl, inr, arith, refl}
 use Rattle.nor_base.proofs.FaultLaws.{handed_on}
 use Rattle.norprog_common.specs.FileStore.{Adds, HasGone}
+use Rattle.norprog_common.proofs.JournalLemmas.{adds_none}
+use Rattle.norprog_common.proofs.LedgerLemmas.{all_first, failed_opened, none_opened}
 use Rattle.norprog_common.proofs.ToldLemmas.{or_usage, write_is_other}
 use Rattle.norprog_script.specs.Request.{is_well_formed, AsksFor}
 use Rattle.norprog_script.specs.Served.{Serves}
-use Rattle.norprog_script.proofs.ServedLemmas.{gone, holds_asked, may_read, scripted_asked, refusal_asked}
+use Rattle.norprog_script.proofs.ServedLemmas.{files_are, gone, holds_asked, may_read, scripted_asked, refusal_asked}
 use Rattle.norprog_script.proofs.command.scripted_in.Goals as goal
 
 pub run_script-requires : goal.run_script-requires
@@ -53,3 +55,22 @@ returns-in-Err-clause-first g c =
     let late = gone (Serves files c.args.given) files.flushed (HasGone files) c.in_ok-tally.tally (λ held sent. inl sent)
     (scripted_asked files c.args.given c.in_ok-request.request files.flushed c.in_ok-tally.tally asks c.in_ok-tally.ensures.written) in
     (or_usage _ _ _ formed (inr (c.in_ok-tally.tally, late), inr (omega (arith, c.in-Err.ensures.count))), λ memory. absurd (write_is_other memory))
+
+-- the files of the request are those that the texts name
+pub returns-in_err-tally-clause-opened : goal.returns-in_err-tally-clause-opened
+returns-in_err-tally-clause-opened g c =
+    let asks : AsksFor c.args.given c.in_ok-request.request = search rules in
+    rw (files_are c.args.given c.in_ok-request.request asks) (failed_opened _ _ _ _ _ c.from_residual-in_err-tally.ensures.1 c.in_err-tally.ensures.opened)
+
+pub returns-in-Ok-clause-opened : goal.returns-in-Ok-clause-opened
+returns-in-Ok-clause-opened g c =
+    let asks : AsksFor c.args.given c.in_ok-request.request = search rules in
+    rw (files_are c.args.given c.in_ok-request.request asks) c.in_ok-tally.ensures.opened
+
+pub returns-in-Err-clause-opened : goal.returns-in-Err-clause-opened
+returns-in-Err-clause-opened g c =
+    let asks : AsksFor c.args.given c.in_ok-request.request = search rules in
+    rw (files_are c.args.given c.in_ok-request.request asks) (all_first _ _ _ c.in_ok-tally.ensures.opened)
+
+pub returns-in_err-request-clause-opened : goal.returns-in_err-request-clause-opened
+returns-in_err-request-clause-opened g c = failed_opened _ _ _ _ _ c.from_residual.ensures.1 (none_opened _ _ _ (adds_none _ _ refl))

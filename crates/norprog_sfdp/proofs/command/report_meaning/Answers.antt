@@ -5,6 +5,7 @@ use Rattle.norprog_common.specs.Chip.{origin_of}
 use Rattle.norprog_common.specs.FileStore.{Lacks, tables_name}
 use Rattle.norprog_common.specs.Setup.{chip_asked}
 use Rattle.nor_base.proofs.FaultLaws.{handed_on}
+use Rattle.norprog_common.proofs.LedgerLemmas.{all_first, failed_opened, file_asked}
 use Rattle.norprog_common.proofs.ToldLemmas.{asked_wider, or_usage}
 use Rattle.norprog_sfdp.specs.Served.{tables_path, IsChipTask, ServesChip}
 use Rattle.norprog_sfdp.specs.Answer.{MeansThis}
@@ -64,3 +65,25 @@ returns-in-Ok-clause-done g c =
     let named = named_of origin_of c.chip_of.result c.in_ok-chip.chip (chip_asked c.args.given) c.chip_of.ensures c.in_ok-chip.ensures.ok_part in
     let family = family_of c.args.given c.unwrap_or.result _ c.part.result c.in_ok-part.part c.unwrap_or.ensures refl c.part.ensures c.in_ok-part.ensures.ok_part in
     (refl, chip_is_asked c.args.given (origin_of c.in_ok-chip.chip) c.in_ok-part.part named family)
+
+-- the file of the tables is opened once, where one is named
+pub returns-in-Ok-clause-opened : goal.returns-in-Ok-clause-opened
+returns-in-Ok-clause-opened g c =
+    let given = c.args.given in
+    let named = named_of origin_of c.chip_of.result c.in_ok-chip.chip (chip_asked given) c.chip_of.ensures c.in_ok-chip.ensures.ok_part in
+    rw (file_asked (option_map (λ t. t.now) given.sfdp) (option_map (λ t. t.now) given.uniform) (option_map (λ t. t.now) given.bits) _ named)
+    c.in_ok-meaning.ensures.opened
+
+pub returns-in-Err-clause-opened : goal.returns-in-Err-clause-opened
+returns-in-Err-clause-opened g c =
+    let given = c.args.given in
+    let named = named_of origin_of c.chip_of.result c.in_ok-chip.chip (chip_asked given) c.chip_of.ensures c.in_ok-chip.ensures.ok_part in
+    rw (file_asked (option_map (λ t. t.now) given.sfdp) (option_map (λ t. t.now) given.uniform) (option_map (λ t. t.now) given.bits) _ named)
+    (all_first _ _ _ c.in_ok-meaning.ensures.opened)
+
+pub returns-in_err-meaning-clause-opened : goal.returns-in_err-meaning-clause-opened
+returns-in_err-meaning-clause-opened g c =
+    let given = c.args.given in
+    let named = named_of origin_of c.chip_of.result c.in_ok-chip.chip (chip_asked given) c.chip_of.ensures c.in_ok-chip.ensures.ok_part in
+    rw (file_asked (option_map (λ t. t.now) given.sfdp) (option_map (λ t. t.now) given.uniform) (option_map (λ t. t.now) given.bits) _ named)
+    (failed_opened _ _ _ _ _ c.from_residual-in_err-meaning.ensures.1 (all_first _ _ _ c.in_err-meaning.ensures.opened))

@@ -1,9 +1,9 @@
 -- The files have these bytes by these names, and no refusal has status 0.
-use Rattle.std.proofs.Common.{refl, inl, inr, arith}
+use Rattle.std.proofs.Common.{refl, inl, inr, arith, subst}
 use Rattle.norprog_common.proofs.ToldLemmas.{refused_status}
 use Rattle.norprog_common.specs.FileStore.{Adds}
-use Rattle.test_files.specs.Told.{place, told_changes}
-use Rattle.test_files.proofs.WorkedLemmas.{build_may, built_told, made_told}
+use Rattle.test_files.specs.Told.{place, told_changes, told_names}
+use Rattle.test_files.proofs.WorkedLemmas.{build_may, built_told, job_files, made_told}
 use Rattle.test_files.proofs.built.build_of.Goals as goal
 
 -- both files are there
@@ -30,4 +30,8 @@ returns g c = record {
         c.build_args.ensures.image c.build_args.ensures.content c.build_args.ensures.layout c.build_args.ensures.chip _ c.build_args.ensures.out done.1.2
     | inr told ↦ absurd (omega (arith, zero, refused_status told.1.0 c.build-status.result told.1.2))
   ];
+  opened = λ zero.
+      subst (Adds (told_names c.args.ledger.now) (told_names c.build-status.new.ledger))
+      (job_files c.build_args.result.job c.build_args.ensures.image c.build_args.ensures.content c.build_args.ensures.layout c.build_args.ensures.chip)
+      (c.build-status.ensures.opened.1 zero);
 }

@@ -1,9 +1,9 @@
 -- The files have these bytes by these names, and no refusal has status 0.
-use Rattle.std.proofs.Common.{refl, inl, inr, arith}
+use Rattle.std.proofs.Common.{refl, inl, inr, arith, subst}
 use Rattle.norprog_common.proofs.ToldLemmas.{refused_status}
 use Rattle.norprog_common.specs.FileStore.{Adds}
-use Rattle.test_files.specs.Told.{place, told_changes}
-use Rattle.test_files.proofs.RanLemmas.{output_told, run_may, run_told}
+use Rattle.test_files.specs.Told.{place, told_changes, told_names}
+use Rattle.test_files.proofs.RanLemmas.{output_told, run_files, run_may, run_told}
 use Rattle.test_files.proofs.ran.run_of.Goals as goal
 
 -- both files are there
@@ -30,4 +30,7 @@ returns g c = record {
         c.run_args.ensures.content c.run_args.ensures.script c.run_args.ensures.chip c.run_args.ensures.out done.2
     | inr told ↦ absurd (omega (arith, zero, refused_status told.1.0 c.run-status.result told.1.2))
   ];
+  opened = λ zero.
+      subst (Adds (told_names c.args.ledger.now) (told_names c.run-status.new.ledger))
+      (run_files c.run_args.result c.run_args.ensures.content c.run_args.ensures.script c.run_args.ensures.chip) (c.run-status.ensures.opened.1 zero);
 }
