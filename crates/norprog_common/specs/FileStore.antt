@@ -218,6 +218,12 @@ abbrev pub DoNotFail : {F : Type 0} → (F → ℕ) → ScriptFile F → Type 0
 DoNotFail count (Twice first again) = (count first ≡ 0) × (count again ≡ 0)
 DoNotFail count (Held text) = ⊤
 
+-- a script of other readers over those that it has, or of the text that it holds
+abbrev pub IsSameScript : {F G : Type 0} → (G → F) → ScriptFile F → ScriptFile G → Type 0
+IsSameScript inner (Twice first again) (Twice other later) = (inner other ≡ first) × (inner later ≡ again)
+IsSameScript inner (Held text) (Held other) = other ≡ text
+IsSameScript inner script other = ⊥
+
 -- the text that a script holds, or that its second reader had ahead
 abbrev pub IsTextOfFile : {F : Type 0} → (F → Ahead) → ScriptFile F → List ℕ → Type 0
 IsTextOfFile ahead (Twice first again) text = (rest : Ahead) × IsTextOf (ahead again) rest text

@@ -63,6 +63,7 @@ fn read_opened<F: Read + Drop>(
     name: FileName,
 ) -> Result<Vec<u8>, Refusal>
     ensures length { IfOk result (λ bytes. length bytes.items ≤ 2 ^ 36) }
+    ensures whole { IfOk result (λ bytes. IfSome (F.remaining file) (λ rest. bytes.items ≡ rest)) }
     ensures refused { IfErr result (RefusesFile name) }
     ensures files { IfErr result IsOfFiles }
 {
@@ -205,7 +206,7 @@ pub(crate) fn create_fresh<R: Files>(rt: &R, path: &str, name: FileName) -> Resu
     }
 }
 
-/// Opens a terminal to read from it.
+/// Opens a terminal to read from it, and returns which one it is.
 ///
 /// Where it isn't one, can't be opened or asked, `File` of `Device`; `Memory` where a growth is
 /// refused.
@@ -213,7 +214,7 @@ pub(crate) fn open_device_reader<R: Files>(
     rt: &R,
     alloc: Global,
     path: &str,
-) -> Result<R::File, Refusal>
+) -> Result<(R::File, FileId), Refusal>
     ensures refused { IfErr result (RefusesFile Device) }
     ensures files { IfErr result IsOfFiles }
 {
@@ -223,18 +224,20 @@ pub(crate) fn open_device_reader<R: Files>(
         Err(error) => return Err(refusal_of(&error, FileName::Device)),
     };
     // the name may have come to mean another file since it was asked about
-    only_terminal(rt, alloc, from.metadata())?;
-    Ok(from)
+    let place = only_terminal(rt, alloc, from.metadata())?;
+    Ok((from, place))
 }
 
-/// Opens a terminal to write to it. Nothing else is opened to write, nor changed.
+/// Opens a terminal to write to it, which has to be this one. Nothing else is opened to write, nor
+/// changed.
 ///
-/// Where it isn't one, can't be opened or asked, `File` of `Device`; `Memory` where a growth is
-/// refused.
+/// Where it is another one or none, can't be opened or asked, `File` of `Device`; `Memory` where a
+/// growth is refused.
 pub(crate) fn open_device_writer<R: Files>(
     rt: &R,
     alloc: Global,
     path: &str,
+    place: FileId,
 ) -> Result<R::File, Refusal>
     ensures refused { IfErr result (RefusesFile Device) }
     ensures files { IfErr result IsOfFiles }
@@ -244,7 +247,8 @@ pub(crate) fn open_device_writer<R: Files>(
         Ok(file) => file,
         Err(error) => return Err(refusal_of(&error, FileName::Device)),
     };
-    only_terminal(rt, alloc, to.metadata())?;
+    let same = only_terminal(rt, alloc, to.metadata())?;
+    only_same(place, same, FileName::Device)?;
     Ok(to)
 }
 
@@ -273,12 +277,12 @@ pub(crate) fn open_error<R: Files>(rt: &R, path: &str) -> Option<io::Error> {
 }
 
 /// Refuses what isn't known to be a terminal: a character device that a driver of terminals has.
-/// One of another kind may take what is written to it as something else.
+/// One of another kind may take what is written to it as something else. Returns which one it is.
 fn only_terminal<R: Files>(
     rt: &R,
     alloc: Global,
     metadata: io::Result<Metadata>,
-) -> Result<(), Refusal>
+) -> Result<FileId, Refusal>
     ensures device { IfOk result
         (λ _. MatchResult metadata (λ m. is_character_device (metadata_mode m) ≡ true) (λ _. ⊥)) }
     ensures refused { IfErr result (RefusesFile Device) }
@@ -287,7 +291,7 @@ fn only_terminal<R: Files>(
     match metadata {
         Ok(metadata)
             if is_character_device(metadata.mode()) && is_terminal(rt, alloc, metadata.rdev())? => {
-            Ok(())
+            Ok(id_of(&metadata))
         }
         Ok(_) => Err(Refusal::File(FileName::Device)),
         Err(error) => Err(refusal_of(&error, FileName::Device)),

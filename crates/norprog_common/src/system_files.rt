@@ -1,7 +1,7 @@
 //! The files of the system as a store.
 
 ghost use Rattle.std.specs.Prelude.{◌≡◌, ◌&&◌, is_ok, nat_eq};
-ghost use Rattle.norprog_common.specs.FileStore.{DoNotFail};
+ghost use Rattle.norprog_common.specs.FileStore.{DoNotFail, IsSameScript};
 
 use crate::faults::{FileName, Refusal};
 use crate::files::{
@@ -137,11 +137,11 @@ impl<'a, R: Files> FileStore for SystemFiles<'a, R> {
         alloc: Global,
         path: &str,
     ) -> Result<(FromRead<BufReader<R::File>>, IntoWrite<R::File>), Refusal> {
-        let file = open_device_reader(self.files, alloc, path)?;
+        let (file, place) = open_device_reader(self.files, alloc, path)?;
         let Ok(from) = BufReader::new(alloc, file) else {
             return Err(Refusal::MEMORY);
         };
-        let to = open_device_writer(self.files, alloc, path)?;
+        let to = open_device_writer(self.files, alloc, path, place)?;
         Ok((FromRead::new(from), IntoWrite::new(to)))
     }
 
@@ -180,7 +180,8 @@ fn gone_out(flushed: io::Result<()>, failed: u64) -> Result<(), Failed>
 
 /// A script's file as devices that haven't failed.
 fn as_devices<F: Read + Drop>(script: ScriptFile<F>) -> ScriptFile<FromRead<F>>
-    ensures { DoNotFail (λ file. file.failed) result }
+    ensures same { IsSameScript (λ file. file.inner) script result }
+    ensures count { DoNotFail (λ file. file.failed) result }
 {
     match script {
         ScriptFile::Twice(first, again) => ScriptFile::Twice(

@@ -2,6 +2,7 @@
 use Rattle.std.specs.Prelude.{◌≡◌, ℕ, Bool, true, false, List, [], Option, Result, Ok, Err}
 use Rattle.nor_base.specs.Device.{Ahead}
 use Rattle.nor_serprog.specs.declared.fault.Fault.{Fault}
+use Rattle.nor_serprog.specs.declared.fault.Fault.TheVariants.{Write}
 use Rattle.nor_serprog.specs.declared.limits.Limits.{Limits}
 use Rattle.nor_serprog.specs.Exchange.{Answers, Asks}
 use Rattle.nor_serprog.specs.Greeting.{Greeted, release_bytes}
@@ -28,12 +29,13 @@ Opens held_before held_after ahead_before ahead_after (Err (Greet why)) = Greete
 Opens held_before held_after ahead_before ahead_after (Err (Line why)) =
     (limits : Limits) × HasOpened held_before held_after ahead_before ahead_after limits (Err why)
 
--- the pins were let go where the device drives them, whatever it answered; else nothing was sent
-abbrev pub LetsGo : Option (List ℕ) → Option (List ℕ) → Ahead → Ahead → Bool → Type 0
-LetsGo held_before held_after ahead_before ahead_after true =
+-- where the device drives the pins it was asked to let them go, whatever it answered, and all of that was sent unless the device failed as
+-- it was written to (`Unsent`); else nothing was sent
+abbrev pub LetsGo : Type 0 → Option (List ℕ) → Option (List ℕ) → Ahead → Ahead → Bool → Type 0
+LetsGo Unsent held_before held_after ahead_before ahead_after true =
     (result : Result (Unit {0}) Fault) × Asks held_before held_after ahead_before ahead_after result release_bytes
-    (Answers ahead_before ahead_after result [])
-LetsGo held_before held_after ahead_before ahead_after false = (held_after ≡ held_before) × (ahead_after ≡ ahead_before)
+    (Answers ahead_before ahead_after result []) × (result ≡ Err Write → Unsent)
+LetsGo Unsent held_before held_after ahead_before ahead_after false = (held_after ≡ held_before) × (ahead_after ≡ ahead_before)
 
 -- the device of this name couldn't be used, and is told as the device; or memory ran out
 abbrev pub LacksDevice : FileFacts → List ℕ → Refusal → Type 0

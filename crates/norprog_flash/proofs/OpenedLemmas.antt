@@ -1,8 +1,9 @@
 -- A job after the handshake, and then the pins were let go.
-use Rattle.std.proofs.Common.{◌≡◌, ◌<◌, ℕ, Bool, not, ◌&&◌, List, [], ◌∷◌, Option, Result, Ok, Err, IfOk, IfErr, inl, inr, refl, subst}
+use Rattle.std.proofs.Common.{◌≡◌, ◌<◌, ◌≤◌, ℕ, ◌+◌, Bool, not, ◌&&◌, List, [], ◌∷◌, Option, Some, None, Result, Ok, Err, IfOk, IfErr, inl, inr, refl, subst, arith}
 use Rattle.nor_base.specs.declared.step.Step.{Step}
 use Rattle.nor_base.specs.Device.{Ahead}
 use Rattle.nor_serprog.specs.declared.fault.Fault.{Fault}
+use Rattle.nor_serprog.specs.declared.fault.Fault.TheVariants.{Read, Write, Silent, Nak, Differs}
 use Rattle.nor_serprog.specs.declared.limits.Limits.{Limits}
 use Rattle.nor_serprog.specs.Greeting.{Greeted}
 use Rattle.nor_serprog.specs.Line.{TestsLine}
@@ -10,7 +11,7 @@ use Rattle.norprog_common.specs.FileStore.{FileFacts, Adds, Change, Created, Ope
 use Rattle.norprog_common.proofs.JournalLemmas.{adds_both}
 use Rattle.norprog_common.specs.declared.faults.FileName.TheVariants as file
 use Rattle.norprog_common.specs.declared.faults.Refusal.{Refusal}
-use Rattle.norprog_device.specs.Blame.{is_cut, Blames}
+use Rattle.norprog_device.specs.Blame.{is_cut, Blames, CountsFault}
 use Rattle.norprog_device.specs.Opened.{LacksDevice, LetsGo}
 use Rattle.norprog_flash.specs.declared.ending.Ending.{Ending}
 use Rattle.norprog_flash.specs.declared.ending.Unflashed.{Unflashed}
@@ -23,12 +24,22 @@ use Rattle.norprog_flash.specs.Opened.{HasFlashedOpened, HasFlashedTested, IsFla
 use Rattle.norprog_flash.specs.Stops.{StopsBegun, StopsOpened, StopsTested, StopsWork}
 use Rattle.norprog_read.proofs.BlameLemmas.{blames_by}
 use Rattle.norprog_read.proofs.MadeLemmas.{unsaved_by}
+use Rattle.norprog_read.proofs.ReadLemmas.{goes_wider}
 
-pub opened_by : (files : FileFacts) (job : Job) (h i j k : Option (List ℕ)) (a b c d : Ahead) (o p : Option (List ℕ)) (Shown : List Step → ℕ → Type 0)
+-- the count of failed writes doesn't fall
+pub writes_low : (before after : ℕ) (why : Option Fault) → CountsFault Write before after why → before ≤ after
+writes_low before after None counts = omega (arith, counts)
+writes_low before after (Some Read) counts = omega (arith, counts)
+writes_low before after (Some Write) counts = omega (arith, counts)
+writes_low before after (Some Silent) counts = omega (arith, counts)
+writes_low before after (Some Nak) counts = omega (arith, counts)
+writes_low before after (Some Differs) counts = omega (arith, counts)
+
+pub opened_by : (B C : Type 0) (wider : B → C) (files : FileFacts) (job : Job) (h i j k : Option (List ℕ)) (a b c d : Ahead) (o p : Option (List ℕ)) (Shown : List Step → ℕ → Type 0)
     (limits : Limits) (r : Result Ending Unflashed) (pins : Bool) → Greeted h i a b (Ok limits)
-    → IfOk r (HasFlashedTested files job limits i j b c o p Shown) → pins ≡ (limits.pins && not (is_cut (fault_in r))) → LetsGo j k c d pins
-    → IfOk r (HasFlashedOpened files job h k a d o p Shown)
-opened_by files job h i j k a b c d o p Shown limits (Ok ending) pins greeted tested is released = record {
+    → IfOk r (HasFlashedTested files job limits i j b c o p Shown) → pins ≡ (limits.pins && not (is_cut (fault_in r))) → LetsGo B j k c d pins
+    → IfOk r (HasFlashedOpened C files job h k a d o p Shown)
+opened_by B C wider files job h i j k a b c d o p Shown limits (Ok ending) pins greeted tested is released = record {
   held = i;
   ahead = b;
   limits = limits;
@@ -36,17 +47,17 @@ opened_by files job h i j k a b c d o p Shown limits (Ok ending) pins greeted te
   held_late = j;
   ahead_late = c;
   tested = tested;
-  released = subst (λ (frees : Bool). LetsGo j k c d frees) is released;
+  released = subst (λ (frees : Bool). LetsGo C j k c d frees) is (goes_wider B C wider j k c d pins released);
 }
-opened_by files job h i j k a b c d o p Shown limits (Err why) pins greeted tested is released = tt
+opened_by B C wider files job h i j k a b c d o p Shown limits (Err why) pins greeted tested is released = tt
 
 -- or it wasn't begun
-pub stopped_by : (files : FileFacts) (Made : List Change → Type 0) (job : Job) (h i j k : Option (List ℕ)) (a b c d : Ahead) (o p : Option (List ℕ))
+pub stopped_by : (B C : Type 0) (wider : B → C) (files : FileFacts) (Made : List Change → Type 0) (job : Job) (h i j k : Option (List ℕ)) (a b c d : Ahead) (o p : Option (List ℕ))
     (limits : Limits) (r : Result Ending Unflashed) (pins : Bool) → Greeted h i a b (Ok limits)
-    → IfErr r (StopsTested files Made i j b c limits job o p) → pins ≡ (limits.pins && not (is_cut (fault_in r))) → LetsGo j k c d pins
-    → IfErr r (StopsOpened files Made h k a d job o p)
-stopped_by files Made job h i j k a b c d o p limits (Ok ending) pins greeted stops is released = tt
-stopped_by files Made job h i j k a b c d o p limits (Err why) pins greeted stops is released = inr (record {
+    → IfErr r (StopsTested files Made i j b c limits job o p) → pins ≡ (limits.pins && not (is_cut (fault_in r))) → LetsGo B j k c d pins
+    → IfErr r (StopsOpened C files Made h k a d job o p)
+stopped_by B C wider files Made job h i j k a b c d o p limits (Ok ending) pins greeted stops is released = tt
+stopped_by B C wider files Made job h i j k a b c d o p limits (Err why) pins greeted stops is released = inr (record {
   held = i;
   ahead = b;
   limits = limits;
@@ -54,7 +65,7 @@ stopped_by files Made job h i j k a b c d o p limits (Err why) pins greeted stop
   held_late = j;
   ahead_late = c;
   stops = stops;
-  released = subst (λ (frees : Bool). LetsGo j k c d frees) is released;
+  released = subst (λ (frees : Bool). LetsGo C j k c d frees) is (goes_wider B C wider j k c d pins released);
 })
 
 pub stopped_after : {T : Type 0} (files : FileFacts) (Made : List Change → Type 0) (job : Job) (h i j : Option (List ℕ)) (a b c : Ahead)
@@ -72,25 +83,40 @@ module _ (files : FileFacts) (a b c d : ℕ) (reads : a ≡ 0) (writes : c ≡ 0
       blames_by (a < b) (c < d) files.unread files.unsent (λ rose. unread (subst (λ (n : ℕ). n < b) reads rose))
       (λ rose. unsent (subst (λ (n : ℕ). n < d) writes rose)) why blamed
 
+flashed_wider : (B C : Type 0) (wider : B → C) (files : FileFacts) (job : Job) (h i : Option (List ℕ)) (a b : Ahead) (o p : Option (List ℕ))
+    (Shown : List Step → ℕ → Type 0) (ending : Ending) → HasFlashedOpened B files job h i a b o p Shown ending
+    → HasFlashedOpened C files job h i a b o p Shown ending
+flashed_wider B C wider files job h i a b o p Shown ending flashed = record {
+  held = flashed.held;
+  ahead = flashed.ahead;
+  limits = flashed.limits;
+  greeted = flashed.greeted;
+  held_late = flashed.held_late;
+  ahead_late = flashed.ahead_late;
+  tested = flashed.tested;
+  released = goes_wider B C wider flashed.held_late i flashed.ahead_late b (flashed.limits.pins && not (is_cut (fault_of_ending ending))) flashed.released;
+}
+
 pub flashed_on : (files : FileFacts) (device : List ℕ) (job : Job) (first : Ahead) (h held : Option (List ℕ)) (ahead : Ahead) (o p : Option (List ℕ))
     (Shown : List Step → ℕ → Type 0) (a b c d : ℕ) (r : Result Ending Unflashed) → a ≡ 0 → c ≡ 0 → (0 < b → files.unread) → (0 < d → files.unsent)
     → files.device device first h → files.left held → Blames (a < b) (c < d) (fault_in r)
-    → IfOk r (HasFlashedOpened files job h held first ahead o p Shown) → IfOk r (IsFlashedOn files device job o p Shown)
+    → IfOk r (HasFlashedOpened (c < d) files job h held first ahead o p Shown) → IfOk r (IsFlashedOn files device job o p Shown)
 flashed_on files device job first h held ahead o p Shown a b c d (Ok ending) reads writes unread unsent opened left blamed flashed = record {
   ahead_first = first;
   held_first = h;
   opened = opened;
   held = held;
   ahead = ahead;
-  flashed = flashed;
+  flashed = flashed_wider (c < d) files.unsent (λ rose. unsent (subst (λ (n : ℕ). n < d) writes rose)) files job h held first ahead o p Shown ending
+      flashed;
   left = left;
   blamed = told_by files a b c d reads writes unread unsent (fault_of_ending ending) blamed;
 }
 flashed_on files device job first h held ahead o p Shown a b c d (Err why) reads writes unread unsent opened left blamed flashed = tt
 
 -- ---- after other changes
-module _ (files : FileFacts) (Made Other : List Change → Type 0) (wider : (xs : List Change) → Made xs → Other xs) (job : Job)
-    (o p : Option (List ℕ)) (why : Unflashed) where
+module _ (B C : Type 0) (later : B → C) (files : FileFacts) (Made Other : List Change → Type 0) (wider : (xs : List Change) → Made xs → Other xs)
+    (job : Job) (o p : Option (List ℕ)) (why : Unflashed) where
   work_wider : (h i : Option (List ℕ)) (a b : Ahead) → StopsWork files Made h i a b job o p why → StopsWork files Other h i a b job o p why
   work_wider h i a b (inl (same, inl before)) = inl (same, inl (wider [] before.0, before.1))
   work_wider h i a b (inl (same, inr late)) = inl (
@@ -126,7 +152,8 @@ module _ (files : FileFacts) (Made Other : List Change → Type 0) (wider : (xs 
     };
   })
 
-  pub opened_wider : (h i : Option (List ℕ)) (a b : Ahead) → StopsOpened files Made h i a b job o p why → StopsOpened files Other h i a b job o p why
+  pub opened_wider : (h i : Option (List ℕ)) (a b : Ahead) → StopsOpened B files Made h i a b job o p why
+      → StopsOpened C files Other h i a b job o p why
   opened_wider h i a b (inl fault) = inl (fault.0, fault.1, fault.2, wider [] fault.3, fault.4)
   opened_wider h i a b (inr greeted) = inr (record {
     held = greeted.held;
@@ -136,14 +163,15 @@ module _ (files : FileFacts) (Made Other : List Change → Type 0) (wider : (xs 
     held_late = greeted.held_late;
     ahead_late = greeted.ahead_late;
     stops = tested_wider greeted.held greeted.held_late greeted.ahead greeted.ahead_late greeted.limits greeted.stops;
-    released = greeted.released;
+    released = goes_wider B C later greeted.held_late i greeted.ahead_late b (greeted.limits.pins && not (is_cut (fault_of_stop why)))
+        greeted.released;
   })
 
 -- or the job on the device that was opened stopped so
 pub unbegun_on : (files : FileFacts) (device : List ℕ) (job : Job) (first : Ahead) (h held : Option (List ℕ)) (ahead : Ahead)
     (o p : Option (List ℕ)) (before mid after : Option (List Change)) (a b c d : ℕ) (r : Result Ending Unflashed) → a ≡ 0 → c ≡ 0
     → (0 < b → files.unread) → (0 < d → files.unsent) → Adds before mid (Opened device ∷ []) → IsSoundEarly job → files.device device first h
-    → files.left held → Blames (a < b) (c < d) (fault_in r) → IfErr r (StopsOpened files (Adds mid after) h held first ahead job o p)
+    → files.left held → Blames (a < b) (c < d) (fault_in r) → IfErr r (StopsOpened (c < d) files (Adds mid after) h held first ahead job o p)
     → IfErr r (IsUnbegunOn files device (Adds before after) job o p)
 unbegun_on files device job first h held ahead o p before mid after a b c d (Ok ending) reads writes unread unsent made sound opened left blamed stops = tt
 unbegun_on files device job first h held ahead o p before mid after a b c d (Err why) reads writes unread unsent made sound opened left blamed stops = inr (
@@ -154,7 +182,7 @@ unbegun_on files device job first h held ahead o p before mid after a b c d (Err
     opened = opened;
     held = held;
     ahead = ahead;
-    stops = opened_wider files (Adds mid after) (λ next. Adds before after (Opened device ∷ next))
+    stops = opened_wider (c < d) files.unsent (λ rose. unsent (subst (λ (n : ℕ). n < d) writes rose)) files (Adds mid after) (λ next. Adds before after (Opened device ∷ next))
         (λ xs more. adds_both before mid after (Opened device ∷ []) xs made more) job o p why h held first ahead stops;
     left = left;
     blamed = told_by files a b c d reads writes unread unsent (fault_of_stop why) blamed;

@@ -33,16 +33,16 @@ given_twice h i a b m start false content is given = absurd cc
 module _ (files : FileFacts) (job : Job) (h0 h1 : Option (List ℕ)) (a0 a1 : Ahead) (r : Reading) (goal : List ℕ) (steps : List Step)
     (o0 o1 : Option (List ℕ)) (planned : HasPlanned files job h0 h1 a0 a1 r goal steps o0 o1) where
   -- the work is that of the meaning that was read
-  chip : planned.work.m ≡ r.meaning
-  chip = meaning_same _ planned.work.m r.meaning planned.work.accepted.means planned.read.read.means.means
+  chip : planned.plan.work.m ≡ r.meaning
+  chip = meaning_same _ planned.plan.work.m r.meaning planned.plan.work.accepted.means planned.read.read.means.means
 
   workable : IsWorkable r.meaning (start_of (flash_task job r.tables.items)) r.content.items goal
   workable =
-      subst (λ (m : Parameters). IsWorkable m (start_of (flash_task job r.tables.items)) r.content.items goal) chip planned.work.workable
+      subst (λ (m : Parameters). IsWorkable m (start_of (flash_task job r.tables.items)) r.content.items goal) chip planned.plan.work.workable
 
   steps_planned : ArePlanned r.meaning (start_of (flash_task job r.tables.items)) true r.content.items goal steps
   steps_planned =
-      subst (λ (m : Parameters). ArePlanned m (start_of (flash_task job r.tables.items)) true r.content.items goal steps) chip planned.work.planned
+      subst (λ (m : Parameters). ArePlanned m (start_of (flash_task job r.tables.items)) true r.content.items goal steps) chip planned.plan.work.planned
 
   pub steps_doable : PlannedIsDoable → All IsDoable steps
   steps_doable law = law r.meaning (start_of (flash_task job r.tables.items)) true r.content.items goal steps steps_planned
@@ -55,13 +55,13 @@ module _ (files : FileFacts) (job : Job) (h0 h1 : Option (List ℕ)) (a0 a1 : Ah
     pub every_flashes : Closes → (h2 : Option (List ℕ)) (a2 : Ahead) (limits : Limits) (turns : ℕ) → HasDoneAll h1 h2 a1 a2 limits turns steps
         → ClosesApart planned.read.read.h3 planned.read.read.h4 planned.read.read.a3 planned.read.read.a4 h1 h2 a1 a2 r.meaning
         (start_of (flash_task job r.tables.items)) r.content.items
-        (goal_of (flash_task job r.tables.items) planned.work.image planned.work.regions (dump_of job)) steps
+        (goal_of (flash_task job r.tables.items) planned.plan.work.image planned.plan.work.regions (dump_of job)) steps
     every_flashes law h2 a2 limits turns done =
         let start = start_of (flash_task job r.tables.items) in
-        let target = goal_of (flash_task job r.tables.items) planned.work.image planned.work.regions (dump_of job) in
+        let target = goal_of (flash_task job r.tables.items) planned.plan.work.image planned.plan.work.regions (dump_of job) in
         law _ _ h1 h2 _ _ a1 a2 limits turns r.meaning start true r.content.items target steps
-        (subst (λ (w : List ℕ). IsWorkable r.meaning start r.content.items w) planned.work.goal_is workable)
-        (subst (λ (w : List ℕ). ArePlanned r.meaning start true r.content.items w steps) planned.work.goal_is steps_planned) twice done
+        (subst (λ (w : List ℕ). IsWorkable r.meaning start r.content.items w) planned.plan.work.goal_is workable)
+        (subst (λ (w : List ℕ). ArePlanned r.meaning start true r.content.items w steps) planned.plan.work.goal_is steps_planned) twice done
 
     pub every_keeps : Breaks → (h2 : Option (List ℕ)) (a2 : Ahead) (limits : Limits) (turns : ℕ) (halt : Halt)
         → (halted : HasHalted h1 h2 a1 a2 limits turns steps halt)

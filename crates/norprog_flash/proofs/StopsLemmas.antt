@@ -92,12 +92,12 @@ pub cant_plan : (job : Job) (r : Reading) (o p : Option (List ℕ)) (t : Task) (
 cant_plan job r o p t tables content old why task same all rest refused =
     let from = unwrap_or (dump_of job) r.content.items in
     let is : old ≡ from = rest ∙ ap (unwrap_or (dump_of job)) all in
-    inr (
+    inr (inl (
       why,
       refl,
       subst (λ (x : Task). RefusesWork x r.content.items from o p why) (task ∙ ap (flash_task job) same)
           (subst (λ (xs : List ℕ). RefusesWork t xs from o p why) all (subst (λ (xs : List ℕ). RefusesWork t content xs o p why) is refused)),
-    )
+    ))
 
 pub other_size : (job : Job) (r : Reading) (o : Option (List ℕ)) (content old : List ℕ) → content ≡ r.content.items
     → old ≡ unwrap_or (dump_of job) content → (length old ≡ length content → ⊥) → CantPlan job r o o (Build ContentSize)

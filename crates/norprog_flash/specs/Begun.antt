@@ -1,5 +1,6 @@
 -- A chip that was read, saved and planned for (this project's).
 use Rattle.std.specs.Prelude.{◌≡◌, ℕ, true, List, length, Option, unwrap_or}
+use Rattle.std.specs.Io.KnownBytes.{Appends}
 use Rattle.nor_base.specs.declared.meaning.Start.{Start}
 use Rattle.nor_base.specs.declared.step.Step.{Step}
 use Rattle.nor_base.specs.Device.{Ahead}
@@ -11,6 +12,7 @@ use Rattle.nor_sfdp.specs.Bits.{is_set}
 use Rattle.norprog_common.specs.FileStore.{FileFacts}
 use Rattle.norprog_flash.specs.declared.job.Job.{Job}
 use Rattle.norprog_flash.specs.Task.{dump_of, flash_task}
+use Rattle.norprog_flash.specs.Way.{way_text}
 use Rattle.norprog_read.specs.declared.asked.Reading.{Reading}
 use Rattle.norprog_read.specs.Chip.{HasReadChip}
 use Rattle.norprog_read.specs.Saved.{IsSaved}
@@ -32,12 +34,18 @@ pub record HasRead (job : Job) (held_before held_after : Option (List ℕ)) (ahe
   pub sure : IsSureOfMode r.meaning (start_of (flash_task job r.tables.items))
   pub filled : job.strict ≡ true → HasNoneEmpty (flash_task job r.tables.items) (length r.content.items)
 
+-- the work from what was read to the target was planned and printed, and then how to go on where it stops on the way
+pub record PrintsPlan (job : Job) (r : Reading) (goal : List ℕ) (steps : List Step) (out_before out_after : Option (List ℕ)) : Type 0 where
+  pub middle : Option (List ℕ)
+  pub work : IsWork (flash_task job r.tables.items) r.content.items (unwrap_or (dump_of job) r.content.items) goal steps out_before middle
+  pub way : Appends middle out_after (way_text job.dry steps job.texts.now)
+
 -- it was read, and nothing else was sent; what it holds is saved; and the work from that to the target was planned and printed
 pub record HasPlanned (files : FileFacts) (job : Job) (held_before held_after : Option (List ℕ)) (ahead_before ahead_after : Ahead)
     (r : Reading) (goal : List ℕ) (steps : List Step) (out_before out_after : Option (List ℕ)) : Type 0 where
   pub read : HasRead job held_before held_after ahead_before ahead_after r
   pub saved : IsSaved files job.before.now r.content.items
-  pub work : IsWork (flash_task job r.tables.items) r.content.items (unwrap_or (dump_of job) r.content.items) goal steps out_before out_after
+  pub plan : PrintsPlan job r goal steps out_before out_after
 
 -- so, whatever went over the wire and was printed meanwhile
 abbrev pub IsPlannedOn : FileFacts → Job → Reading → List ℕ → List Step → Type 0

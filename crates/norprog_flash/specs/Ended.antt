@@ -37,7 +37,7 @@ abbrev pub EveryChipFlashes : {files : FileFacts} {job : Job} {held_before held 
 EveryChipFlashes {job = job} {held = held} {ahead = ahead} todo held_after ahead_after =
     let t = flash_task job todo.reading.tables.items in
     let read = todo.planned.read.read in
-    let work = todo.planned.work in
+    let work = todo.planned.plan.work in
     ClosesApart read.h3 read.h4 read.a3 read.a4 held held_after ahead ahead_after todo.reading.meaning (start_of t) todo.reading.content.items
     (goal_of t work.image work.regions (dump_of job)) todo.steps
 

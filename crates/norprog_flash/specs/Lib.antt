@@ -1,10 +1,11 @@
 pub mod Task
 pub mod Early
+pub mod State
+pub mod Way
 pub mod Begun
 pub mod Worked
 pub mod Ended
 pub mod Line
-pub mod State
 pub mod Blame
 pub mod Opened
 pub mod Stops

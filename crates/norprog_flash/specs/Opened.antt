@@ -22,8 +22,10 @@ pub record HasFlashedTested (files : FileFacts) (job : Job) (limits : Limits) (h
   pub tested : TestsLine held_before held ahead_before ahead (Ok tt) limits
   pub ends : EndsFlash files job limits held held_after ahead ahead_after out_before out_after Shown ending
 
--- the handshake, the test of the line, the job, and the pins, unless a request was cut: nothing else was sent
-pub record HasFlashedOpened (files : FileFacts) (job : Job) (held_before held_after : Option (List ℕ)) (ahead_before ahead_after : Ahead)
+-- the handshake, the test of the line, the job, and the pins, unless a request was cut: nothing else was sent. `Unsent`: the device failed as
+-- it was written to
+pub record HasFlashedOpened (Unsent : Type 0) (files : FileFacts) (job : Job) (held_before held_after : Option (List ℕ))
+    (ahead_before ahead_after : Ahead)
     (out_before out_after : Option (List ℕ)) (Shown : List Step → ℕ → Type 0) (ending : Ending) : Type 0 where
   pub held : Option (List ℕ)
   pub ahead : Ahead
@@ -32,7 +34,7 @@ pub record HasFlashedOpened (files : FileFacts) (job : Job) (held_before held_af
   pub held_late : Option (List ℕ)
   pub ahead_late : Ahead
   pub tested : HasFlashedTested files job limits held held_late ahead ahead_late out_before out_after Shown ending
-  pub released : LetsGo held_late held_after ahead_late ahead_after (limits.pins && not (is_cut (fault_of_ending ending)))
+  pub released : LetsGo Unsent held_late held_after ahead_late ahead_after (limits.pins && not (is_cut (fault_of_ending ending)))
 
 -- the device of this name was opened, had this ahead, and had taken that; the job on its chip ended so, and nothing was sent after that.
 -- The reader is blamed only where the device failed as it was read, and the writer only where it failed as it was written to
@@ -43,6 +45,6 @@ pub record IsFlashedOn (files : FileFacts) (device : List ℕ) (job : Job) (out_
   pub opened : files.device device ahead_first held_first
   pub held : Option (List ℕ)
   pub ahead : Ahead
-  pub flashed : HasFlashedOpened files job held_first held ahead_first ahead out_before out_after Shown ending
+  pub flashed : HasFlashedOpened files.unsent files job held_first held ahead_first ahead out_before out_after Shown ending
   pub left : files.left held
   pub blamed : Blames files.unread files.unsent (fault_of_ending ending)

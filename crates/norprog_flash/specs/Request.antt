@@ -39,3 +39,4 @@ pub record AsksFor (given : FlashArgs) (request : FlashRequest) : Type 0 where
   pub strict : request.strict ≡ given.strict
   pub dry_run : request.dry_run ≡ given.dry_run
   pub regions : request.regions.now ≡ given.regions.items
+  pub texts : request.texts.now ≡ given

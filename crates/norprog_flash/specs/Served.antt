@@ -32,6 +32,7 @@ pub record IsJobOf (facts : FileFacts) (request : FlashRequest) (job : Job) : Ty
   pub before : job.before.now ≡ request.before.now
   pub strict : job.strict ≡ request.strict
   pub dry : job.dry ≡ request.dry_run
+  pub texts : job.texts.now ≡ request.texts.now
 
 -- the name that each option gives of a file that is read before the device is opened: of the image, the layout, the tables and the
 -- older content these, of another none

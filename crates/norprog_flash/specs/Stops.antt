@@ -1,10 +1,11 @@
 -- Why work isn't begun; and that nothing went over the wire till then that changes what a chip holds (this project's).
 use Rattle.std.specs.Prelude.{◌≡◌, ◌≤◌, ◌+◌, ◌⊎◌, ⊤, ℕ, Bool, false, not, ◌&&◌, List, [], ◌∷◌, length, Option, unwrap_or, Result, Ok, Err, ◌≢◌}
 use Rattle.nor_base.specs.declared.meaning.Start.{Start}
-use Rattle.nor_base.specs.Device.{Ahead}
+use Rattle.nor_base.specs.declared.step.Step.{Step}
+use Rattle.nor_base.specs.Device.{Ahead, Cuts}
 use Rattle.nor_base.specs.Parameters.{Parameters}
 use Rattle.nor_job.specs.declared.fault.BuildFault.{BuildFault}
-use Rattle.nor_job.specs.declared.fault.BuildFault.TheVariants.{ContentSize}
+use Rattle.nor_job.specs.declared.fault.BuildFault.TheVariants.{ContentSize, Write}
 use Rattle.nor_job.specs.Status.{start_of}
 use Rattle.nor_probe.specs.Status.{suits}
 use Rattle.nor_reader.specs.Harmless.{SendsHarmless}
@@ -28,6 +29,7 @@ use Rattle.norprog_flash.specs.declared.job.Job.{Job}
 use Rattle.norprog_flash.specs.Begun.{HasRead, start_at}
 use Rattle.norprog_flash.specs.Blame.{fault_of_stop}
 use Rattle.norprog_flash.specs.Task.{dump_of, flash_task}
+use Rattle.norprog_flash.specs.Way.{way_text}
 use Rattle.norprog_read.specs.declared.asked.Ask.{Ask}
 use Rattle.norprog_read.specs.declared.asked.Reading.{Reading}
 use Rattle.norprog_read.specs.declared.fault.Unlike.TheVariants.{Unreadable}
@@ -38,6 +40,7 @@ use Rattle.norprog_read.specs.Saved.{IsSaved, IsUnsaved}
 use Rattle.norprog_read.specs.Stops.{StopsChip}
 use Rattle.norprog_read.specs.Way.{has_both, is_readable}
 use Rattle.norprog_work.specs.Refused.{RefusesWork}
+use Rattle.norprog_work.specs.Work.{IsWork}
 
 -- that an output can't be written is told only where one failed
 abbrev pub TellsFailed : Type 0 → Unflashed → Type 0
@@ -94,12 +97,21 @@ pub record StopsUnsaved (files : FileFacts) (Made : List Change → Type 0) (hel
   pub is : why ≡ Refused refusal
   pub unsaved : IsUnsaved files job.before.now file.Before reading.content.items Made refusal
 
--- work is resumed from a dump that hasn't the chip's length, and nothing was printed; or the work from the content to the target, for which some lines of the plan may have been printed, couldn't be planned or printed
+-- the work from the content to the target was planned and printed, but not all of how to go on
+pub record LacksWay (job : Job) (r : Reading) (out_before out_after : Option (List ℕ)) : Type 0 where
+  pub goal : List ℕ
+  pub steps : List Step
+  pub middle : Option (List ℕ)
+  pub work : IsWork (flash_task job r.tables.items) r.content.items (unwrap_or (dump_of job) r.content.items) goal steps out_before middle
+  pub cut : Cuts middle out_after (way_text job.dry steps job.texts.now)
+
+-- work is resumed from a dump that hasn't the chip's length, and nothing was printed; or the work from the content to the target, for which some lines of the plan may have been printed, couldn't be planned or printed; or that
 abbrev pub CantPlan : Job → Reading → Option (List ℕ) → Option (List ℕ) → Refusal → Type 0
 CantPlan job r out_before out_after why =
     ((why ≡ Build ContentSize) × (length (unwrap_or (dump_of job) r.content.items) ≢ length r.content.items) × (out_after ≡ out_before))
-    ⊎ ((fault : BuildFault) × (why ≡ Build fault) × RefusesWork (flash_task job r.tables.items) r.content.items
+    ⊎ (((fault : BuildFault) × (why ≡ Build fault) × RefusesWork (flash_task job r.tables.items) r.content.items
     (unwrap_or (dump_of job) r.content.items) out_before out_after fault)
+    ⊎ ((why ≡ Build Write) × LacksWay job r out_before out_after))
 
 -- it was read and saved, and its work couldn't be planned or printed
 pub record StopsUnplanned (files : FileFacts) (Made : List Change → Type 0) (held_before held_after : Option (List ℕ))
@@ -142,8 +154,9 @@ StopsTested files Made held_before held_after ahead_before ahead_after limits jo
     × Made [] × (out_after ≡ out_before))
     ⊎ StopsAfter files Made held_before held_after ahead_before ahead_after limits job out_before out_after why
 
--- the handshake was done, what came after it stopped so, and the pins were let go, unless a request was cut: then nothing followed it
-pub record StopsGreeted (files : FileFacts) (Made : List Change → Type 0) (held_before held_after : Option (List ℕ))
+-- the handshake was done, what came after it stopped so, and the pins were let go, unless a request was cut: then nothing followed it.
+-- `Unsent`: the device failed as it was written to
+pub record StopsGreeted (Unsent : Type 0) (files : FileFacts) (Made : List Change → Type 0) (held_before held_after : Option (List ℕ))
     (ahead_before ahead_after : Ahead) (job : Job) (out_before out_after : Option (List ℕ)) (why : Unflashed) : Type 0 where
   pub held : Option (List ℕ)
   pub ahead : Ahead
@@ -152,15 +165,15 @@ pub record StopsGreeted (files : FileFacts) (Made : List Change → Type 0) (hel
   pub held_late : Option (List ℕ)
   pub ahead_late : Ahead
   pub stops : StopsTested files Made held held_late ahead ahead_late limits job out_before out_after why
-  pub released : LetsGo held_late held_after ahead_late ahead_after (limits.pins && not (is_cut (fault_of_stop why)))
+  pub released : LetsGo Unsent held_late held_after ahead_late ahead_after (limits.pins && not (is_cut (fault_of_stop why)))
 
 -- the handshake stopped, or so
-abbrev pub StopsOpened : FileFacts → (List Change → Type 0) → Option (List ℕ) → Option (List ℕ) → Ahead → Ahead → Job → Option (List ℕ)
+abbrev pub StopsOpened : Type 0 → FileFacts → (List Change → Type 0) → Option (List ℕ) → Option (List ℕ) → Ahead → Ahead → Job → Option (List ℕ)
     → Option (List ℕ) → Unflashed → Type 0
-StopsOpened files Made held_before held_after ahead_before ahead_after job out_before out_after why =
+StopsOpened Unsent files Made held_before held_after ahead_before ahead_after job out_before out_after why =
     ((fault : GreetFault) × (why ≡ Device (Greet fault)) × Greeted held_before held_after ahead_before ahead_after (Err fault)
     × Made [] × (out_after ≡ out_before))
-    ⊎ StopsGreeted files Made held_before held_after ahead_before ahead_after job out_before out_after why
+    ⊎ StopsGreeted Unsent files Made held_before held_after ahead_before ahead_after job out_before out_after why
 
 -- the device of this name was opened, had this ahead, and had taken that; then the job on its chip stopped so, and nothing was sent after
 -- that. The reader is blamed only where the device failed as it was read, and the writer only where it failed as it was written to
@@ -171,6 +184,6 @@ pub record StopsOn (files : FileFacts) (device : List ℕ) (Made : List Change �
   pub opened : files.device device ahead_first held_first
   pub held : Option (List ℕ)
   pub ahead : Ahead
-  pub stops : StopsOpened files Made held_first held ahead_first ahead job out_before out_after why
+  pub stops : StopsOpened files.unsent files Made held_first held ahead_first ahead job out_before out_after why
   pub left : files.left held
   pub blamed : Blames files.unread files.unsent (fault_of_stop why)

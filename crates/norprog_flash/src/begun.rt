@@ -10,7 +10,7 @@ ghost use Rattle.norprog_common.specs.Content.{CountsWriter};
 ghost use Rattle.norprog_common.specs.FileStore.{Adds, Created};
 ghost use Rattle.norprog_common.specs.Strict.{RefusesEmpty};
 ghost use Rattle.norprog_flash.specs.Blame.{fault_before};
-ghost use Rattle.norprog_flash.specs.Begun.{HasRead, HasPlanned, start_at};
+ghost use Rattle.norprog_flash.specs.Begun.{HasRead, HasPlanned, PrintsPlan, start_at};
 ghost use Rattle.norprog_flash.specs.Task.{dump_of, flash_task};
 ghost use Rattle.norprog_work.specs.Work.{IsWork};
 ghost use Rattle.nor_reader.specs.Harmless.{HasSentHarmless, SendsHarmless};
@@ -21,6 +21,7 @@ ghost use Rattle.norprog_flash.specs.Stops.{CantPlan, CountsOut, StopsBefore, St
 use crate::back::way_of;
 use crate::ending::Unflashed;
 use crate::job::{Job, inputs_for};
+use crate::way::print_way;
 use nor_base::{ByteIn, ByteOut, Start};
 use nor_job::BuildFault;
 use nor_probe::suits;
@@ -40,7 +41,8 @@ pub(crate) struct Begun {
     pub(crate) by: ReadBy,
 }
 
-/// Reads the chip, saves what it holds in a new file, and plans; the lines of the plan are printed.
+/// Reads the chip, saves what it holds in a new file, and plans; the lines of the plan are printed,
+/// and how to go on.
 pub(crate) fn begin<S: FileStore, R: ByteIn, W: ByteOut, O: ByteOut>(
     alloc: Global,
     store: &S,
@@ -80,8 +82,29 @@ pub(crate) fn begin<S: FileStore, R: ByteIn, W: ByteOut, O: ByteOut>(
         FileName::Before,
         reading.content.as_slice(),
     )?;
-    let work = plan_for(alloc, job, &reading, out)?;
+    let work = print_plan(alloc, job, &reading, out)?;
     Ok(Begun { reading, work, by })
+}
+
+/// Plans for a chip that was read; prints the lines of the plan, and then how to go on where the
+/// work stops on the way.
+fn print_plan<O: ByteOut>(
+    alloc: Global,
+    job: &Job<'_>,
+    reading: &Reading,
+    out: &mut O,
+) -> Result<Work, Refusal>
+    requires out { O.count out.old < 2 ^ 64 - 1 }
+    ensures plan { IfOk result
+        (λ work. PrintsPlan job.now reading.now work.goal.items work.steps.items
+        (O.held out.old) (O.held out.new)) }
+    ensures refused { IfErr result
+        (CantPlan job.now reading.now (O.held out.old) (O.held out.new)) }
+    ensures out_count { CountsWriter (O.count out.old) (O.count out.new) result }
+{
+    let work = plan_for(alloc, job, reading, out)?;
+    print_way(job, work.steps.as_slice(), out)?;
+    Ok(work)
 }
 
 /// Plans for a chip that was read, and prints the lines of the plan.

@@ -152,6 +152,7 @@ fn flash_texts<S: FileStore, O: ByteOut, P: ByteOut>(
         strict,
         dry_run,
         regions,
+        texts,
     } = request;
     let asked = ask_of(read, files.sfdp.as_slice());
     let job = Job {
@@ -173,6 +174,7 @@ fn flash_texts<S: FileStore, O: ByteOut, P: ByteOut>(
         before,
         strict,
         dry: dry_run,
+        texts,
     };
     flash_device(alloc, store, journal, read.device, &job, out, progress)
 }

@@ -7,6 +7,7 @@ ghost use Rattle.nor_job.specs.Task.{origin_of};
 
 use nor_base::Bytes;
 use nor_job::{Inputs, Source};
+use norprog_common::FlashArgs;
 use norprog_read::{Ask, Known};
 
 /// What is to be done on which chip.
@@ -30,6 +31,8 @@ pub struct Job<'a> {
     pub strict: bool,
     /// Only the plan is wanted.
     pub dry: bool,
+    /// The texts that the way on is printed of, where there is work to do.
+    pub texts: &'a FlashArgs<'a>,
 }
 
 /// The inputs of the job's build, of a chip that gave these tables.

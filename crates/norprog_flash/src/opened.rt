@@ -41,13 +41,13 @@ pub fn flash_opened<S: FileStore, R: ByteIn, W: ByteOut, O: ByteOut, P: ByteOut>
     requires out { O.count out.old < 2 ^ 64 - 1 }
     requires told { P.count progress.old < 2 ^ 64 - 1 }
     ensures ends { IfOk result
-        (HasFlashedOpened (S.facts store.now) job.now (W.held to.old) (W.held to.new)
-        (R.ahead from.old)
+        (HasFlashedOpened (W.count to.old < W.count to.new) (S.facts store.now) job.now
+        (W.held to.old) (W.held to.new) (R.ahead from.old)
         (R.ahead from.new) (O.held out.old) (O.held out.new)
         (Showing (P.held progress.old) (P.held progress.new) (P.count progress.old)
         (P.count progress.new))) }
     ensures stops { IfErr result
-        (StopsOpened (S.facts store.now)
+        (StopsOpened (W.count to.old < W.count to.new) (S.facts store.now)
         (Adds (S.Journal.changes journal.old) (S.Journal.changes journal.new)) (W.held to.old)
         (W.held to.new) (R.ahead from.old) (R.ahead from.new) job.now (O.held out.old)
         (O.held out.new)) }

@@ -24,6 +24,8 @@ pub struct FlashRequest<'a> {
     pub strict: bool,
     pub dry_run: bool,
     pub regions: &'a [Bytes],
+    /// The texts that ask for it.
+    pub texts: &'a FlashArgs<'a>,
 }
 
 /// The request that the values spell. None where one isn't of its form, or one that has to be there
@@ -43,6 +45,7 @@ pub fn request_of<'a>(given: &'a FlashArgs<'a>) -> Option<FlashRequest<'a>>
         strict: given.strict,
         dry_run: given.dry_run,
         regions: given.regions.as_slice(),
+        texts: given,
     })
 }
 

@@ -8,6 +8,10 @@ use Rattle.norprog_device.specs.Blame.{Blames, CountsBoth}
 pub counts_after : (a b c i j k : ℕ) (f : Option Fault) → CountsBoth a b i j None → CountsBoth b c j k f → CountsBoth a c i k f
 counts_after a b c i j k f none some = subst (λ n. CountsBoth n c i k f) none.0 (subst (λ n. CountsBoth b c n k f) none.1 some)
 
+-- a count that rose isn't none
+pub rose_to : (a b : ℕ) → a < b → 0 < b
+rose_to a b rose = omega (arith, rose)
+
 -- what counts as blamed: a count that rose from none, and may have risen since
 pub blamed_so : (Unread Unsent : Type 0) (a b c i j k : ℕ) (f : Option Fault) → a ≡ 0 → i ≡ 0 → CountsBoth a b i j f → b ≤ c → j ≤ k → (0 < c → Unread)
     → (0 < k → Unsent) → Blames Unread Unsent f

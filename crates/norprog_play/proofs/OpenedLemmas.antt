@@ -53,19 +53,31 @@ has_played limits limits' turns turns' x m before between after steps ending sam
       (subst (λ n. EndsSo limits n x m between steps ending after) as_many ends);
 }
 
+-- the pins, where more counts as a failure of the writer
+pub releases_wider : (B C : Type 0) → (B → C) → (pins : Bool) (reached after : Moment) → Releases B pins reached after → Releases C pins reached after
+releases_wider B C wider true reached after released = record {
+  shown = released.shown;
+  answer = released.answer;
+  asked = released.asked;
+  sent = λ is. wider (released.sent is);
+}
+releases_wider B C wider false reached after released = released
+
 -- the pins, by what the code says of a request that was cut
-released_so : (pins cut cut' : Bool) (reached after : Moment) → cut ≡ cut' → Releases (pins && not cut) reached after → Releases (pins && not cut') reached after
-released_so pins cut cut' reached after same released = subst (λ (b : Bool). Releases (pins && not b) reached after) same released
+released_so : (Unsent : Type 0) (pins cut cut' : Bool) (reached after : Moment) → cut ≡ cut' → Releases Unsent (pins && not cut) reached after
+    → Releases Unsent (pins && not cut') reached after
+released_so Unsent pins cut cut' reached after same released = subst (λ (b : Bool). Releases Unsent (pins && not b) reached after) same released
 
 -- where none was cut
-uncut : (pins : Bool) (reached after : Moment) → Releases (pins && true) reached after → Releases pins reached after
-uncut true reached after released = released
-uncut false reached after released = released
+uncut : (Unsent : Type 0) (pins : Bool) (reached after : Moment) → Releases Unsent (pins && true) reached after → Releases Unsent pins reached after
+uncut Unsent true reached after released = released
+uncut Unsent false reached after released = released
 
 -- a play on that device of steps that may be played
 pub known_ends : (files : FileFacts) (name : List ℕ) (Made : List Change → Type 0) (limit turns : ℕ) (first limits : Limits) (x : Expectation) (m : Parameters) (content : List ℕ) (steps : List Step) (before reached after : Moment)
     (cut : Bool) (r : Result Ending Unplayed) → MayPlay (chip_with m x.start content) steps → Stands (files.device name) m x.start content before → turns ≡ limit → first.pins ≡ false
-    → cut ≡ is_cut (fault_in r) → Blames files.unread files.unsent (fault_in r) → Releases (limits.pins && not cut) reached after → files.left after.held → Made (Opening name ∷ [])
+    → cut ≡ is_cut (fault_in r) → Blames files.unread files.unsent (fault_in r) → Releases files.unsent (limits.pins && not cut) reached after
+    → files.left after.held → Made (Opening name ∷ [])
     → MatchResult r (λ ending. HasPlayed limits turns x m before steps ending reached) (StopsBefore first limits before reached)
     → MatchResult r (EndsOnDevice files name Made limit x m content steps) (StopsPlay files name Made m x.start content steps)
 known_ends files name Made limit turns first limits x m content steps before reached after cut (Ok ending) may stands same none so blamed released left made is = record {
@@ -76,7 +88,7 @@ known_ends files name Made limit turns first limits x m content steps before rea
   limits = limits;
   stands = stands;
   played = subst (λ n. HasPlayed limits n x m before steps ending reached) same is;
-  released = released_so limits.pins cut (is_cut (fault_in (Ok ending))) reached after so released;
+  released = released_so files.unsent limits.pins cut (is_cut (fault_in (Ok ending))) reached after so released;
   left = left;
   blamed = blamed;
   made = made;
@@ -90,7 +102,7 @@ known_ends files name Made limit turns first limits x m content steps before rea
         after = after;
         stands = stands;
         greeted = record { shown = is.shown; opened = is.stops.1 };
-        released = subst (λ (b : Bool). Releases (b && not cut) reached after) undriven released;
+        released = subst (λ (b : Bool). Releases files.unsent (b && not cut) reached after) undriven released;
         left = left;
         made = made;
       },
@@ -106,7 +118,7 @@ known_ends files name Made limit turns first limits x m content steps before rea
       after = after;
       stands = stands;
       greeted = record { shown = is.shown; opened = is.stops };
-      released = released_so limits.pins cut (is_cut (fault_in (Err (Device (Line why))))) reached after so released;
+      released = released_so files.unsent limits.pins cut (is_cut (fault_in (Err (Device (Line why))))) reached after so released;
       left = left;
       made = made;
     },
@@ -124,7 +136,8 @@ known_ends files name Made limit turns first limits x m content steps before rea
       after = after;
       stands = stands;
       greeted = is;
-      released = uncut limits.pins reached after (released_so limits.pins cut (is_cut (fault_in (Err (Refused (Build Memory))))) reached after so released);
+      released = uncut files.unsent limits.pins reached after
+          (released_so files.unsent limits.pins cut (is_cut (fault_in (Err (Refused (Build Memory))))) reached after so released);
       left = left;
       made = made;
     },

@@ -40,7 +40,7 @@ pub record EndsOnDevice (files : FileFacts) (name : List ℕ) (Made : List Chang
   pub limits : Limits
   pub stands : Stands (files.device name) m x.start content before
   pub played : HasPlayed limits limit x m before steps ending reached
-  pub released : Releases (limits.pins && not (is_cut (fault_of_ending ending))) reached after
+  pub released : Releases files.unsent (limits.pins && not (is_cut (fault_of_ending ending))) reached after
   pub left : files.left after.held
   pub blamed : Blames files.unread files.unsent (fault_of_ending ending)
   pub made : Made (Opening name ∷ [])
@@ -60,7 +60,7 @@ pub record HasGreeted (files : FileFacts) (name : List ℕ) (Made : List Change 
   pub after : Moment
   pub stands : Stands (files.device name) m start content before
   pub greeted : Greets before reached
-  pub released : Releases pins reached after
+  pub released : Releases files.unsent pins reached after
   pub left : files.left after.held
   pub made : Made (Opening name ∷ [])
 

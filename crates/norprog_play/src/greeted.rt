@@ -171,7 +171,8 @@ pub(crate) fn release_pins<R: ByteIn + Drop, W: ByteOut + Drop>(
     requires count { port.old.failed < 2 ^ 64 - 1 }
     ensures rise { (R.count port.old.from ≤ R.count port.new.from)
         × (W.count port.old.to ≤ W.count port.new.to) }
-    ensures released { Releases (port.old.limits.pins && not cut)
+    ensures released { Releases (W.count port.old.to < W.count port.new.to)
+        (port.old.limits.pins && not cut)
         (moment port.old.chip (W.held port.old.to) (R.ahead port.old.from))
         (moment port.new.chip (W.held port.new.to) (R.ahead port.new.from)) }
 {

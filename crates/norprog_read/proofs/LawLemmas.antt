@@ -1,12 +1,12 @@
--- A setting of a terminal leaves some bytes out, and where they came it changed nothing.
-use Rattle.std.proofs.Common.{◌≡◌, ◌≤◌, ◌<◌, ◌∙◌, ℕ, ◌+◌, Bool, true, false, not, ◌&&◌, ◌||◌, List, [], ◌∷◌, map, ap, sym, refl, subst, arith, leb-true}
-use Rattle.std.specs.Prelude.{◌==◌, ◌%◌, nat_le, if◌then◌else◌}
-use Rattle.std.proofs.Math.Bool.{beq}
+-- A setting of a terminal takes some bytes away, and where they came it changed nothing of what was read.
+use Rattle.std.proofs.Common.{◌≡◌, ◌<◌, ◌∙◌, ℕ, ◌+◌, Bool, true, false, not, ◌&&◌, ◌||◌, List, [], ◌∷◌, ◌++◌, map, ap, refl, subst, arith}
+use Rattle.std.specs.Prelude.{◌==◌, ◌%◌, if◌then◌else◌}
 use Rattle.std.proofs.Math.Nat.{mod-lt}
-use Rattle.std.proofs.lemmas.Bool.{le-leb, lt-leb}
+use Rattle.std.proofs.lemmas.Bool.{lt-leb}
+use Rattle.std.proofs.lemmas.Bool.Decides.{nat_tests}
 use Rattle.norprog_read.specs.declared.came.Kind.{Kind}
 use Rattle.norprog_read.specs.declared.came.Kind.TheVariants.{High, Feed, Return, Capital, Small}
-use Rattle.norprog_read.specs.Came.{has, is_of}
+use Rattle.norprog_read.specs.Came.{has, is_kept, is_of}
 use Rattle.norprog_read.specs.Laws.{handed_on, lowered, stripped, turned, ShownLineKeeps}
 use Rattle.norprog_read.proofs.WayLemmas.{and_both, not_so, or_right}
 
@@ -18,26 +18,16 @@ or_none : (a b : Bool) → a || b ≡ false → (a ≡ false) × (b ≡ false)
 or_none true b none = let e : Path Bool true false = none in absurd cc
 or_none false b none = (refl, none)
 
-same_value : (a b : Bool) → beq a b ≡ true → a ≡ b
-same_value true true same = refl
-same_value true false same = let e : Path Bool false true = same in absurd cc
-same_value false true same = let e : Path Bool false true = same in absurd cc
-same_value false false same = refl
-
 -- ---- a capital letter, and the small one that is made of it
-capital_range : (byte : ℕ) → is_of Capital byte ≡ true → (0x41 ≤ byte) × (byte ≤ 0x5A)
-capital_range byte is =
-    let both = and_both (nat_le 0x41 byte) (nat_le byte 0x5A) is in (leb-true 0x41 byte both.0, leb-true byte 0x5A both.1)
+small_of : (byte : ℕ) → is_of Capital byte ≡ true → is_of Small (byte + 0x20) ≡ true
+small_of byte is = grind (arith, nat_tests)
 
-is_small : (byte : ℕ) → 0x61 ≤ byte → byte ≤ 0x7A → is_of Small byte ≡ true
-is_small byte low high = rw (le-leb 0x61 byte low, le-leb byte 0x7A high) refl
+made_small : (byte : ℕ) → is_of Capital byte ≡ true → is_of Capital (byte + 0x20) ≡ false
+made_small byte is = grind (arith, nat_tests)
 
-above_capital : (byte : ℕ) → 0x5A < byte → is_of Capital byte ≡ false
-above_capital byte high = rw (lt-leb byte 0x5A high) (and_never (nat_le 0x41 byte))
-  where
-    and_never : (b : Bool) → b && false ≡ false
-    and_never true = refl
-    and_never false = refl
+-- one of seven bits is one of ASCII
+made_low : (byte : ℕ) → byte < 0x80 → is_of Capital byte ≡ true → byte + 0x20 < 0x80
+made_low byte low is = grind (arith, nat_tests)
 
 low_byte : (byte : ℕ) → byte < 0x80 → is_of High byte ≡ false
 low_byte byte low = lt-leb 0x80 byte low
@@ -61,13 +51,12 @@ turned_of P false true back true byte p q r = q
 turned_of P false true back false byte p q r = r
 turned_of P false false back feed byte p q r = r
 
--- ---- what it leaves out
+-- ---- what it takes away
 no_capital : (icrnl inlcr : Bool) (byte : ℕ) → is_of Capital (turned icrnl inlcr (lowered true byte)) ≡ false
 no_capital icrnl inlcr byte =
     let c = lowered true byte in
     let low : is_of Capital c ≡ false = lowered_of (λ x. is_of Capital x ≡ false) byte (is_of Capital byte) refl
-    (λ is. let range = capital_range byte is in let least : 0x41 ≤ byte = range.0 in above_capital (byte + 0x20) (omega (arith, least)))
-    (λ isnt. isnt) in
+    (made_small byte) (λ isnt. isnt) in
     turned_of (λ x. is_of Capital x ≡ false) icrnl inlcr (c == 0x0D) (c == 0x0A) c refl refl low
 
 no_high : (iuclc icrnl inlcr : Bool) (byte : ℕ) → is_of High (turned icrnl inlcr (lowered iuclc (stripped true byte))) ≡ false
@@ -81,9 +70,7 @@ no_high iuclc icrnl inlcr byte =
 
     low : (l : Bool) → is_of High (lowered l (byte % 0x80)) ≡ false
     low true = lowered_of (λ x. is_of High x ≡ false) (byte % 0x80) (is_of Capital (byte % 0x80)) refl
-        (λ is. let range = capital_range (byte % 0x80) is in let most : byte % 0x80 ≤ 0x5A = range.1 in
-        low_byte (byte % 0x80 + 0x20) (omega (arith, most)))
-        (λ isnt. low_byte (byte % 0x80) small)
+        (λ is. low_byte (byte % 0x80 + 0x20) (made_low (byte % 0x80) small is)) (λ isnt. low_byte (byte % 0x80) small)
     low false = low_byte (byte % 0x80) small
 
 no_return : (byte : ℕ) → is_of Return (turned true false byte) ≡ false
@@ -119,11 +106,7 @@ lowered_kept : (iuclc : Bool) (byte : ℕ) → (iuclc ≡ true → is_of Small (
 lowered_kept true byte none = go (is_of Capital byte) refl (none refl)
   where
     go : (p : Bool) → is_of Capital byte ≡ p → is_of Small (if p then byte + 0x20 else byte) ≡ false → (if p then byte + 0x20 else byte) ≡ byte
-    go true is isnt =
-        let range = capital_range byte is in
-        let least : 0x41 ≤ byte = range.0 in
-        let most : byte ≤ 0x5A = range.1 in
-        never (is_of Small (byte + 0x20)) (is_small (byte + 0x20) (omega (arith, least)) (omega (arith, most))) isnt
+    go true is isnt = never (is_of Small (byte + 0x20)) (small_of byte is) isnt
     go false is isnt = refl
 lowered_kept false byte none = refl
 
@@ -153,38 +136,49 @@ all_kept iuclc icrnl inlcr (byte ∷ sent) small feeds returns =
     ap (λ x. x ∷ map f sent) first ∙ ap (λ xs. byte ∷ xs) rest
 
 -- ---- what came shows that
-no_small : (iuclc icrnl inlcr : Bool) (sent : List ℕ)
-    → has Capital (map (handed_on false iuclc icrnl inlcr) sent) || not (has Small (map (handed_on false iuclc icrnl inlcr) sent)) ≡ true
-    → iuclc ≡ true → has Small (map (handed_on false iuclc icrnl inlcr) sent) ≡ false
-no_small true icrnl inlcr sent shows set =
-    let f = handed_on false true icrnl inlcr in
-    not_so (has Small (map f sent))
-    (or_right (has Capital (map f sent)) (not (has Small (map f sent))) shows (all_lack Capital f (no_capital icrnl inlcr) sent))
-no_small false icrnl inlcr sent shows set = let e : Path Bool false true = set in absurd cc
+both_lack : (kind : Kind) (f : ℕ → ℕ) → ((byte : ℕ) → is_of kind (f byte) ≡ false) → (id read : List ℕ) → has kind (map f id ++ map f read) ≡ false
+both_lack kind f each [] read = all_lack kind f each read
+both_lack kind f each (byte ∷ id) read = rw (each byte) (both_lack kind f each id read)
 
-no_feeds : (iuclc icrnl inlcr : Bool) (sent : List ℕ) → icrnl && inlcr ≡ false
-    → has Feed (map (handed_on false iuclc icrnl inlcr) sent) ≡ has Return (map (handed_on false iuclc icrnl inlcr) sent)
-    → icrnl ≡ true → has Feed (map (handed_on false iuclc icrnl inlcr) sent) ≡ false
-no_feeds iuclc true true sent apart same set = let e : Path Bool true false = apart in absurd cc
-no_feeds iuclc true false sent apart same set = same ∙ all_lack Return (handed_on false iuclc true false) (λ byte. no_return (lowered iuclc byte)) sent
-no_feeds iuclc false inlcr sent apart same set = let e : Path Bool false true = set in absurd cc
+-- a setting that takes away the one kind made none of the other
+none_made : (lost made : Kind) (f : ℕ → ℕ) → ((byte : ℕ) → is_of lost (f byte) ≡ false) → (id read : List ℕ)
+    → is_kept lost made (map f id) (map f read) ≡ true → has made (map f read) ≡ false
+none_made lost made f each id read kept =
+    not_so (has made (map f read)) (or_right (has lost (map f id ++ map f read)) (not (has made (map f read))) kept (both_lack lost f each id read))
 
-no_returns : (iuclc icrnl inlcr : Bool) (sent : List ℕ) → icrnl && inlcr ≡ false
-    → has Feed (map (handed_on false iuclc icrnl inlcr) sent) ≡ has Return (map (handed_on false iuclc icrnl inlcr) sent)
-    → inlcr ≡ true → has Return (map (handed_on false iuclc icrnl inlcr) sent) ≡ false
-no_returns iuclc true true sent apart same set = let e : Path Bool true false = apart in absurd cc
-no_returns iuclc false true sent apart same set =
-    sym same ∙ all_lack Feed (handed_on false iuclc false true) (λ byte. no_feed (lowered iuclc byte)) sent
-no_returns iuclc icrnl false sent apart same set = let e : Path Bool false true = set in absurd cc
+no_small : (iuclc icrnl inlcr : Bool) (id read : List ℕ)
+    → is_kept Capital Small (map (handed_on false iuclc icrnl inlcr) id) (map (handed_on false iuclc icrnl inlcr) read) ≡ true
+    → iuclc ≡ true → has Small (map (handed_on false iuclc icrnl inlcr) read) ≡ false
+no_small true icrnl inlcr id read kept set = none_made Capital Small (handed_on false true icrnl inlcr) (no_capital icrnl inlcr) id read kept
+no_small false icrnl inlcr id read kept set = let e : Path Bool false true = set in absurd cc
+
+no_feeds : (iuclc icrnl inlcr : Bool) (id read : List ℕ) → icrnl && inlcr ≡ false
+    → is_kept Return Feed (map (handed_on false iuclc icrnl inlcr) id) (map (handed_on false iuclc icrnl inlcr) read) ≡ true
+    → icrnl ≡ true → has Feed (map (handed_on false iuclc icrnl inlcr) read) ≡ false
+no_feeds iuclc true true id read apart kept set = let e : Path Bool true false = apart in absurd cc
+no_feeds iuclc true false id read apart kept set =
+    none_made Return Feed (handed_on false iuclc true false) (λ byte. no_return (lowered iuclc byte)) id read kept
+no_feeds iuclc false inlcr id read apart kept set = let e : Path Bool false true = set in absurd cc
+
+no_returns : (iuclc icrnl inlcr : Bool) (id read : List ℕ) → icrnl && inlcr ≡ false
+    → is_kept Feed Return (map (handed_on false iuclc icrnl inlcr) id) (map (handed_on false iuclc icrnl inlcr) read) ≡ true
+    → inlcr ≡ true → has Return (map (handed_on false iuclc icrnl inlcr) read) ≡ false
+no_returns iuclc true true id read apart kept set = let e : Path Bool true false = apart in absurd cc
+no_returns iuclc false true id read apart kept set =
+    none_made Feed Return (handed_on false iuclc false true) (λ byte. no_feed (lowered iuclc byte)) id read kept
+no_returns iuclc icrnl false id read apart kept set = let e : Path Bool false true = set in absurd cc
 
 pub shown_line_keeps : ShownLineKeeps
-shown_line_keeps true iuclc icrnl inlcr sent apart shows =
+shown_line_keeps true iuclc icrnl inlcr id read apart shows =
     let f = handed_on true iuclc icrnl inlcr in
-    never (has High (map f sent)) (and_both (has High (map f sent)) _ shows).0 (all_lack High f (no_high iuclc icrnl inlcr) sent)
-shown_line_keeps false iuclc icrnl inlcr sent apart shows =
-    let came = map (handed_on false iuclc icrnl inlcr) sent in
-    let rest = (and_both (has High came) (beq (has Feed came) (has Return came) && (has Capital came || not (has Small came))) shows).1 in
-    let both = and_both (beq (has Feed came) (has Return came)) (has Capital came || not (has Small came)) rest in
-    let same = same_value (has Feed came) (has Return came) both.0 in
-    all_kept iuclc icrnl inlcr sent (no_small iuclc icrnl inlcr sent both.1) (no_feeds iuclc icrnl inlcr sent apart same)
-    (no_returns iuclc icrnl inlcr sent apart same)
+    let high = has High (map f id ++ map f read) in
+    never high (and_both high _ shows).0 (both_lack High f (no_high iuclc icrnl inlcr) id read)
+shown_line_keeps false iuclc icrnl inlcr id read apart shows =
+    let f = handed_on false iuclc icrnl inlcr in
+    let feeds = is_kept Return Feed (map f id) (map f read) in
+    let returns = is_kept Feed Return (map f id) (map f read) in
+    let small = is_kept Capital Small (map f id) (map f read) in
+    let first = and_both feeds (returns && small) (and_both (has High (map f id ++ map f read)) (feeds && (returns && small)) shows).1 in
+    let rest = and_both returns small first.1 in
+    all_kept iuclc icrnl inlcr read (no_small iuclc icrnl inlcr id read rest.1) (no_feeds iuclc icrnl inlcr id read apart first.0)
+    (no_returns iuclc icrnl inlcr id read apart rest.0)

@@ -1,8 +1,7 @@
--- What came over a line, and whether it shows that the terminal hands on each byte as it comes (this project's; the settings are those of
+-- What came over a line, and whether it shows that the terminal changed nothing of what was read (this project's; the settings are those of
 -- termios).
-use Rattle.std.specs.Prelude.{◌≡◌, ℕ, ◌==◌, nat_le, not, ◌&&◌, ◌||◌, Bool, true, false, List}
+use Rattle.std.specs.Prelude.{◌≡◌, ℕ, ◌==◌, nat_le, not, ◌&&◌, ◌||◌, Bool, true, false, List, ◌++◌}
 use Rattle.std.specs.List.{list_any}
-use Rattle.std.proofs.Math.Bool.{beq}
 use Rattle.norprog_read.specs.declared.asked.Ask.{Ask}
 use Rattle.norprog_read.specs.declared.came.Kind.{Kind}
 use Rattle.norprog_read.specs.declared.came.Kind.TheVariants.{High, Feed, Return, Capital, Small}
@@ -10,29 +9,35 @@ use Rattle.norprog_read.specs.declared.fault.Unlike.TheVariants.{Line}
 use Rattle.norprog_read.specs.declared.fault.Unread.{Unread}
 use Rattle.norprog_read.specs.declared.fault.Unread.TheVariants.{Unlike}
 
--- a byte is from 80h on, a line feed, a carriage return, a capital letter, or a small one
+-- a byte is from 80h on, a line feed, a carriage return, a capital letter, or a small one that is made of a capital (letters as Linux's
+-- `tolower` has them, in ASCII and Latin-1: D7h is no capital, and so F7h is made of none)
 abbrev pub is_of : Kind → ℕ → Bool
 is_of High byte = nat_le 0x80 byte
 is_of Feed byte = byte == 0x0A
 is_of Return byte = byte == 0x0D
-is_of Capital byte = nat_le 0x41 byte && nat_le byte 0x5A
-is_of Small byte = nat_le 0x61 byte && nat_le byte 0x7A
+is_of Capital byte = (nat_le 0x41 byte && nat_le byte 0x5A) || (nat_le 0xC0 byte && nat_le byte 0xDE && not (byte == 0xD7))
+is_of Small byte = (nat_le 0x61 byte && nat_le byte 0x7A) || (nat_le 0xE0 byte && nat_le byte 0xFE && not (byte == 0xF7))
 
 -- some byte is of the kind
 abbrev pub has : Kind → List ℕ → Bool
 has kind bytes = list_any (is_of kind) bytes
 
--- some byte is from 80h on (ISTRIP clears the highest bit of each); line feeds and carriage returns are both there, or neither (ICRNL makes
--- the first of the second, INLCR the second of the first); a capital letter is there where a small one is (IUCLC makes small ones of
--- capitals)
-abbrev pub shows_line : List ℕ → Bool
-shows_line came = has High came && (beq (has Feed came) (has Return came) && (has Capital came || not (has Small came)))
+-- a setting that makes a byte of one kind of each byte of another didn't change what was read: a byte of the kind that it takes away came
+-- nevertheless, in the identification or in what was read, or nothing that was read is of the kind that it makes
+abbrev pub is_kept : Kind → Kind → List ℕ → List ℕ → Bool
+is_kept lost made id read = has lost (id ++ read) || not (has made read)
 
--- where the content was wanted, and the terminal isn't said to hand on each byte as it comes, what came shows it
-abbrev pub ShowsLine : Ask → List ℕ → Type 0
-ShowsLine ask came = ask.content ≡ true → ask.raw ≡ false → shows_line came ≡ true
+-- ISTRIP clears bit 7 of each byte: some byte came that has it. ICRNL makes a line feed of each carriage return, INLCR a carriage return of
+-- each line feed, IUCLC a small letter of each capital: none of them changed what was read
+abbrev pub shows_line : List ℕ → List ℕ → Bool
+shows_line id read = has High (id ++ read) && (is_kept Return Feed id read && (is_kept Feed Return id read && is_kept Capital Small id read))
+
+-- where the content was wanted, and the terminal isn't said to hand on each byte as it comes, what came shows that it changed nothing of
+-- what was read
+abbrev pub ShowsLine : Ask → List ℕ → List ℕ → Type 0
+ShowsLine ask id read = ask.content ≡ true → ask.raw ≡ false → shows_line id read ≡ true
 
 -- so it is wanted, and what came doesn't show it
-abbrev pub HidesLine : Ask → List ℕ → Unread → Type 0
-HidesLine ask came (Unlike Line) = (ask.content ≡ true) × (ask.raw ≡ false) × (shows_line came ≡ false)
-HidesLine ask came other = ⊥
+abbrev pub HidesLine : Ask → List ℕ → List ℕ → Unread → Type 0
+HidesLine ask id read (Unlike Line) = (ask.content ≡ true) × (ask.raw ≡ false) × (shows_line id read ≡ false)
+HidesLine ask id read other = ⊥

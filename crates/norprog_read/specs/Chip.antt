@@ -82,9 +82,10 @@ abbrev pub AreAlike : Known → List ℕ → Type 0
 AreAlike (Tables file) tables = take (both_go tables file.now) tables ≡ take (both_go tables file.now) file.now
 AreAlike other tables = ⊤
 
--- in this order, and nothing else was sent: its status until it was idle, which shows the mode that was said, its identification, its tables, its content, and its
--- identification again, which was the same and that of a chip; its meaning is that of the tables that came, or of its size; where the
--- content was wanted, what came shows that the terminal hands on each byte as it comes, unless that is said
+-- in this order, and nothing else was sent: its status until it was idle, which shows the mode that was said, its identification, its
+-- tables, its content, and its identification again, which was the same and that of a chip; its meaning is that of the tables that came, or
+-- of its size; where the content was wanted, and the terminal isn't said to hand on each byte as it comes, what came shows that it changed
+-- nothing of tables and content
 pub record HasReadChip (h0 h5 : Option (List ℕ)) (a0 a5 : Ahead) (ask : Ask) (r : Reading) : Type 0 where
   pub part : r.part ≡ ask.part
   pub wanted : r.whole ≡ ask.content
@@ -106,4 +107,4 @@ pub record HasReadChip (h0 h5 : Option (List ℕ)) (a0 a5 : Ahead) (ask : Ask) (
   pub means : HasChip (chip_task ask r.tables.items) r.meaning
   pub content : GivesContent h3 h4 a3 a4 r.meaning (start_of (chip_task ask r.tables.items)) ask.content r.content.items
   pub again : Identifies h4 h5 a4 a5 (Ok r.id)
-  pub shown : ShowsLine ask (r.id ++ (r.tables.items ++ r.content.items))
+  pub shown : ShowsLine ask r.id (r.tables.items ++ r.content.items)

@@ -21,7 +21,8 @@ turned icrnl inlcr byte = if icrnl && (byte == 0x0D) then 0x0A else if inlcr && 
 abbrev pub handed_on : Bool → Bool → Bool → Bool → ℕ → ℕ
 handed_on istrip iuclc icrnl inlcr byte = turned icrnl inlcr (lowered iuclc (stripped istrip byte))
 
--- except where both of the last are set, which exchanges the two bytes: where what came shows the line, it is what was sent
+-- except where both of the last are set, which exchanges the two bytes: where what came shows the line, what was read is as it was sent
 abbrev pub ShownLineKeeps : Type 0
-ShownLineKeeps = (istrip iuclc icrnl inlcr : Bool) (sent : List ℕ) → icrnl && inlcr ≡ false
-    → shows_line (map (handed_on istrip iuclc icrnl inlcr) sent) ≡ true → map (handed_on istrip iuclc icrnl inlcr) sent ≡ sent
+ShownLineKeeps = (istrip iuclc icrnl inlcr : Bool) (id read : List ℕ) → icrnl && inlcr ≡ false
+    → shows_line (map (handed_on istrip iuclc icrnl inlcr) id) (map (handed_on istrip iuclc icrnl inlcr) read) ≡ true
+    → map (handed_on istrip iuclc icrnl inlcr) read ≡ read

@@ -40,8 +40,9 @@ StopsTested held_before held_after ahead_before ahead_after limits ask (Device (
 StopsTested held_before held_after ahead_before ahead_after limits ask why =
     StopsReading held_before held_after ahead_before ahead_after limits ask why
 
--- the handshake, the test of the line, the chip, the pins: nothing else was sent
-pub record HasReadOpened (held_before held_after : Option (List ℕ)) (ahead_before ahead_after : Ahead) (ask : Ask) (r : Reading) : Type 0 where
+-- the handshake, the test of the line, the chip, the pins: nothing else was sent (`Unsent`: the device failed as it was written to)
+pub record HasReadOpened (Unsent : Type 0) (held_before held_after : Option (List ℕ)) (ahead_before ahead_after : Ahead) (ask : Ask)
+    (r : Reading) : Type 0 where
   pub held : Option (List ℕ)
   pub ahead : Ahead
   pub limits : Limits
@@ -49,11 +50,12 @@ pub record HasReadOpened (held_before held_after : Option (List ℕ)) (ahead_bef
   pub held_late : Option (List ℕ)
   pub ahead_late : Ahead
   pub read : HasReadTested held held_late ahead ahead_late limits ask r
-  pub released : LetsGo held_late held_after ahead_late ahead_after limits.pins
+  pub released : LetsGo Unsent held_late held_after ahead_late ahead_after limits.pins
 
 -- the handshake was done, what came after it stopped so, and the pins were let go, unless a request was cut: then nothing followed it
-pub record StopsGreeted (held_before held_after : Option (List ℕ)) (ahead_before ahead_after : Ahead) (ask : Ask) (why : Unread)
-    : Type 0 where
+-- (`Unsent`: the device failed as it was written to)
+pub record StopsGreeted (Unsent : Type 0) (held_before held_after : Option (List ℕ)) (ahead_before ahead_after : Ahead) (ask : Ask)
+    (why : Unread) : Type 0 where
   pub held : Option (List ℕ)
   pub ahead : Ahead
   pub limits : Limits
@@ -61,14 +63,14 @@ pub record StopsGreeted (held_before held_after : Option (List ℕ)) (ahead_befo
   pub held_late : Option (List ℕ)
   pub ahead_late : Ahead
   pub stops : StopsTested held held_late ahead ahead_late limits ask why
-  pub released : LetsGo held_late held_after ahead_late ahead_after (limits.pins && not (is_cut (fault_of_stop why)))
+  pub released : LetsGo Unsent held_late held_after ahead_late ahead_after (limits.pins && not (is_cut (fault_of_stop why)))
 
 -- the handshake stopped so, or what came after it
-abbrev pub StopsOpened : Option (List ℕ) → Option (List ℕ) → Ahead → Ahead → Ask → Unread → Type 0
-StopsOpened held_before held_after ahead_before ahead_after ask (Device (Greet why)) =
+abbrev pub StopsOpened : Type 0 → Option (List ℕ) → Option (List ℕ) → Ahead → Ahead → Ask → Unread → Type 0
+StopsOpened Unsent held_before held_after ahead_before ahead_after ask (Device (Greet why)) =
     Greeted held_before held_after ahead_before ahead_after (Err why)
-StopsOpened held_before held_after ahead_before ahead_after ask why =
-    StopsGreeted held_before held_after ahead_before ahead_after ask why
+StopsOpened Unsent held_before held_after ahead_before ahead_after ask why =
+    StopsGreeted Unsent held_before held_after ahead_before ahead_after ask why
 
 -- the device of this name was opened, had this ahead, and had taken that; the chip behind it was read so, and nothing was sent after that
 pub record IsReadOn (files : FileFacts) (device : List ℕ) (ask : Ask) (r : Reading) : Type 0 where
@@ -77,7 +79,7 @@ pub record IsReadOn (files : FileFacts) (device : List ℕ) (ask : Ask) (r : Rea
   pub opened : files.device device ahead_first held_first
   pub held : Option (List ℕ)
   pub ahead : Ahead
-  pub read : HasReadOpened held_first held ahead_first ahead ask r
+  pub read : HasReadOpened files.unsent held_first held ahead_first ahead ask r
   pub left : files.left held
 
 -- or that stopped so; the reader is blamed only where the device failed as it was read, and the writer only where it failed as it was
@@ -88,7 +90,7 @@ pub record StopsOnDevice (files : FileFacts) (device : List ℕ) (ask : Ask) (wh
   pub opened : files.device device ahead_first held_first
   pub held : Option (List ℕ)
   pub ahead : Ahead
-  pub stops : StopsOpened held_first held ahead_first ahead ask why
+  pub stops : StopsOpened files.unsent held_first held ahead_first ahead ask why
   pub left : files.left held
   pub blamed : Blames files.unread files.unsent (fault_of_stop why)
 

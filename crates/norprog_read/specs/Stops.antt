@@ -195,14 +195,14 @@ pub record StopsAtEnd (held_before held_after : Option (List ℕ)) (ahead_before
   pub is_held : IsHeld held_before held ahead_before ahead ask id
   pub stop : StopsId held held_after ahead ahead_after why ⊎ GivesOtherId held held_after ahead ahead_after id why
 
--- after all came: it doesn't show that the terminal hands on each byte as it comes
+-- after all came: it doesn't show that the terminal changed nothing of what was read
 pub record StopsAtLine (held_before held_after : Option (List ℕ)) (ahead_before ahead_after : Ahead) (ask : Ask) (why : Unread) : Type 0 where
   pub id : List ℕ
   pub held : Option (List ℕ)
   pub ahead : Ahead
   pub is_held : IsHeld held_before held ahead_before ahead ask id
   pub again : Identifies held held_after ahead ahead_after (Ok id)
-  pub stop : HidesLine ask (id ++ (is_held.chip ++ is_held.content)) why
+  pub stop : HidesLine ask id (is_held.chip ++ is_held.content) why
 
 -- in the order in which the chip is asked
 abbrev pub StopsChip : Option (List ℕ) → Option (List ℕ) → Ahead → Ahead → Ask → Unread → Type 0

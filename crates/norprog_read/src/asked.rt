@@ -32,7 +32,7 @@ pub struct Ask<'a> {
     /// Whether its meaning is that of the profile that programs only erased bytes.
     pub erased_only: bool,
     /// Whether the terminal is said to hand on each byte as it comes. Else what comes with the
-    /// content has to show it.
+    /// content has to show that the terminal changed nothing of what is read.
     pub raw: bool,
 }
 

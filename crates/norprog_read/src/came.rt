@@ -1,9 +1,9 @@
-//! Whether what came over a line shows that the terminal hands on each byte as it comes.
+//! Whether what came over a line shows that the terminal changed nothing of what was read.
 
 ghost use Rattle.std.specs.Prelude.{◌≡◌, ◌++◌};
-ghost use Rattle.norprog_read.specs.Came.{has, is_of, shows_line};
+ghost use Rattle.norprog_read.specs.Came.{has, is_kept, is_of, shows_line};
 
-/// Bytes that a setting of a terminal leaves out, or makes of others (termios).
+/// Bytes that a setting of a terminal takes away, or makes of others (termios).
 #[derive(Clone, Copy)]
 pub(crate) enum Kind {
     /// From 80h on: ISTRIP clears the highest bit of each.
@@ -12,31 +12,44 @@ pub(crate) enum Kind {
     Feed,
     /// Carriage return: ICRNL makes a line feed of each.
     Return,
-    /// A capital letter: IUCLC makes a small one of each.
+    /// A capital letter of ASCII or Latin-1: IUCLC makes a small one of each, as Linux's `tolower`.
     Capital,
-    /// A small letter.
+    /// A small letter that is made of one of these.
     Small,
 }
 
 /// Whether what came, an identification, tables and a content, shows that none of these settings
-/// changed it: some byte is from 80h on, there are both line feeds and carriage returns or neither,
-/// and a capital letter is there where a small one is.
+/// changed the tables or the content: a byte came that ISTRIP changes, and for ICRNL, INLCR and
+/// IUCLC each a byte came that it changes, or none was read that it makes.
 pub(crate) fn shows_line(id: &[u8], tables: &[u8], content: &[u8]) -> bool
-    ensures { result ≡ shows_line (id.now ++ (tables.now ++ content.now)) }
+    ensures { result ≡ shows_line id.now (tables.now ++ content.now) }
 {
-    let feed = came(id, tables, content, Kind::Feed);
-    let back = came(id, tables, content, Kind::Return);
-    let capital = came(id, tables, content, Kind::Capital);
     came(id, tables, content, Kind::High)
-        && feed == back
-        && (capital || !came(id, tables, content, Kind::Small))
+        && is_kept(id, tables, content, Kind::Return, Kind::Feed)
+        && is_kept(id, tables, content, Kind::Feed, Kind::Return)
+        && is_kept(id, tables, content, Kind::Capital, Kind::Small)
 }
 
-/// Whether some byte of this kind came.
+/// Whether a setting that makes one kind of another didn't change what was read: some byte of the
+/// kind that it takes away came, or none was read of the kind that it makes.
+fn is_kept(id: &[u8], tables: &[u8], content: &[u8], lost: Kind, made: Kind) -> bool
+    ensures { result ≡ is_kept lost made id.now (tables.now ++ content.now) }
+{
+    came(id, tables, content, lost) || !read(tables, content, made)
+}
+
+/// Whether some byte of this kind came, in the identification or in what was read.
 fn came(id: &[u8], tables: &[u8], content: &[u8], kind: Kind) -> bool
     ensures { result ≡ has kind (id.now ++ (tables.now ++ content.now)) }
 {
-    has(id, kind) || has(tables, kind) || has(content, kind)
+    has(id, kind) || read(tables, content, kind)
+}
+
+/// Whether some byte of this kind was read, in the tables or in the content.
+fn read(tables: &[u8], content: &[u8], kind: Kind) -> bool
+    ensures { result ≡ has kind (tables.now ++ content.now) }
+{
+    has(tables, kind) || has(content, kind)
 }
 
 /// Whether some of these bytes is of this kind.
@@ -54,7 +67,11 @@ fn is_of(kind: Kind, byte: u8) -> bool
         Kind::High => byte >= 0x80,
         Kind::Feed => byte == b'\n',
         Kind::Return => byte == b'\r',
-        Kind::Capital => byte >= b'A' && byte <= b'Z',
-        Kind::Small => byte >= b'a' && byte <= b'z',
+        Kind::Capital => {
+            (byte >= b'A' && byte <= b'Z') || (byte >= 0xC0 && byte <= 0xDE && byte != 0xD7)
+        }
+        Kind::Small => {
+            (byte >= b'a' && byte <= b'z') || (byte >= 0xE0 && byte <= 0xFE && byte != 0xF7)
+        }
     }
 }

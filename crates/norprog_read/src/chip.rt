@@ -105,11 +105,11 @@ fn ask_chip<R: ByteIn, W: ByteOut>(
     })
 }
 
-/// Whether what came has to show that the terminal hands on each byte as it comes, and doesn't.
+/// Whether what came has to show that the terminal changed nothing of what was read, and doesn't.
 fn hides_line(ask: &Ask<'_>, id: [u8; 3], tables: &[u8], content: &[u8]) -> bool
-    ensures shown { result ≡ false → ShowsLine ask.now (id ++ (tables.now ++ content.now)) }
+    ensures shown { result ≡ false → ShowsLine ask.now id (tables.now ++ content.now) }
     ensures hidden { result ≡ true
-        → HidesLine ask.now (id ++ (tables.now ++ content.now)) (unread.Unlike Line) }
+        → HidesLine ask.now id (tables.now ++ content.now) (unread.Unlike Line) }
 {
     ask.content && !ask.raw && !shows_line(&id, tables, content)
 }

@@ -37,7 +37,7 @@ pub enum Unlike {
     Tables(Difference),
     /// At the end it gave another identification.
     Id([u8; 3]),
-    /// What came doesn't show that the terminal hands on each byte as it comes.
+    /// What came doesn't show that the terminal changed nothing of what was read.
     Line,
     /// It can't be read whole in the mode that it is in.
     Unreadable,

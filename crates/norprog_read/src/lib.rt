@@ -5,7 +5,7 @@
 //! handshake on, over any reader and writer; [`read_chip`] after it. [`save`] makes an output,
 //! [`write_reading`] and [`write_unlike`] print how it ended. [`fault_of_unlike`] says how the
 //! exchange ended early that is why a chip isn't read. [`shown_line_keeps`] is the law that a
-//! terminal changed nothing of what came where that shows it.
+//! terminal changed nothing of what was read where what came shows it.
 #![tactic(auto)]
 
 mod asked;

@@ -65,6 +65,12 @@ pub(crate) const TOPICS: &[Topic] = &[
          and the regions.",
     ),
     (
+        "if this stops",
+        "If flash is ended before its last line, as by Ctrl-C, a closed terminal or a\n\
+         power cut, the chip may be half done: power it off and on, and give the command\n\
+         of that line. Without its --resume what was erased and not restored yet is lost.",
+    ),
+    (
         "left out",
         "The number of lines of the log that aren't in the script: reads of an\n\
          identification or a register (9F, AB, 90, 5A, 15, 35), where\n\

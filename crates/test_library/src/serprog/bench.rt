@@ -7,8 +7,8 @@ use crate::serprog::memory::Memory;
 use crate::serprog::programmer::{Fault, FromProgrammer, Programmer, ToProgrammer};
 use crate::serprog::store::Store;
 use nor_base::{FromRead, IntoWrite};
-use norprog_common::Unrecorded;
-use norprog_flash::{Ending, Job, Unflashed, flash_opened};
+use norprog_common::{ChipArgs, Unrecorded};
+use norprog_flash::{Ending, FlashArgs, Job, Unflashed, flash_opened};
 use std::alloc::{AllocError, Global};
 use std::cell::Cell;
 
@@ -20,6 +20,35 @@ pub(crate) struct Bench {
     pub(crate) device: Programmer,
     pub(crate) saved: Vec<u8>,
     pub(crate) plan: Vec<u8>,
+}
+
+/// What is printed before the first step of a job of these texts.
+pub(crate) const WAY: &[u8] = b"if this stops on the way: switch the chip's power off and on, \
+    and go on with: norprog flash --resume=''\n";
+
+/// The texts of a command line without any.
+pub(crate) fn no_texts(alloc: Global) -> FlashArgs<'static> {
+    FlashArgs {
+        chip: ChipArgs {
+            sfdp: None,
+            uniform: None,
+            bits: None,
+            part: None,
+        },
+        mode4: false,
+        device: None,
+        limit: None,
+        hex: None,
+        layout: None,
+        base: None,
+        before: None,
+        resume: None,
+        erased_only: false,
+        strict: false,
+        dry_run: false,
+        raw: false,
+        regions: Vec::new(alloc),
+    }
 }
 
 /// Does a job on a chip, with a fault of the device's.

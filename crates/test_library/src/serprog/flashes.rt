@@ -5,6 +5,7 @@ ghost use Rattle.std.specs.Prelude.{◌≡◌, true};
 
 use crate::ports::BLANK;
 use crate::same::{holds, same};
+use crate::serprog::bench::{WAY, no_texts};
 use crate::serprog::canned::{End, Held};
 use crate::serprog::line::{ANSWERS, PUT, joined};
 use crate::serprog::scripts::{CELL, DONE, GREETED, GREETING, MANY, REST, STATUS, STEPS};
@@ -13,7 +14,7 @@ use nor_base::{FromRead, IntoWrite, Part, put_parts};
 use nor_script::hex_pair;
 use norprog_common::{FileStore, Unrecorded, refuse};
 use norprog_device::refuse_device;
-use norprog_flash::{Ending, Job, Unflashed, flash_opened, write_ending};
+use norprog_flash::{Ending, FlashArgs, Job, Unflashed, flash_opened, write_ending};
 use norprog_read::{Ask, Known, write_unlike};
 use std::alloc::{AllocError, Global};
 use std::cell::Cell;
@@ -151,6 +152,8 @@ struct Row {
     /// The first bytes of the file that was made; FFh are those after them.
     saved: Option<&'static [u8]>,
     plan: &'static [u8],
+    /// How to go on, after the plan.
+    way: &'static [u8],
     far: &'static [u8],
     line: &'static [u8],
 }
@@ -174,6 +177,7 @@ const GOOD: Row = Row {
     cut: false,
     saved: Some(b""),
     plan: PLAN,
+    way: WAY,
     far: FAR,
     line: b"ok 4\n",
 };
@@ -285,6 +289,7 @@ static DONES: [Row; 4] = [
         ],
         saved: Some(b"\x00"),
         plan: b"strategy S2\nsteps 0\nerases 0\nerased 0\nprograms 0\nignored 0\n",
+        way: b"",
         far: b"",
         line: b"ok 0\n",
         ..GOOD
@@ -304,6 +309,7 @@ static KEPTS: [Row; 4] = [
     // only the plan is wanted
     Row {
         dry: true,
+        way: b"",
         line: b"",
         ..KEPT
     },
@@ -319,6 +325,7 @@ static KEPTS: [Row; 4] = [
     Row {
         old: Some((OLD, 8185)),
         plan: b"",
+        way: b"",
         line: b"norprog: content size\n",
         ..KEPT
     },
@@ -327,6 +334,7 @@ static KEPTS: [Row; 4] = [
         free: false,
         saved: None,
         plan: b"",
+        way: b"",
         line: b"norprog: file before\n",
         ..KEPT
     },
@@ -337,6 +345,7 @@ const UNLIKE: Row = Row {
     empty: false,
     saved: None,
     plan: b"",
+    way: b"",
     ..KEPT
 };
 
@@ -706,7 +715,7 @@ fn has_saved(rt: &impl Abort, alloc: Global, found: Vec<u8>, row: &Row) -> Resul
 }
 
 /// The job of a row, on a chip of 8 KiB without tables.
-fn job_of<'a>(row: &Row, old: &'a [u8]) -> Job<'a>
+fn job_of<'a>(row: &Row, old: &'a [u8], texts: &'a FlashArgs<'a>) -> Job<'a>
     ensures whole { result.ask.content ≡ true }
 {
     let older = if row.old.is_some() { Some(old) } else { None };
@@ -729,6 +738,7 @@ fn job_of<'a>(row: &Row, old: &'a [u8]) -> Job<'a>
         before: "before",
         strict: false,
         dry: row.dry,
+        texts,
     }
 }
 
@@ -745,7 +755,8 @@ fn works(
     let mut to = IntoWrite::new(line.1.into_inner());
     let mut out = IntoWrite::new(Held::new(alloc, 1000));
     let mut progress = IntoWrite::new(Held::new(alloc, 1000));
-    let job = job_of(row, old.as_slice());
+    let texts = no_texts(alloc);
+    let job = job_of(row, old.as_slice(), &texts);
     let ended = flash_opened(
         alloc,
         store,
@@ -759,7 +770,8 @@ fn works(
     let line = line_of(alloc, ended);
     holds(rt, "the line", line.as_slice() == row.line);
     let plan = out.into_inner().bytes;
-    holds(rt, "the plan", plan.as_slice() == row.plan);
+    let want = joined(alloc, &[row.plan, row.way])?;
+    holds(rt, "the plan", plan.as_slice() == want.as_slice());
     let far = progress.into_inner().bytes;
     holds(rt, "how far it came", far.as_slice() == row.far);
     Ok(())

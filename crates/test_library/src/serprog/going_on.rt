@@ -23,6 +23,9 @@ const STATE: &str = "norprog: the chip is half done, and what it held is in ";
 const GO_ON: &str =
     ". See: norprog explain the chip may hold. Switch its power off and on, and go on with: ";
 
+/// What is printed before the first step.
+const WAY: &str = "if this stops on the way: switch the chip's power off and on, and go on with: ";
+
 /// A first try, whose `--before` has a blank and a quote in its name; one that is resumed, with
 /// nothing but what has to be given.
 static ROWS: [(Option<&str>, bool, &str, &str); 2] = [
@@ -82,14 +85,14 @@ fn args_of(
     })
 }
 
-/// Runs a command line on a device that answers NAK to the first step: what is written to standard
-/// error.
+/// Runs a command line on a device that answers NAK to the first step: what is printed, and what is
+/// written to standard error.
 fn told_of(
     rt: &impl Abort,
     alloc: Global,
     answers: &[u8],
     given: FlashArgs<'_>,
-) -> Result<Vec<u8>, AllocError> {
+) -> (Vec<u8>, Vec<u8>) {
     let put = Cell::new(Vec::new(alloc));
     let left = Cell::new(answers.len());
     let saved = Cell::new(Vec::new(alloc));
@@ -109,13 +112,7 @@ fn told_of(
         &mut progress,
     );
     same(rt, "the status", status, 1);
-    let printed = out.into_inner().bytes;
-    holds(
-        rt,
-        "the line",
-        printed.as_slice().ends_with(b"failed at 0 nak\n"),
-    );
-    Ok(err.into_inner().bytes)
+    (out.into_inner().bytes, err.into_inner().bytes)
 }
 
 /// The files, and the device.
@@ -140,17 +137,29 @@ fn store_of<'a>(
     }
 }
 
+/// These texts, one after the other.
+fn text_of(alloc: Global, parts: &[&str]) -> Result<Vec<u8>, AllocError> {
+    let mut text = Vec::new(alloc);
+    for part in parts {
+        text.extend_from_slice(part.as_bytes())?;
+    }
+    Ok(text)
+}
+
 #[test]
 fn the_command_goes_on(rt: HostRuntime) -> Result<(), Fail> {
     let answers = stopped_answers(rt.alloc())?;
     for (resume, all, first, command) in &ROWS {
         let given = args_of(rt.alloc(), *resume, *all)?;
-        let told = told_of(&rt, rt.alloc(), answers.as_slice(), given)?;
-        let mut want = Vec::from_slice(rt.alloc(), STATE.as_bytes())?;
-        for part in [*first, GO_ON, *command] {
-            want.extend_from_slice(part.as_bytes())?;
-        }
+        let (printed, told) = told_of(&rt, rt.alloc(), answers.as_slice(), given);
+        let want = text_of(rt.alloc(), &[STATE, *first, GO_ON, *command])?;
         holds(&rt, "what is told", told.as_slice() == want.as_slice());
+        let last = text_of(rt.alloc(), &[WAY, *command, "failed at 0 nak\n"])?;
+        holds(
+            &rt,
+            "the lines",
+            printed.as_slice().ends_with(last.as_slice()),
+        );
     }
     Ok(())
 }

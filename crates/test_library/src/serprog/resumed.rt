@@ -3,12 +3,12 @@
 ghost use Rattle.std.specs.Prelude.{◌≡◌, true};
 
 use crate::same::{holds, same};
-use crate::serprog::bench::{Bench, flashed};
+use crate::serprog::bench::{Bench, flashed, no_texts};
 use crate::serprog::memory::Memory;
 use crate::serprog::programmer::{Fault, Slip, Trouble};
 use crate::serprog::strategies::held;
 use nor_base::Part;
-use norprog_flash::{Ending, Job, Unflashed};
+use norprog_flash::{Ending, FlashArgs, Job, Unflashed};
 use norprog_read::{Ask, Known};
 use std::alloc::{AllocError, Global};
 use std::process::Abort;
@@ -80,7 +80,7 @@ impl Counts {
 }
 
 /// The job, on a chip of 8 KiB without tables; resumed where there is an older dump.
-fn job_for<'a>(older: &'a [u8]) -> Job<'a>
+fn job_for<'a>(older: &'a [u8], texts: &'a FlashArgs<'a>) -> Job<'a>
     ensures whole { result.ask.content ≡ true }
 {
     let old = if older.is_empty() { None } else { Some(older) };
@@ -103,6 +103,7 @@ fn job_for<'a>(older: &'a [u8]) -> Job<'a>
         before: "before",
         strict: false,
         dry: false,
+        texts,
     }
 }
 
@@ -149,7 +150,8 @@ fn fits(rt: &impl Abort, alloc: Global, bench: &Bench, stop: Stop) -> Result<(),
 /// was.
 fn resumes(rt: &impl Abort, alloc: Global, array: Vec<u8>, saved: &[u8]) -> Result<(), Fail> {
     let chip = Memory::new(array, Vec::new(alloc));
-    let bench = flashed(alloc, chip, None, &job_for(saved))?;
+    let texts = no_texts(alloc);
+    let bench = flashed(alloc, chip, None, &job_for(saved, &texts))?;
     let done = matches!(bench.ended, Ok(Ending::Done { .. }));
     holds(rt, "resumed to the end", done);
     let odd = bench.device.chip.odd;
@@ -164,7 +166,8 @@ fn resumes(rt: &impl Abort, alloc: Global, array: Vec<u8>, saved: &[u8]) -> Resu
 /// ends before that fault.
 fn stops(rt: &impl Abort, alloc: Global, fault: Fault) -> Result<Option<Stop>, Fail> {
     let chip = Memory::new(held(alloc, 8192, &HELD)?, Vec::new(alloc));
-    let bench = flashed(alloc, chip, Some(fault), &job_for(&[]))?;
+    let texts = no_texts(alloc);
+    let bench = flashed(alloc, chip, Some(fault), &job_for(&[], &texts))?;
     let stop = stop_of(rt, &bench.ended);
     fits(rt, alloc, &bench, stop)?;
     if !bench.device.met {
@@ -283,7 +286,8 @@ static SLIPS: [(Slip, Counts); 3] = [
 fn work_that_stopped_at_a_byte_is_resumed(rt: HostRuntime) -> Result<(), Fail> {
     let alloc = rt.alloc();
     let chip = Memory::new(held(alloc, 8192, &HELD)?, Vec::new(alloc));
-    let bench = flashed(alloc, chip, None, &job_for(&[]))?;
+    let texts = no_texts(alloc);
+    let bench = flashed(alloc, chip, None, &job_for(&[], &texts))?;
     let places = places(alloc, bench.device.lengths.as_slice())?;
     for (slip, want) in &SLIPS {
         let counts = slips(&rt, alloc, places.as_slice(), *slip)?;

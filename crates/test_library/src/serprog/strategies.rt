@@ -3,11 +3,12 @@
 ghost use Rattle.std.specs.Prelude.{◌≡◌, true};
 
 use crate::same::{holds, same};
-use crate::serprog::bench::{Bench, flashed};
+use crate::serprog::bench::{Bench, WAY, flashed, no_texts};
 use crate::serprog::flashes::line_of;
+use crate::serprog::line::joined;
 use crate::serprog::memory::Memory;
 use nor_base::Part;
-use norprog_flash::Job;
+use norprog_flash::{FlashArgs, Job};
 use norprog_read::{Ask, Known};
 use std::alloc::{AllocError, Global};
 use std::process::Abort;
@@ -57,6 +58,8 @@ struct Row {
     hex: &'static [u8],
     wanted: &'static [(usize, u8)],
     plan: &'static [u8],
+    /// How to go on, after the plan.
+    way: &'static [u8],
     line: &'static [u8],
 }
 
@@ -76,6 +79,7 @@ const ERASES: Row = Row {
     plan: b"erase 00001000 00001000 20\nbecause 00001000 00001001\n\
         program 00001001 1\nprogram 00001105 1\n\
         strategy S2\nsteps 25\nerases 1\nerased 4096\nprograms 2\nignored 0\n",
+    way: WAY,
     line: b"ok 25\n",
 };
 
@@ -146,6 +150,7 @@ static SMALLS: [Row; 9] = [
         hex: BESIDE,
         wanted: &[(0x0FFF, 0x00), (0x1001, 0x00), (0x1105, 0xA5)],
         plan: b"strategy S2\nsteps 0\nerases 0\nerased 0\nprograms 0\nignored 1\n",
+        way: b"",
         line: b"ok 0\n",
         ..ERASES
     },
@@ -153,6 +158,7 @@ static SMALLS: [Row; 9] = [
         hex: BESIDE,
         wanted: &[(0x0FFF, 0x00), (0x1001, 0x00), (0x1105, 0xA5)],
         plan: b"",
+        way: b"",
         line: b"norprog: empty region 0\n",
         ..ERASES
     },
@@ -217,6 +223,7 @@ static LARGES: [Row; 6] = [
         changes: &[JUST_PAST, READ_ONLY],
         wanted: &[],
         plan: b"program 00ffffff 1\n",
+        way: b"",
         line: b"norprog: plan 2 at 01000000\n",
         ..TWO
     },
@@ -226,6 +233,7 @@ static LARGES: [Row; 6] = [
         hex: BELOW,
         wanted: &[],
         plan: b"",
+        way: b"",
         line: b"unreadable\n",
         ..TWO
     },
@@ -252,7 +260,7 @@ fn chip_of(alloc: Global, row: &Row) -> Result<Memory, AllocError> {
 }
 
 /// The job of a row.
-fn job_of(row: &Row) -> Job<'static>
+fn job_of<'a>(row: &Row, texts: &'a FlashArgs<'a>) -> Job<'a>
     ensures whole { result.ask.content ≡ true }
 {
     let known = if row.tables.is_empty() {
@@ -280,6 +288,7 @@ fn job_of(row: &Row) -> Job<'static>
         before: "before",
         strict: row.strict,
         dry: false,
+        texts,
     }
 }
 
@@ -287,7 +296,8 @@ fn job_of(row: &Row) -> Job<'static>
 fn is_left(rt: &impl Abort, alloc: Global, bench: Bench, row: &Row) -> Result<(), AllocError> {
     let line = line_of(alloc, bench.ended);
     holds(rt, "the line", line.as_slice() == row.line);
-    holds(rt, "the plan", bench.plan.as_slice() == row.plan);
+    let plan = joined(alloc, &[row.plan, row.way])?;
+    holds(rt, "the plan", bench.plan.as_slice() == plan.as_slice());
     let chip = &bench.device.chip;
     let want = held(alloc, row.size as usize, row.wanted)?;
     holds(rt, "the chip", chip.array.as_slice() == want.as_slice());
@@ -310,7 +320,8 @@ fn is_left(rt: &impl Abort, alloc: Global, bench: Bench, row: &Row) -> Result<()
 fn works(rt: &impl Abort, alloc: Global, rows: &[Row]) -> Result<(), Fail> {
     for row in rows {
         let chip = chip_of(alloc, row)?;
-        let bench = flashed(alloc, chip, None, &job_of(row))?;
+        let texts = no_texts(alloc);
+        let bench = flashed(alloc, chip, None, &job_of(row, &texts))?;
         is_left(rt, alloc, bench, row)?;
     }
     Ok(())

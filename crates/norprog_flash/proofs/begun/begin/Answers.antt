@@ -30,7 +30,7 @@ returns-in_err-work-clause-stops g c =
     c.from_residual-in_err-work.ensures.1
     (unplanned (g.S.FileStore.facts c.args.store.now) (Adds _ _) (g.W.ByteOut.held c.args.to.now) (g.W.ByteOut.held c.read_suited.new.to)
     (g.R.ByteIn.ahead c.args.from.now) (g.R.ByteIn.ahead c.read_suited.new.from) c.args.job.now (g.O.ByteOut.held c.args.out.now)
-    (g.O.ByteOut.held c.plan_for.new.out) c.in_ok-reading.reading c.in_ok-reading.ensures.read c.in_ok-reading.ensures.harmless
+    (g.O.ByteOut.held c.print_plan.new.out) c.in_ok-reading.reading c.in_ok-reading.ensures.read c.in_ok-reading.ensures.harmless
     c.as_slice.result.now c.as_slice.ensures.value c.in_ok-save.ensures.saved c.in_ok-save.ensures.made c.in_err-work.field-0.0
     c.in_err-work.ensures.refused)
 
@@ -55,6 +55,6 @@ pub returns-in_err-work-clause-out_counts : goal.returns-in_err-work-clause-out_
 returns-in_err-work-clause-out_counts g c =
     let files = g.S.FileStore.facts c.args.store.now in
     let m = g.O.ByteOut.count c.args.out.now in
-    let n = g.O.ByteOut.count c.plan_for.new.out in
+    let n = g.O.ByteOut.count c.print_plan.new.out in
     answered c.from_residual-in_err-work.result (λ r. CountsOut files m n r) (Refused c.in_err-work.field-0.0)
     (unplanned_told files m n c.in_err-work.field-0.0 c.in_err-work.ensures.out_count) c.from_residual-in_err-work.ensures.1

@@ -57,6 +57,7 @@ returns-clause-ends g c =
       before = refl;
       strict = refl;
       dry = refl;
+      texts = refl;
     })
     c.flash_device.ensures.sound c.flash_device.ensures.flashed c.flash_device.ensures.made
 
@@ -80,6 +81,7 @@ returns-clause-unbegun g c =
       before = refl;
       strict = refl;
       dry = refl;
+      texts = refl;
     })
     c.flash_device.ensures.unbegun
 

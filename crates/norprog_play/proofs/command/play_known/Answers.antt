@@ -5,8 +5,8 @@ use Rattle.nor_serprog.specs.declared.limits.Limits.{Limits}
 use Rattle.norprog_play.specs.declared.unplayed.Unplayed.TheVariants.{Refused}
 use Rattle.norprog_play.specs.Blame.{fault_in}
 use Rattle.norprog_play.specs.Expected.{expectation_of}
-use Rattle.norprog_play.proofs.BlameLemmas.{blamed_so}
-use Rattle.norprog_play.proofs.OpenedLemmas.{handed, known_ends, stands_so}
+use Rattle.norprog_play.proofs.BlameLemmas.{blamed_so, rose_to}
+use Rattle.norprog_play.proofs.OpenedLemmas.{handed, known_ends, releases_wider, stands_so}
 use Rattle.norprog_play.proofs.command.play_known.Goals as goal
 
 pub returns-clause-ends : goal.returns-clause-ends
@@ -22,9 +22,10 @@ returns-clause-ends g c =
     (writes c.new-port.result.to) (writes c.greet_and_play-ended.new.port.to) (writes c.release_pins.new.port.to) (fault_in c.greet_and_play-ended.result)
     (ap reads c.new-port.ensures.from ∙ c.in_ok-from.ensures.count.0) (ap writes c.new-port.ensures.to ∙ c.in_ok-from.ensures.count.1)
     c.greet_and_play-ended.ensures.blamed.0 c.release_pins.ensures.rise.0 c.release_pins.ensures.rise.1 c.close_device.ensures.unread c.close_device.ensures.unsent in
+    let released = releases_wider _ files.unsent (λ rose. c.close_device.ensures.unsent (rose_to _ _ rose)) _ _ _ c.release_pins.ensures.released in
     known_ends files c.args.device.now _ c.args.limit _ _ _ (expectation_of c.args.expected) c.args.meaning.now c.args.content.items c.args.steps.now _ _ _
     c.is_cut.result c.greet_and_play-ended.result c.requires.may.0 stands c.new-port.ensures.limits.1 undriven (rw c.is_cut.ensures (rw c.fault_in.ensures refl)) blamed
-    c.release_pins.ensures.released c.close_device.ensures.left c.in_ok-from.ensures.journal c.greet_and_play-ended.ensures.ends
+    released c.close_device.ensures.left c.in_ok-from.ensures.journal c.greet_and_play-ended.ensures.ends
 
 pub returns-in_err-from-clause-ends : goal.returns-in_err-from-clause-ends
 returns-in_err-from-clause-ends g c =

@@ -9,7 +9,7 @@ use Rattle.norprog_read.specs.declared.fault.Unread.TheVariants.{Unlike}
 use Rattle.norprog_read.specs.Came.{HidesLine, ShowsLine}
 use Rattle.norprog_read.specs.Chip.{GivesContent, chip_task}
 use Rattle.norprog_read.specs.Stops.{IsHeld, StopsChip}
-use Rattle.norprog_read.proofs.CameLemmas.{came_as}
+use Rattle.norprog_read.proofs.CameLemmas.{read_as}
 use Rattle.norprog_read.proofs.chip.ask_chip.Goals as goal
 
 pub returns-clause-read : goal.returns-clause-read
@@ -36,7 +36,7 @@ returns-clause-read g c = record {
       (g.R.ByteIn.ahead c.ask_content.new.from) c.in_ok-meaning.meaning start c.args.ask.now.content c.in_ok-content.content.items) c.in_ok-meaning.ensures.start c.in_ok-content.ensures.content;
   again = subst (λ (id : List ℕ). Identifies (g.W.ByteOut.held c.ask_content.new.to) (g.W.ByteOut.held c.ask_id-2.new.to) (g.R.ByteIn.ahead c.ask_content.new.from)
       (g.R.ByteIn.ahead c.ask_id-2.new.from) (Ok id)) (c.is_same.ensures.same c.if-not-is_same.false) c.in_ok-again.ensures.id;
-  shown = came_as (ShowsLine c.args.ask.now) c.in_ok-id.id c.as_slice-2.ensures.value c.as_slice-3.ensures.value
+  shown = read_as (ShowsLine c.args.ask.now c.in_ok-id.id) c.as_slice-2.ensures.value c.as_slice-3.ensures.value
       (c.hides_line.ensures.shown c.if-hides_line.false);
 }
 
@@ -147,6 +147,6 @@ returns-then-hides_line-clause-stops g c =
       is_held = held;
       again = subst (λ (id : List ℕ). Identifies (g.W.ByteOut.held c.ask_content.new.to) (g.W.ByteOut.held c.ask_id-2.new.to) (g.R.ByteIn.ahead c.ask_content.new.from)
           (g.R.ByteIn.ahead c.ask_id-2.new.from) (Ok id)) (c.is_same.ensures.same c.if-not-is_same.false) c.in_ok-again.ensures.id;
-      stop = came_as (λ came. HidesLine c.args.ask.now came (Unlike Line)) c.in_ok-id.id c.as_slice-2.ensures.value c.as_slice-3.ensures.value
+      stop = read_as (λ read. HidesLine c.args.ask.now c.in_ok-id.id read (Unlike Line)) c.as_slice-2.ensures.value c.as_slice-3.ensures.value
           (c.hides_line.ensures.hidden c.if-hides_line.true);
     }))))))

@@ -9,8 +9,8 @@ use Rattle.norprog_read.proofs.command.read_device.Goals as goal
 
 pub returns-clause-read : goal.returns-clause-read
 returns-clause-read g c =
-    read_on (g.S.FileStore.facts c.args.store.now) c.args.device.now c.args.ask.now _ _ _ _ c.read_opened-read.result (search rules)
-    c.read_opened-read.ensures.read (search rules)
+    read_on (g.S.FileStore.facts c.args.store.now) c.args.device.now c.args.ask.now _ _ _ _ _ _ c.read_opened-read.result (search rules)
+    c.close_device.ensures.unsent (search rules) c.read_opened-read.ensures.read (search rules)
 
 pub returns-clause-unread : goal.returns-clause-unread
 returns-clause-unread g c =

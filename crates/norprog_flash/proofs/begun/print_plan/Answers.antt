@@ -1,0 +1,27 @@
+-- The plan was printed, and then how to go on, or not all of it.
+use Rattle.std.proofs.Common.{List, inr, subst}
+use Rattle.nor_base.specs.declared.step.Step.{Step}
+use Rattle.nor_base.specs.Device.{Cuts}
+use Rattle.nor_base.proofs.FaultLaws.{handed_on}
+use Rattle.norprog_flash.specs.Stops.{CantPlan}
+use Rattle.norprog_flash.specs.Way.{way_text}
+use Rattle.norprog_flash.proofs.begun.print_plan.Goals as goal
+
+pub returns-in_err-print_way-clause-refused : goal.returns-in_err-print_way-clause-refused
+returns-in_err-print_way-clause-refused g c =
+    let job = c.args.job.now in
+    let middle = g.O.ByteOut.held c.plan_for.new.out in
+    let after = g.O.ByteOut.held c.print_way.new.out in
+    let refused = c.in_err-print_way.ensures.refused in
+    handed_on (CantPlan job c.args.reading.now (g.O.ByteOut.held c.args.out.now) after) _ c.in_err-print_way.field-0.0
+    c.from_residual-in_err-print_way.ensures.1
+    (inr (inr (
+      refused.0,
+      record {
+        goal = c.in_ok-work.work.goal.items;
+        steps = c.in_ok-work.work.steps.items;
+        middle = middle;
+        work = c.in_ok-work.ensures.work;
+        cut = subst (λ (steps : List Step). Cuts middle after (way_text job.dry steps job.texts.now)) c.as_slice.ensures.value refused.1;
+      },
+    )))
