@@ -71,6 +71,7 @@ module _ (close : Closes) (break : Breaks) (files : FileFacts) (job : Job) (limi
         ahead = a1;
         todo = todo;
         by = by;
+        way = way;
         missed = missed;
         every = every_flashes files job h0 h1 a0 a1 r goal steps o0 o1 planned whole close missed.worked.held missed.worked.ahead limits job.ask.turns
             missed.worked.done;

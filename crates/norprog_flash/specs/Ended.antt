@@ -92,6 +92,7 @@ pub record HasMissedFlash (files : FileFacts) (job : Job) (limits : Limits) (hel
   pub ahead : Ahead
   pub todo : IsToDo files job held_before held ahead_before ahead out_before out_after
   pub by : ReadBy
+  pub way : GivesBy todo.reading.meaning (start_of (flash_task job todo.reading.tables.items)) by
   pub missed : HasMissed held held_after ahead ahead_after limits job.ask.turns by todo.steps todo.goal step why
   pub every : EveryChipFlashes todo missed.worked.held missed.worked.ahead
   pub shown : Shown todo.steps step
