@@ -5,11 +5,12 @@ use Rattle.std.proofs.Math.Seq.{take-add}
 use Rattle.std.proofs.lemmas.List.{length-take-le}
 use Rattle.nor_base.specs.Device.{Ahead}
 use Rattle.nor_probe.specs.declared.difference.Mismatch.{Mismatch}
+use Rattle.nor_probe.specs.declared.difference.Mismatch.TheVariants.{Exchange, Differs}
 use Rattle.nor_loop.specs.Log.{HasLogged}
 use Rattle.nor_reader.specs.declared.by.ReadBy.{ReadBy}
 use Rattle.nor_reader.specs.Reads.{read_op, HasReadOn}
 use Rattle.nor_reader.specs.Again.{MissesPiece, MissesOn}
-use Rattle.nor_reader.proofs.PassLemmas.{piece_more}
+use Rattle.nor_reader.proofs.PassLemmas.{piece_more, stops_within}
 
 pub slice_long : (bytes : List ℕ) (start len : ℕ) → start + len ≤ length bytes → length (slice_range bytes start (start + len)) ≡ len
 slice_long bytes start len within =
@@ -23,17 +24,45 @@ take_on bytes done len =
     take-add done len bytes ∙ ap (λ n. take done bytes ++ take n (drop done bytes)) (sym count)
 
 -- one piece more came again
-pub again_more : (h i j : Option (List ℕ)) (a b c : Ahead) (by : ReadBy) (bytes : List ℕ) (done len : ℕ) → done + len ≤ length bytes → 0 < len
-    → HasReadOn h i a b by [] (take done bytes) → HasLogged i j b c (read_op by done (slice_range bytes done (done + len)) ∷ [])
-    → HasReadOn h j a c by [] (take (done + len) bytes)
-again_more h i j a b c by bytes done len within some read more =
+pub again_more : (most : ℕ) (h i j : Option (List ℕ)) (a b c : Ahead) (by : ReadBy) (bytes : List ℕ) (done len : ℕ) → done + len ≤ length bytes
+    → 0 < len → len ≤ most → HasReadOn most h i a b by [] (take done bytes)
+    → HasLogged i j b c (read_op by done (slice_range bytes done (done + len)) ∷ [])
+    → HasReadOn most h j a c by [] (take (done + len) bytes)
+again_more most h i j a b c by bytes done len within some few read more =
     let long = slice_long bytes done len within in
-    subst (λ n. HasReadOn h j a c by [] (take (done + n) bytes)) long
-    (piece_more h i j a b c by [] bytes bytes (slice_range bytes done (done + len)) done (omega arith) (omega (arith, long, some))
-    (ap (λ n. take (done + n) bytes) long ∙ take_on bytes done len) read more)
+    subst (λ n. HasReadOn most h j a c by [] (take (done + n) bytes)) long
+    (piece_more most h i j a b c by [] bytes bytes (slice_range bytes done (done + len)) done (omega arith) (omega (arith, long, some))
+    (omega (arith, long, few)) (ap (λ n. take (done + n) bytes) long ∙ take_on bytes done len) read more)
+
+-- a read of so many bytes, which are no more than the most, ended so
+misses_within : (len most : ℕ) (h i : Option (List ℕ)) (a b : Ahead) (by : ReadBy) (at : ℕ) (want : List ℕ) (why : Mismatch) → len ≤ most
+    → MissesPiece len h i a b by at want why → MissesPiece most h i a b by at want why
+misses_within len most h i a b by at want (Exchange why) few miss = (miss.0, miss.1, stops_within len most h i a b by at miss.0 why few miss.2)
+misses_within len most h i a b by at want (Differs d) few miss = record {
+  short = miss.short;
+  few = omega (arith, few, miss.few);
+  out = miss.out;
+  place = miss.place;
+  other = miss.other;
+  address = miss.address;
+  wanted = miss.wanted;
+}
 
 -- or it didn't
-pub again_not : (h i j : Option (List ℕ)) (a b c : Ahead) (by : ReadBy) (bytes : List ℕ) (done len : ℕ) (why : Mismatch) → done + len ≤ length bytes → 0 < len
-    → HasReadOn h i a b by [] (take done bytes) → MissesPiece i j b c by done (slice_range bytes done (done + len)) why → MissesOn h j a c by bytes why
-again_not h i j a b c by bytes done len why within some read stop =
-    record { at = done; len = len; some = some; within = within; held = i; ahead = b; alike = read; stop = stop }
+pub again_not : (most : ℕ) (h i j : Option (List ℕ)) (a b c : Ahead) (by : ReadBy) (bytes : List ℕ) (done len : ℕ) (why : Mismatch)
+    → done + len ≤ length bytes → 0 < len → len ≤ most → HasReadOn most h i a b by [] (take done bytes)
+    → MissesPiece (length (slice_range bytes done (done + len))) i j b c by done (slice_range bytes done (done + len)) why
+    → MissesOn most h j a c by bytes why
+again_not most h i j a b c by bytes done len why within some few read stop =
+    let piece = slice_range bytes done (done + len) in
+    let long : length piece ≡ len = slice_long bytes done len within in
+    record {
+      at = done;
+      len = len;
+      some = some;
+      within = within;
+      held = i;
+      ahead = b;
+      alike = read;
+      stop = misses_within (length piece) most i j b c by done piece why (omega (arith, long, few)) stop;
+    }

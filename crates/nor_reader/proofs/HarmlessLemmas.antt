@@ -117,44 +117,52 @@ ops_harmless : (by : ReadBy) (at : ℕ) (pieces : List (List ℕ)) → AllByRecu
 ops_harmless by at [] = tt
 ops_harmless by at (piece ∷ pieces) = (read_harmless by at (length piece), ops_harmless by (at + length piece) pieces)
 
-read_sent : (h i : Option (List ℕ)) (a b : Ahead) (by : ReadBy) (front bytes : List ℕ) → HasReadOn h i a b by front bytes → HasSentHarmless h i
-read_sent h i a b by front bytes read =
+read_sent : (most : ℕ) (h i : Option (List ℕ)) (a b : Ahead) (by : ReadBy) (front bytes : List ℕ) → HasReadOn most h i a b by front bytes
+    → HasSentHarmless h i
+read_sent most h i a b by front bytes read =
     logged_sent h i a b (ops_from by (length front) read.pieces) read.wire (ops_harmless by (length front) read.pieces)
 
-piece_stops : (h i : Option (List ℕ)) (a b : Ahead) (by : ReadBy) (at : ℕ) (got : List ℕ) (why : Fault) → StopsPiece h i a b by at got why → SendsHarmless h i
-piece_stops h i a b by at got why stop =
+piece_stops : (most : ℕ) (h i : Option (List ℕ)) (a b : Ahead) (by : ReadBy) (at : ℕ) (got : List ℕ) (why : Fault)
+    → StopsPiece most h i a b by at got why → SendsHarmless h i
+piece_stops most h i a b by at got why stop =
     one_stops h i a b (read_op by at got) why (Answers a b (Err why) got)
-    (record { short = (sent_short by at (length got), stop.0); begins = read_harmless by at (length got) }) stop.1
+    (record { short = (sent_short by at (length got), stop.0); begins = read_harmless by at (length got) }) stop.2
 
-stops_sends : (h i : Option (List ℕ)) (a b : Ahead) (by : ReadBy) (front : List ℕ) (why : Fault) → StopsOn h i a b by front why → SendsHarmless h i
-stops_sends h i a b by front why p =
-    then_sends h p.held i (read_sent h p.held a p.ahead by front p.so_far p.read) (piece_stops p.held i p.ahead b by (length p.so_far) p.got why p.stop)
+stops_sends : (most : ℕ) (h i : Option (List ℕ)) (a b : Ahead) (by : ReadBy) (front : List ℕ) (why : Fault) → StopsOn most h i a b by front why
+    → SendsHarmless h i
+stops_sends most h i a b by front why p =
+    then_sends h p.held i (read_sent most h p.held a p.ahead by front p.so_far p.read)
+    (piece_stops most p.held i p.ahead b by (length p.so_far) p.got why p.stop)
 
-piece_misses : (h i : Option (List ℕ)) (a b : Ahead) (by : ReadBy) (at : ℕ) (want : List ℕ) (why : Mismatch) → MissesPiece h i a b by at want why → SendsHarmless h i
-piece_misses h i a b by at want (Exchange why) p = piece_stops h i a b by at p.0 why p.2
-piece_misses h i a b by at want (Differs d) p = record {
+piece_misses : (most : ℕ) (h i : Option (List ℕ)) (a b : Ahead) (by : ReadBy) (at : ℕ) (want : List ℕ) (why : Mismatch)
+    → MissesPiece most h i a b by at want why → SendsHarmless h i
+piece_misses most h i a b by at want (Exchange why) p = piece_stops most h i a b by at p.0 why p.2
+piece_misses most h i a b by at want (Differs d) p = record {
   ops = read_op by at want ∷ [];
   each = (record { short = (sent_short by at (length want), p.short); begins = read_harmless by at (length want) }, tt);
   out = inl (subst (Appends h i) (sym (append-nil (request (sent_by by at (length want)) (length want)))) p.out);
 }
 
-piece_other : (h i : Option (List ℕ)) (a b : Ahead) (by : ReadBy) (at : ℕ) (want : List ℕ) (d : Difference) → MissesPiece h i a b by at want (Differs d)
+piece_other : (most : ℕ) (h i : Option (List ℕ)) (a b : Ahead) (by : ReadBy) (at : ℕ) (want : List ℕ) (d : Difference)
+    → MissesPiece most h i a b by at want (Differs d)
     → HasSentHarmless h i
-piece_other h i a b by at want d p = record {
+piece_other most h i a b by at want d p = record {
   ops = read_op by at want ∷ [];
   each = (record { short = (sent_short by at (length want), p.short); begins = read_harmless by at (length want) }, tt);
   out = subst (Appends h i) (sym (append-nil (request (sent_by by at (length want)) (length want)))) p.out;
 }
 
-misses_sends : (h i : Option (List ℕ)) (a b : Ahead) (by : ReadBy) (bytes : List ℕ) (why : Mismatch) → MissesOn h i a b by bytes why → SendsHarmless h i
-misses_sends h i a b by bytes why p =
-    then_sends h p.held i (read_sent h p.held a p.ahead by [] (take p.at bytes) p.alike)
-    (piece_misses p.held i p.ahead b by p.at (slice_range bytes p.at (p.at + p.len)) why p.stop)
+misses_sends : (most : ℕ) (h i : Option (List ℕ)) (a b : Ahead) (by : ReadBy) (bytes : List ℕ) (why : Mismatch) → MissesOn most h i a b by bytes why
+    → SendsHarmless h i
+misses_sends most h i a b by bytes why p =
+    then_sends h p.held i (read_sent most h p.held a p.ahead by [] (take p.at bytes) p.alike)
+    (piece_misses most p.held i p.ahead b by p.at (slice_range bytes p.at (p.at + p.len)) why p.stop)
 
-other_sent : (h i : Option (List ℕ)) (a b : Ahead) (by : ReadBy) (bytes : List ℕ) (d : Difference) → MissesOn h i a b by bytes (Differs d) → HasSentHarmless h i
-other_sent h i a b by bytes d p =
-    both_sent h p.held i (read_sent h p.held a p.ahead by [] (take p.at bytes) p.alike)
-    (piece_other p.held i p.ahead b by p.at (slice_range bytes p.at (p.at + p.len)) d p.stop)
+other_sent : (most : ℕ) (h i : Option (List ℕ)) (a b : Ahead) (by : ReadBy) (bytes : List ℕ) (d : Difference)
+    → MissesOn most h i a b by bytes (Differs d) → HasSentHarmless h i
+other_sent most h i a b by bytes d p =
+    both_sent h p.held i (read_sent most h p.held a p.ahead by [] (take p.at bytes) p.alike)
+    (piece_other most p.held i p.ahead b by p.at (slice_range bytes p.at (p.at + p.len)) d p.stop)
 
 -- the mode is switched
 switch_harmless : (w : Switch) (op : ℕ) → is_harmless (op ∷ []) ≡ true → AllByRecursion IsHarmless (switch_ops w op)
@@ -194,41 +202,45 @@ leaves : (by : ReadBy) → AllByRecursion IsHarmless (leave_ops by)
 leaves by = switch_harmless (leave_of by) 0xE9 refl
 
 -- a reading
-whole_read : (h i : Option (List ℕ)) (a b : Ahead) (by : ReadBy) (bytes : List ℕ) → HasReadWhole h i a b by bytes → HasSentHarmless h i
-whole_read h i a b by bytes p =
+whole_read : (most : ℕ) (h i : Option (List ℕ)) (a b : Ahead) (by : ReadBy) (bytes : List ℕ) → HasReadWhole most h i a b by bytes
+    → HasSentHarmless h i
+whole_read most h i a b by bytes p =
     let rest = p.rest in
     both_sent h p.held i (done_sent h p.held a p.ahead (enter_ops by) (enters by) p.entered)
-    (both_sent p.held rest.held i (read_sent p.held rest.held p.ahead rest.ahead by [] bytes rest.first)
+    (both_sent p.held rest.held i (read_sent most p.held rest.held p.ahead rest.ahead by [] bytes rest.first)
     (done_sent rest.held i rest.ahead b (leave_ops by) (leaves by) rest.rest))
 
-first_sends : (h i : Option (List ℕ)) (a b : Ahead) (by : ReadBy) (bytes : List ℕ) (why : Fault) → StopsFirst h i a b by bytes why → SendsHarmless h i
-first_sends h i a b by bytes why (inl p) = among_sends h i a b (enter_ops by) why (enters by) p
-first_sends h i a b by bytes why (inr (inl p)) =
-    then_sends h p.held i (done_sent h p.held a p.ahead (enter_ops by) (enters by) p.entered) (stops_sends p.held i p.ahead b by [] why p.rest)
-first_sends h i a b by bytes why (inr (inr p)) =
+first_sends : (most : ℕ) (h i : Option (List ℕ)) (a b : Ahead) (by : ReadBy) (bytes : List ℕ) (why : Fault) → StopsFirst most h i a b by bytes why
+    → SendsHarmless h i
+first_sends most h i a b by bytes why (inl p) = among_sends h i a b (enter_ops by) why (enters by) p
+first_sends most h i a b by bytes why (inr (inl p)) =
+    then_sends h p.held i (done_sent h p.held a p.ahead (enter_ops by) (enters by) p.entered) (stops_sends most p.held i p.ahead b by [] why p.rest)
+first_sends most h i a b by bytes why (inr (inr p)) =
     let rest = p.rest in
     then_sends h p.held i (done_sent h p.held a p.ahead (enter_ops by) (enters by) p.entered)
-    (then_sends p.held rest.held i (read_sent p.held rest.held p.ahead rest.ahead by [] bytes rest.first)
+    (then_sends p.held rest.held i (read_sent most p.held rest.held p.ahead rest.ahead by [] bytes rest.first)
     (among_sends rest.held i rest.ahead b (leave_ops by) why (leaves by) rest.rest))
 
-missed_sends : (h i : Option (List ℕ)) (a b : Ahead) (by : ReadBy) (bytes : List ℕ) (why : Mismatch) → MissesWhole h i a b by bytes why → SendsHarmless h i
-missed_sends h i a b by bytes (Exchange why) (inl p) = among_sends h i a b (enter_ops by) why (enters by) p
-missed_sends h i a b by bytes (Exchange why) (inr (inl p)) =
-    then_sends h p.held i (done_sent h p.held a p.ahead (enter_ops by) (enters by) p.entered) (misses_sends p.held i p.ahead b by bytes (Exchange why) p.rest)
-missed_sends h i a b by bytes (Exchange why) (inr (inr (inl p))) =
+missed_sends : (most : ℕ) (h i : Option (List ℕ)) (a b : Ahead) (by : ReadBy) (bytes : List ℕ) (why : Mismatch)
+    → MissesWhole most h i a b by bytes why → SendsHarmless h i
+missed_sends most h i a b by bytes (Exchange why) (inl p) = among_sends h i a b (enter_ops by) why (enters by) p
+missed_sends most h i a b by bytes (Exchange why) (inr (inl p)) =
+    then_sends h p.held i (done_sent h p.held a p.ahead (enter_ops by) (enters by) p.entered)
+    (misses_sends most p.held i p.ahead b by bytes (Exchange why) p.rest)
+missed_sends most h i a b by bytes (Exchange why) (inr (inr (inl p))) =
     let rest = p.rest in
     then_sends h p.held i (done_sent h p.held a p.ahead (enter_ops by) (enters by) p.entered)
-    (then_sends p.held rest.held i (read_sent p.held rest.held p.ahead rest.ahead by [] bytes rest.first)
+    (then_sends p.held rest.held i (read_sent most p.held rest.held p.ahead rest.ahead by [] bytes rest.first)
     (among_sends rest.held i rest.ahead b (leave_ops by) why (leaves by) rest.rest))
-missed_sends h i a b by bytes (Exchange why) (inr (inr (inr (d, p)))) =
+missed_sends most h i a b by bytes (Exchange why) (inr (inr (inr (d, p)))) =
     let rest = p.rest in
     then_sends h p.held i (done_sent h p.held a p.ahead (enter_ops by) (enters by) p.entered)
-    (then_sends p.held rest.held i (other_sent p.held rest.held p.ahead rest.ahead by bytes d rest.first)
+    (then_sends p.held rest.held i (other_sent most p.held rest.held p.ahead rest.ahead by bytes d rest.first)
     (among_sends rest.held i rest.ahead b (leave_ops by) why (leaves by) rest.rest))
-missed_sends h i a b by bytes (Differs d) p =
+missed_sends most h i a b by bytes (Differs d) p =
     let rest = p.rest in
     whole_sent h i (both_sent h p.held i (done_sent h p.held a p.ahead (enter_ops by) (enters by) p.entered)
-    (both_sent p.held rest.held i (other_sent p.held rest.held p.ahead rest.ahead by bytes d rest.first)
+    (both_sent p.held rest.held i (other_sent most p.held rest.held p.ahead rest.ahead by bytes d rest.first)
     (done_sent rest.held i rest.ahead b (leave_ops by) (leaves by) rest.rest)))
 
 reads_begin : (by : ReadBy) (pieces : List (List ℕ)) → AllByRecursion (λ o. is_harmless o.sent ≡ true) (enter_ops by ++ (ops_from by 0 pieces ++ leave_ops by))
@@ -236,30 +248,36 @@ reads_begin by pieces =
     all_append (λ (o : Operation). is_harmless o.sent ≡ true) (enter_ops by) (ops_from by 0 pieces ++ leave_ops by) (begins_of (enter_ops by) (enters by))
     (all_append (λ (o : Operation). is_harmless o.sent ≡ true) (ops_from by 0 pieces) (leave_ops by) (ops_harmless by 0 pieces) (begins_of (leave_ops by) (leaves by)))
 
-reading_begins : (by : ReadBy) (bytes : List ℕ) (log : List Operation) → ReadsBy by bytes log → AllByRecursion (λ o. is_harmless o.sent ≡ true) log
-reading_begins by bytes log reads = subst (λ (l : List Operation). AllByRecursion (λ o. is_harmless o.sent ≡ true) l) (sym reads.those) (reads_begin by reads.pieces)
+reading_begins : (most : ℕ) (by : ReadBy) (bytes : List ℕ) (log : List Operation) → ReadsBy most by bytes log
+    → AllByRecursion (λ o. is_harmless o.sent ≡ true) log
+reading_begins most by bytes log reads =
+    subst (λ (l : List Operation). AllByRecursion (λ o. is_harmless o.sent ≡ true) l) (sym reads.those) (reads_begin by reads.pieces)
 
 -- bytes that came twice alike, or didn't
-pub twice_sent : (h i : Option (List ℕ)) (a b : Ahead) (by again : ReadBy) (bytes : List ℕ) → ReadTwice h i a b by again bytes → HasSentHarmless h i
-twice_sent h i a b by again bytes p =
+pub twice_sent : (most : ℕ) (h i : Option (List ℕ)) (a b : Ahead) (by again : ReadBy) (bytes : List ℕ) → ReadTwice most h i a b by again bytes
+    → HasSentHarmless h i
+twice_sent most h i a b by again bytes p =
     logged_sent h i a b (p.first ++ p.second) p.wire
-    (all_append (λ (o : Operation). is_harmless o.sent ≡ true) p.first p.second (reading_begins by bytes p.first p.reads) (reading_begins again bytes p.second p.rereads))
+    (all_append (λ (o : Operation). is_harmless o.sent ≡ true) p.first p.second (reading_begins most by bytes p.first p.reads)
+    (reading_begins most again bytes p.second p.rereads))
 
-pub twice_sends : (h i : Option (List ℕ)) (a b : Ahead) (by again : ReadBy) (bytes : List ℕ) (why : Mismatch) → StopsTwice h i a b by again bytes why → SendsHarmless h i
-twice_sends h i a b by again bytes (Exchange why) (inl p) = first_sends h i a b by bytes why p
-twice_sends h i a b by again bytes (Exchange why) (inr p) =
-    then_sends h p.held i (whole_read h p.held a p.ahead by bytes p.read) (missed_sends p.held i p.ahead b again bytes (Exchange why) p.missed)
-twice_sends h i a b by again bytes (Differs d) p =
-    then_sends h p.held i (whole_read h p.held a p.ahead by bytes p.read) (missed_sends p.held i p.ahead b again bytes (Differs d) p.missed)
+pub twice_sends : (most : ℕ) (h i : Option (List ℕ)) (a b : Ahead) (by again : ReadBy) (bytes : List ℕ) (why : Mismatch)
+    → StopsTwice most h i a b by again bytes why → SendsHarmless h i
+twice_sends most h i a b by again bytes (Exchange why) (inl p) = first_sends most h i a b by bytes why p
+twice_sends most h i a b by again bytes (Exchange why) (inr p) =
+    then_sends h p.held i (whole_read most h p.held a p.ahead by bytes p.read)
+    (missed_sends most p.held i p.ahead b again bytes (Exchange why) p.missed)
+twice_sends most h i a b by again bytes (Differs d) p =
+    then_sends h p.held i (whole_read most h p.held a p.ahead by bytes p.read) (missed_sends most p.held i p.ahead b again bytes (Differs d) p.missed)
 
 -- tables
-pub tables_sent : (h i : Option (List ℕ)) (a b : Ahead) (bytes : List ℕ) → HasReadTables h i a b bytes → HasSentHarmless h i
-tables_sent h i a b bytes p = twice_sent h i a b Tables Tables bytes p.twice
+pub tables_sent : (most : ℕ) (h i : Option (List ℕ)) (a b : Ahead) (bytes : List ℕ) → HasReadTables most h i a b bytes → HasSentHarmless h i
+tables_sent most h i a b bytes p = twice_sent most h i a b Tables Tables bytes p.twice
 
-pub tables_sends : (h i : Option (List ℕ)) (a b : Ahead) (why : TablesFault) → StopsTables h i a b why → SendsHarmless h i
-tables_sends h i a b NoSignature p = whole_sent h i (read_sent h i a b Tables [] p.0 p.3)
-tables_sends h i a b (Unread why) p = twice_sends h i a b Tables Tables p.0 why p.1
-tables_sends h i a b Memory p = whole_sent h i (read_sent h i a b Tables [] p.0 p.1)
+pub tables_sends : (most : ℕ) (h i : Option (List ℕ)) (a b : Ahead) (why : TablesFault) → StopsTables most h i a b why → SendsHarmless h i
+tables_sends most h i a b NoSignature p = whole_sent h i (read_sent most h i a b Tables [] p.0 p.3)
+tables_sends most h i a b (Unread why) p = twice_sends most h i a b Tables Tables p.0 why p.1
+tables_sends most h i a b Memory p = whole_sent h i (read_sent most h i a b Tables [] p.0 p.1)
 
 -- an identification
 pub id_sent : (h i : Option (List ℕ)) (a b : Ahead) (id : List ℕ) → Identifies h i a b (Ok id) → HasSentHarmless h i

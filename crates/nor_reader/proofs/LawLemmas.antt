@@ -1,5 +1,6 @@
 -- Reads are those of which the laws of logs speak.
-use Rattle.std.proofs.Common.{◌≡◌, ◌≤◌, ℕ, Bool, true, ◌+◌, ◌^◌, List, [], ◌∷◌, ◌++◌, length, refl, ap, ◌∙◌, subst, append-nil}
+use Rattle.std.proofs.Common.{◌≡◌, ◌<◌, ◌≤◌, ℕ, Bool, true, ◌+◌, ◌^◌, List, [], ◌∷◌, ◌++◌, length, refl, ap, ◌∙◌, subst, append-nil}
+use Rattle.std.specs.List.{AllByRecursion}
 use Rattle.nor_base.specs.declared.meaning.Start.{Start}
 use Rattle.nor_base.specs.declared.meaning.Switch.{Switch}
 use Rattle.nor_base.specs.Parameters.{Parameters}
@@ -10,7 +11,7 @@ use Rattle.nor_loop.specs.Reads.{reads_from, switch_ops, ReadsAll}
 use Rattle.nor_reader.specs.declared.by.ReadBy.{ReadBy}
 use Rattle.nor_reader.specs.declared.by.ReadBy.TheVariants.{Tables, Content, FourBytes, Entered}
 use Rattle.nor_reader.specs.Laws.{GivesBy, TwiceKnows}
-use Rattle.nor_reader.specs.Reads.{read_op, ops_from, ReadsBy}
+use Rattle.nor_reader.specs.Reads.{read_op, ops_from, IsPiece, ReadsBy}
 
 as_reads : (mode4 : Bool) (at : ℕ) (pieces : List (List ℕ)) → ops_from (Content mode4) at pieces ≡ reads_from mode4 at pieces
 as_reads mode4 at [] = refl
@@ -25,28 +26,34 @@ as_entered enter leave at [] = refl
 as_entered enter leave at (piece ∷ pieces) =
     ap (λ log. read_op (Entered enter leave) at piece ∷ log) (as_entered enter leave (at + length piece) pieces)
 
-reading_by : ReadsRead → FourReadsRead → EnteredReadsRead → (m : Parameters) (start : Start) (by : ReadBy) (content : List ℕ) (log : List Operation)
-    → m.size ≤ 2 ^ 32 → length content ≡ m.size → GivesBy m start by → ReadsBy by content log → IsReading m start content log
-reading_by read four entered m start Tables content log fits whole gives reads = absurd gives
-reading_by read four entered m start (Content mode4) content log fits whole gives reads =
+-- each piece has some bytes
+some_each : (most : ℕ) (pieces : List (List ℕ)) → AllByRecursion (IsPiece most) pieces → AllByRecursion (λ piece. 0 < length piece) pieces
+some_each most [] all = tt
+some_each most (piece ∷ pieces) all = (all.0.0, some_each most pieces all.1)
+
+reading_by : ReadsRead → FourReadsRead → EnteredReadsRead → (most : ℕ) (m : Parameters) (start : Start) (by : ReadBy) (content : List ℕ)
+    (log : List Operation) → m.size ≤ 2 ^ 32 → length content ≡ m.size → GivesBy m start by → ReadsBy most by content log
+    → IsReading m start content log
+reading_by read four entered most m start Tables content log fits whole gives reads = absurd gives
+reading_by read four entered most m start (Content mode4) content log fits whole gives reads =
     read m start content log fits gives.1 whole
     (subst (λ mode. ReadsAll mode content log) gives.0 (record {
       pieces = reads.pieces;
-      filled = reads.filled;
+      filled = some_each most reads.pieces reads.filled;
       whole = reads.whole;
       those = reads.those ∙ append-nil (ops_from (Content mode4) 0 reads.pieces) ∙ as_reads mode4 0 reads.pieces;
     }))
-reading_by read four entered m start FourBytes content log fits whole gives reads =
+reading_by read four entered most m start FourBytes content log fits whole gives reads =
     four m start content log fits gives whole (record {
       pieces = reads.pieces;
-      filled = reads.filled;
+      filled = some_each most reads.pieces reads.filled;
       whole = reads.whole;
       those = reads.those ∙ append-nil (ops_from FourBytes 0 reads.pieces) ∙ as_fours 0 reads.pieces;
     })
-reading_by read four entered m start (Entered enter leave) content log fits whole gives reads =
+reading_by read four entered most m start (Entered enter leave) content log fits whole gives reads =
     entered m start content log fits gives.2 gives.3 gives.4 whole (record {
       pieces = reads.pieces;
-      filled = reads.filled;
+      filled = some_each most reads.pieces reads.filled;
       whole = reads.whole;
       those = reads.those
           ∙ ap (λ ops. switch_ops enter 0xB7 ++ (ops ++ switch_ops leave 0xE9)) (as_entered enter leave 0 reads.pieces)
@@ -55,10 +62,10 @@ reading_by read four entered m start (Entered enter leave) content log fits whol
     })
 
 pub twice_knows : ReadsRead → FourReadsRead → EnteredReadsRead → TwiceKnows
-twice_knows read four entered h i a b m start by again content fits whole gives gives_again twice = record {
+twice_knows read four entered most h i a b m start by again content fits whole gives gives_again twice = record {
   first = twice.first;
   again = twice.second;
-  reads = reading_by read four entered m start by content twice.first fits whole gives twice.reads;
-  rereads = reading_by read four entered m start again content twice.second fits whole gives_again twice.rereads;
+  reads = reading_by read four entered most m start by content twice.first fits whole gives twice.reads;
+  rereads = reading_by read four entered most m start again content twice.second fits whole gives_again twice.rereads;
   wire = twice.wire;
 }

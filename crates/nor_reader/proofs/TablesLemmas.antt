@@ -15,26 +15,34 @@ use Rattle.nor_reader.proofs.PassLemmas.{stops_after}
 use Rattle.nor_reader.proofs.TwiceLemmas.{tables_stop}
 
 -- reading on after a part of them stopped
-pub grow_stops : (h i j : Option (List ℕ)) (a b c : Ahead) (old new : List ℕ) (end : ℕ) (why : TablesFault) → HasReadOn h i a b Tables [] old
-    → Grows i j b c (Err why) old new end → StopsTables h j a c why
-grow_stops h i j a b c old new end Memory read stop =
-    (old, subst (λ held. HasReadOn h held a c Tables [] old) (sym stop.0) (subst (λ ahead. HasReadOn h i a ahead Tables [] old) (sym stop.1) read))
-grow_stops h i j a b c old new end NoSignature read stop = absurd stop
-grow_stops h i j a b c old new end (Unread (Exchange why)) read stop = (old, inl (tables_stop h j a c old why (stops_after h i j a b c Tables [] old why read stop)))
-grow_stops h i j a b c old new end (Unread (Differs d)) read stop = absurd stop
+pub grow_stops : (most : ℕ) (h i j : Option (List ℕ)) (a b c : Ahead) (old new : List ℕ) (end : ℕ) (why : TablesFault)
+    → HasReadOn most h i a b Tables [] old
+    → Grows most i j b c (Err why) old new end → StopsTables most h j a c why
+grow_stops most h i j a b c old new end Memory read stop = (
+  old,
+  subst (λ held. HasReadOn most h held a c Tables [] old) (sym stop.0)
+      (subst (λ ahead. HasReadOn most h i a ahead Tables [] old) (sym stop.1) read),
+)
+grow_stops most h i j a b c old new end NoSignature read stop = absurd stop
+grow_stops most h i j a b c old new end (Unread (Exchange why)) read stop =
+    (old, inl (tables_stop most h j a c old why (stops_after most h i j a b c Tables [] old why read stop)))
+grow_stops most h i j a b c old new end (Unread (Differs d)) read stop = absurd stop
 
 -- a part comes first
-pub headers_kept : {h i : Option (List ℕ)} {a b : Ahead} (front bytes : List ℕ) → 8 ≤ length front → HasReadOn h i a b Tables front bytes → headers_end bytes ≡ headers_end front
+pub headers_kept : {most : ℕ} {h i : Option (List ℕ)} {a b : Ahead} (front bytes : List ℕ) → 8 ≤ length front
+    → HasReadOn most h i a b Tables front bytes → headers_end bytes ≡ headers_end front
 headers_kept front bytes some read =
     ap headers_end (sym read.whole) ∙ ap (λ n. 8 + 8 * (n + 1)) (get_or-append front (concat read.pieces) 0 6 (omega (arith, some)))
 
-signed_on : {h i : Option (List ℕ)} {a b : Ahead} (front bytes : List ℕ) → 4 ≤ length front → HasReadOn h i a b Tables front bytes → HasSignature front → HasSignature bytes
+signed_on : {most : ℕ} {h i : Option (List ℕ)} {a b : Ahead} (front bytes : List ℕ) → 4 ≤ length front → HasReadOn most h i a b Tables front bytes
+    → HasSignature front → HasSignature bytes
 signed_on front bytes some read signed = ap (take 4) (sym read.whole) ∙ take-append-le 4 front (concat read.pieces) some ∙ signed
 
 -- the header, the parameter headers, and the tables
-pub are_tables : (h i j k : Option (List ℕ)) (a b c d : Ahead) (header headers bytes : List ℕ) → length header ≡ 8 → HasSignature header → HasReadOn h i a b Tables header headers
-    → length headers ≡ headers_end header → HasReadOn i j b c Tables headers bytes → length bytes ≡ tables_size headers → AreTables bytes
-are_tables h i j k a b c d header headers bytes eight signed one upto two far =
+pub are_tables : (most : ℕ) (h i j k : Option (List ℕ)) (a b c d : Ahead) (header headers bytes : List ℕ) → length header ≡ 8 → HasSignature header
+    → HasReadOn most h i a b Tables header headers → length headers ≡ headers_end header → HasReadOn most i j b c Tables headers bytes
+    → length bytes ≡ tables_size headers → AreTables bytes
+are_tables most h i j k a b c d header headers bytes eight signed one upto two far =
     let some : 8 ≤ length headers = omega (arith, upto) in
     let end : headers_end bytes ≡ length headers =
     headers_kept headers bytes some two ∙ headers_kept header headers (omega (arith, eight)) one ∙ sym upto in
@@ -44,13 +52,15 @@ are_tables h i j k a b c d header headers bytes eight signed one upto two far =
     }
 
 -- from nothing on
-pub from_none : {h i : Option (List ℕ)} {a b : Ahead} (none bytes : List ℕ) → none ≡ [] → HasReadOn h i a b Tables none bytes → HasReadOn h i a b Tables [] bytes
-from_none {h} {i} {a} {b} none bytes is read = subst (λ (front : List ℕ). HasReadOn h i a b Tables front bytes) is read
+pub from_none : {most : ℕ} {h i : Option (List ℕ)} {a b : Ahead} (none bytes : List ℕ) → none ≡ [] → HasReadOn most h i a b Tables none bytes
+    → HasReadOn most h i a b Tables [] bytes
+from_none {most} {h} {i} {a} {b} none bytes is read = subst (λ (front : List ℕ). HasReadOn most h i a b Tables front bytes) is read
 
 -- the sizes that were found are those of what was read
-pub these_tables : (h i j k : Option (List ℕ)) (a b c d : Ahead) (header headers bytes header_seen headers_seen : List ℕ) (end size : ℕ) → length header ≡ 8
-    → header_seen ≡ header → HasSignature header_seen → HasReadOn h i a b Tables header headers → length headers ≡ end → end ≡ headers_end header_seen
-    → headers_seen ≡ headers → HasReadOn i j b c Tables headers bytes → length bytes ≡ size → size ≡ tables_size headers_seen → AreTables bytes
-these_tables h i j k a b c d header headers bytes header_seen headers_seen end size eight one_is signed one upto end_is two_is two far size_is =
-    are_tables h i j k a b c d header headers bytes eight (subst HasSignature one_is signed) one (upto ∙ end_is ∙ ap headers_end one_is) two
+pub these_tables : (most : ℕ) (h i j k : Option (List ℕ)) (a b c d : Ahead) (header headers bytes header_seen headers_seen : List ℕ) (end size : ℕ)
+    → length header ≡ 8 → header_seen ≡ header → HasSignature header_seen → HasReadOn most h i a b Tables header headers
+    → length headers ≡ end → end ≡ headers_end header_seen → headers_seen ≡ headers → HasReadOn most i j b c Tables headers bytes
+    → length bytes ≡ size → size ≡ tables_size headers_seen → AreTables bytes
+these_tables most h i j k a b c d header headers bytes header_seen headers_seen end size eight one_is signed one upto end_is two_is two far size_is =
+    are_tables most h i j k a b c d header headers bytes eight (subst HasSignature one_is signed) one (upto ∙ end_is ∙ ap headers_end one_is) two
     (far ∙ size_is ∙ ap tables_size two_is)

@@ -22,64 +22,68 @@ pub switched_by : (h i : Option (List ℕ)) (a b : Ahead) (r : Result (Unit {0})
 switched_by h i a b r op found is same p = subst (λ (w : Switch). Operates h i a b r (switch_ops w op)) same p
 
 -- a reading is a log
-whole_logged : (h i : Option (List ℕ)) (a b : Ahead) (by : ReadBy) (bytes : List ℕ) → (read : HasReadWhole h i a b by bytes)
+whole_logged : (most : ℕ) (h i : Option (List ℕ)) (a b : Ahead) (by : ReadBy) (bytes : List ℕ) → (read : HasReadWhole most h i a b by bytes)
     → HasLogged h i a b (enter_ops by ++ (ops_from by 0 read.rest.first.pieces ++ leave_ops by))
-whole_logged h i a b by bytes read =
+whole_logged most h i a b by bytes read =
     let rest = read.rest in
     logged_both h read.held i a read.ahead b (enter_ops by) (ops_from by 0 rest.first.pieces ++ leave_ops by) read.entered
     (logged_both read.held rest.held i read.ahead rest.ahead b (ops_from by 0 rest.first.pieces) (leave_ops by) rest.first.wire rest.rest)
 
-whole_reads : (h i : Option (List ℕ)) (a b : Ahead) (by : ReadBy) (bytes : List ℕ) → (read : HasReadWhole h i a b by bytes)
-    → ReadsBy by bytes (enter_ops by ++ (ops_from by 0 read.rest.first.pieces ++ leave_ops by))
-whole_reads h i a b by bytes read =
+whole_reads : (most : ℕ) (h i : Option (List ℕ)) (a b : Ahead) (by : ReadBy) (bytes : List ℕ) → (read : HasReadWhole most h i a b by bytes)
+    → ReadsBy most by bytes (enter_ops by ++ (ops_from by 0 read.rest.first.pieces ++ leave_ops by))
+whole_reads most h i a b by bytes read =
     let first = read.rest.first in
     record { pieces = first.pieces; filled = first.filled; whole = first.whole; those = refl }
 
-pub read_twice : (h i j : Option (List ℕ)) (a b c : Ahead) (by again : ReadBy) (bytes : List ℕ) → HasReadWhole h i a b by bytes → HasReadWhole i j b c again bytes
-    → ReadTwice h j a c by again bytes
-read_twice h i j a b c by again bytes one two = record {
+pub read_twice : (most : ℕ) (h i j : Option (List ℕ)) (a b c : Ahead) (by again : ReadBy) (bytes : List ℕ) → HasReadWhole most h i a b by bytes
+    → HasReadWhole most i j b c again bytes → ReadTwice most h j a c by again bytes
+read_twice most h i j a b c by again bytes one two = record {
   first = enter_ops by ++ (ops_from by 0 one.rest.first.pieces ++ leave_ops by);
   second = enter_ops again ++ (ops_from again 0 two.rest.first.pieces ++ leave_ops again);
-  reads = whole_reads h i a b by bytes one;
-  rereads = whole_reads i j b c again bytes two;
-  wire = logged_both h i j a b c _ _ (whole_logged h i a b by bytes one) (whole_logged i j b c again bytes two);
+  reads = whole_reads most h i a b by bytes one;
+  rereads = whole_reads most i j b c again bytes two;
+  wire = logged_both h i j a b c _ _ (whole_logged most h i a b by bytes one) (whole_logged most i j b c again bytes two);
 }
 
-pub twice_by : (h i j : Option (List ℕ)) (a b c : Ahead) (by again : ReadBy) (bytes : List ℕ) (r : Result (Unit {0}) Mismatch) → HasReadWhole h i a b by bytes
-    → ReadsWhole i j b c r again bytes → MatchResult r (λ u. ReadTwice h j a c by again bytes) (StopsTwice h j a c by again bytes)
-twice_by h i j a b c by again bytes (Ok u) one two = read_twice h i j a b c by again bytes one two
-twice_by h i j a b c by again bytes (Err (Exchange why)) one two = inr (record { held = i; ahead = b; read = one; missed = two })
-twice_by h i j a b c by again bytes (Err (Differs d)) one two = record { held = i; ahead = b; read = one; missed = two }
+pub twice_by : (most : ℕ) (h i j : Option (List ℕ)) (a b c : Ahead) (by again : ReadBy) (bytes : List ℕ) (r : Result (Unit {0}) Mismatch)
+    → HasReadWhole most h i a b by bytes → ReadsWhole most i j b c r again bytes
+    → MatchResult r (λ u. ReadTwice most h j a c by again bytes) (StopsTwice most h j a c by again bytes)
+twice_by most h i j a b c by again bytes (Ok u) one two = read_twice most h i j a b c by again bytes one two
+twice_by most h i j a b c by again bytes (Err (Exchange why)) one two = inr (record { held = i; ahead = b; read = one; missed = two })
+twice_by most h i j a b c by again bytes (Err (Differs d)) one two = record { held = i; ahead = b; read = one; missed = two }
 
 -- the tables are read without another mode
-tables_whole : (h i : Option (List ℕ)) (a b : Ahead) (bytes : List ℕ) → HasReadOn h i a b Tables [] bytes → HasReadWhole h i a b Tables bytes
-tables_whole h i a b bytes read = record {
+tables_whole : (most : ℕ) (h i : Option (List ℕ)) (a b : Ahead) (bytes : List ℕ) → HasReadOn most h i a b Tables [] bytes
+    → HasReadWhole most h i a b Tables bytes
+tables_whole most h i a b bytes read = record {
   held = h;
   ahead = a;
   entered = logged_none h a;
   rest = record { held = i; ahead = b; first = read; rest = logged_none i b };
 }
 
-pub tables_stop : (h i : Option (List ℕ)) (a b : Ahead) (bytes : List ℕ) (why : Fault) → StopsOn h i a b Tables [] why → StopsFirst h i a b Tables bytes why
-tables_stop h i a b bytes why stop = inr (inl (record { held = h; ahead = a; entered = logged_none h a; rest = stop }))
+pub tables_stop : (most : ℕ) (h i : Option (List ℕ)) (a b : Ahead) (bytes : List ℕ) (why : Fault) → StopsOn most h i a b Tables [] why
+    → StopsFirst most h i a b Tables bytes why
+tables_stop most h i a b bytes why stop = inr (inl (record { held = h; ahead = a; entered = logged_none h a; rest = stop }))
 
-tables_miss : (h i : Option (List ℕ)) (a b : Ahead) (bytes : List ℕ) (why : Mismatch) → MissesOn h i a b Tables bytes why → MissesWhole h i a b Tables bytes why
-tables_miss h i a b bytes (Exchange why) missed = inr (inl (record { held = h; ahead = a; entered = logged_none h a; rest = missed }))
-tables_miss h i a b bytes (Differs d) missed = record {
+tables_miss : (most : ℕ) (h i : Option (List ℕ)) (a b : Ahead) (bytes : List ℕ) (why : Mismatch) → MissesOn most h i a b Tables bytes why
+    → MissesWhole most h i a b Tables bytes why
+tables_miss most h i a b bytes (Exchange why) missed = inr (inl (record { held = h; ahead = a; entered = logged_none h a; rest = missed }))
+tables_miss most h i a b bytes (Differs d) missed = record {
   held = h;
   ahead = a;
   entered = logged_none h a;
   rest = record { held = i; ahead = b; first = missed; rest = logged_none i b };
 }
 
-pub tables_twice : (h i j : Option (List ℕ)) (a b c : Ahead) (bytes : List ℕ) → HasReadOn h i a b Tables [] bytes → HasReadOn i j b c Tables [] bytes
-    → ReadTwice h j a c Tables Tables bytes
-tables_twice h i j a b c bytes one two =
-    read_twice h i j a b c Tables Tables bytes (tables_whole h i a b bytes one) (tables_whole i j b c bytes two)
+pub tables_twice : (most : ℕ) (h i j : Option (List ℕ)) (a b c : Ahead) (bytes : List ℕ) → HasReadOn most h i a b Tables [] bytes
+    → HasReadOn most i j b c Tables [] bytes → ReadTwice most h j a c Tables Tables bytes
+tables_twice most h i j a b c bytes one two =
+    read_twice most h i j a b c Tables Tables bytes (tables_whole most h i a b bytes one) (tables_whole most i j b c bytes two)
 
-pub tables_missed : (h i j : Option (List ℕ)) (a b c : Ahead) (bytes : List ℕ) (why : Mismatch) → HasReadOn h i a b Tables [] bytes
-    → ReadsAgain i j b c (Err why) Tables bytes → StopsTwice h j a c Tables Tables bytes why
-tables_missed h i j a b c bytes (Exchange why) one two =
-    inr (record { held = i; ahead = b; read = tables_whole h i a b bytes one; missed = tables_miss i j b c bytes (Exchange why) two })
-tables_missed h i j a b c bytes (Differs d) one two =
-    record { held = i; ahead = b; read = tables_whole h i a b bytes one; missed = tables_miss i j b c bytes (Differs d) two }
+pub tables_missed : (most : ℕ) (h i j : Option (List ℕ)) (a b c : Ahead) (bytes : List ℕ) (why : Mismatch) → HasReadOn most h i a b Tables [] bytes
+    → ReadsAgain most i j b c (Err why) Tables bytes → StopsTwice most h j a c Tables Tables bytes why
+tables_missed most h i j a b c bytes (Exchange why) one two =
+    inr (record { held = i; ahead = b; read = tables_whole most h i a b bytes one; missed = tables_miss most i j b c bytes (Exchange why) two })
+tables_missed most h i j a b c bytes (Differs d) one two =
+    record { held = i; ahead = b; read = tables_whole most h i a b bytes one; missed = tables_miss most i j b c bytes (Differs d) two }

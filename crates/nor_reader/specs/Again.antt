@@ -12,10 +12,12 @@ use Rattle.nor_loop.specs.Log.{HasLogged}
 use Rattle.nor_reader.specs.declared.by.ReadBy.{ReadBy}
 use Rattle.nor_reader.specs.Reads.{sent_by, read_op, HasReadOn, StopsPiece}
 
--- the answer of a read from an address on came whole, and this is the first byte of it that is another than the one that was wanted
-pub record FindsOther (held_before held_after : Option (List ℕ)) (ahead_before ahead_after : Ahead) (by : ReadBy) (at : ℕ) (want : List ℕ)
-    (d : Difference) : Type 0 where
+-- the answer of a read of no more than so many bytes, from an address on, came whole, and this is the first byte of it that is another
+-- than the one that was wanted
+pub record FindsOther (most : ℕ) (held_before held_after : Option (List ℕ)) (ahead_before ahead_after : Ahead) (by : ReadBy) (at : ℕ)
+    (want : List ℕ) (d : Difference) : Type 0 where
   pub short : length want < 2 ^ 24
+  pub few : length want ≤ most
   pub out : Appends held_before held_after (request (sent_by by at (length want)) (length want))
   pub place : ℕ
   pub other : GivesOther ahead_before ahead_after want place d.chip
@@ -23,32 +25,34 @@ pub record FindsOther (held_before held_after : Option (List ℕ)) (ahead_before
   pub wanted : d.want ≡ slice_index want place
 
 -- such a read ended so
-abbrev pub MissesPiece : Option (List ℕ) → Option (List ℕ) → Ahead → Ahead → ReadBy → ℕ → List ℕ → Mismatch → Type 0
-MissesPiece held_before held_after ahead_before ahead_after by at want (Exchange why) =
-    (got : List ℕ) × (length got ≡ length want) × StopsPiece held_before held_after ahead_before ahead_after by at got why
-MissesPiece held_before held_after ahead_before ahead_after by at want (Differs d) =
-    FindsOther held_before held_after ahead_before ahead_after by at want d
+abbrev pub MissesPiece : ℕ → Option (List ℕ) → Option (List ℕ) → Ahead → Ahead → ReadBy → ℕ → List ℕ → Mismatch → Type 0
+MissesPiece most held_before held_after ahead_before ahead_after by at want (Exchange why) =
+    (got : List ℕ) × (length got ≡ length want) × StopsPiece most held_before held_after ahead_before ahead_after by at got why
+MissesPiece most held_before held_after ahead_before ahead_after by at want (Differs d) =
+    FindsOther most held_before held_after ahead_before ahead_after by at want d
 
 -- what such a read says
-abbrev pub ReadsPiece : Option (List ℕ) → Option (List ℕ) → Ahead → Ahead → Result (Unit {0}) Mismatch → ReadBy → ℕ → List ℕ → Type 0
-ReadsPiece held_before held_after ahead_before ahead_after (Ok u) by at want =
+abbrev pub ReadsPiece : ℕ → Option (List ℕ) → Option (List ℕ) → Ahead → Ahead → Result (Unit {0}) Mismatch → ReadBy → ℕ → List ℕ → Type 0
+ReadsPiece most held_before held_after ahead_before ahead_after (Ok u) by at want =
     HasLogged held_before held_after ahead_before ahead_after (read_op by at want ∷ [])
-ReadsPiece held_before held_after ahead_before ahead_after (Err why) by at want =
-    MissesPiece held_before held_after ahead_before ahead_after by at want why
+ReadsPiece most held_before held_after ahead_before ahead_after (Err why) by at want =
+    MissesPiece most held_before held_after ahead_before ahead_after by at want why
 
 -- the bytes before an address came again, and the next read ended so
-pub record MissesOn (held_before held_after : Option (List ℕ)) (ahead_before ahead_after : Ahead) (by : ReadBy) (bytes : List ℕ) (why : Mismatch)
-    : Type 0 where
+pub record MissesOn (most : ℕ) (held_before held_after : Option (List ℕ)) (ahead_before ahead_after : Ahead) (by : ReadBy) (bytes : List ℕ)
+    (why : Mismatch) : Type 0 where
   pub at : ℕ
   pub len : ℕ
   pub some : 0 < len
   pub within : at + len ≤ length bytes
   pub held : Option (List ℕ)
   pub ahead : Ahead
-  pub alike : HasReadOn held_before held ahead_before ahead by [] (take at bytes)
-  pub stop : MissesPiece held held_after ahead ahead_after by at (slice_range bytes at (at + len)) why
+  pub alike : HasReadOn most held_before held ahead_before ahead by [] (take at bytes)
+  pub stop : MissesPiece most held held_after ahead ahead_after by at (slice_range bytes at (at + len)) why
 
 -- what reading bytes again from address 0 on says
-abbrev pub ReadsAgain : Option (List ℕ) → Option (List ℕ) → Ahead → Ahead → Result (Unit {0}) Mismatch → ReadBy → List ℕ → Type 0
-ReadsAgain held_before held_after ahead_before ahead_after (Ok u) by bytes = HasReadOn held_before held_after ahead_before ahead_after by [] bytes
-ReadsAgain held_before held_after ahead_before ahead_after (Err why) by bytes = MissesOn held_before held_after ahead_before ahead_after by bytes why
+abbrev pub ReadsAgain : ℕ → Option (List ℕ) → Option (List ℕ) → Ahead → Ahead → Result (Unit {0}) Mismatch → ReadBy → List ℕ → Type 0
+ReadsAgain most held_before held_after ahead_before ahead_after (Ok u) by bytes =
+    HasReadOn most held_before held_after ahead_before ahead_after by [] bytes
+ReadsAgain most held_before held_after ahead_before ahead_after (Err why) by bytes =
+    MissesOn most held_before held_after ahead_before ahead_after by bytes why

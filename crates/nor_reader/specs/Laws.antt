@@ -24,9 +24,9 @@ abbrev pub KnowsContent : Option (List ℕ) → Option (List ℕ) → Ahead → 
 KnowsContent held_before held_after ahead_before ahead_after m start content =
     KnowsTwice held_before held_after ahead_before ahead_after m start content
 
--- so it is where they came twice alike
+-- so it is where they came twice alike, however many bytes each read asked for
 abbrev pub TwiceKnows : Type 0
-TwiceKnows = (held_before held_after : Option (List ℕ)) (ahead_before ahead_after : Ahead) (m : Parameters) (start : Start)
+TwiceKnows = (most : ℕ) (held_before held_after : Option (List ℕ)) (ahead_before ahead_after : Ahead) (m : Parameters) (start : Start)
     (by again : ReadBy) (content : List ℕ) → m.size ≤ 2 ^ 32 → length content ≡ m.size → GivesBy m start by → GivesBy m start again
-    → ReadTwice held_before held_after ahead_before ahead_after by again content
+    → ReadTwice most held_before held_after ahead_before ahead_after by again content
     → KnowsContent held_before held_after ahead_before ahead_after m start content

@@ -1,6 +1,6 @@
 -- Reads of a chip, one after the other (W25Q256JV datasheet: Read Data 03h, Read Data with 4-Byte Address 13h; JESD216B: Read SFDP
 -- 5Ah; the exchanges are the Serial Flasher Protocol's).
-use Rattle.std.specs.Prelude.{◌≡◌, ◌<◌, ℕ, ◌+◌, ◌^◌, true, List, [], ◌∷◌, ◌++◌, length, Option, Err}
+use Rattle.std.specs.Prelude.{◌≡◌, ◌<◌, ◌≤◌, ℕ, ◌+◌, ◌^◌, true, List, [], ◌∷◌, ◌++◌, length, Option, Err}
 use Rattle.std.specs.List.{AllByRecursion, concat}
 use Rattle.nor_base.specs.Device.{Ahead}
 use Rattle.nor_serprog.specs.declared.fault.Fault.{Fault}
@@ -30,34 +30,40 @@ abbrev pub ops_from : ReadBy → ℕ → List (List ℕ) → List Operation
 ops_from by at [] = []
 ops_from by at (piece ∷ pieces) = read_op by at piece ∷ ops_from by (at + length piece) pieces
 
--- the log reads each address once, from 0 on, in four-byte mode where that is the way, and this is what came back
-pub record ReadsBy (by : ReadBy) (bytes : List ℕ) (log : List Operation) : Type 0 where
+-- what one read gave: some bytes, and no more than that many
+abbrev pub IsPiece : ℕ → List ℕ → Type 0
+IsPiece most piece = (0 < length piece) × (length piece ≤ most)
+
+-- the log reads each address once, from 0 on, in four-byte mode where that is the way, and this is what came back; no read asked for more
+-- than so many bytes
+pub record ReadsBy (most : ℕ) (by : ReadBy) (bytes : List ℕ) (log : List Operation) : Type 0 where
   pub pieces : List (List ℕ)
-  pub filled : AllByRecursion (λ piece. 0 < length piece) pieces
+  pub filled : AllByRecursion (IsPiece most) pieces
   pub whole : concat pieces ≡ bytes
   pub those : log ≡ enter_ops by ++ (ops_from by 0 pieces ++ leave_ops by)
 
--- bytes were read that follow those in front: just these reads went out, and just these bytes came
-pub record HasReadOn (held_before held_after : Option (List ℕ)) (ahead_before ahead_after : Ahead) (by : ReadBy) (front bytes : List ℕ)
-    : Type 0 where
+-- bytes were read that follow those in front: just these reads went out, each of them for no more than so many bytes, and just these
+-- bytes came
+pub record HasReadOn (most : ℕ) (held_before held_after : Option (List ℕ)) (ahead_before ahead_after : Ahead) (by : ReadBy)
+    (front bytes : List ℕ) : Type 0 where
   pub pieces : List (List ℕ)
-  pub filled : AllByRecursion (λ piece. 0 < length piece) pieces
+  pub filled : AllByRecursion (IsPiece most) pieces
   pub whole : front ++ concat pieces ≡ bytes
   pub wire : HasLogged held_before held_after ahead_before ahead_after (ops_from by (length front) pieces)
 
--- the exchange of a read from an address on ended so
-abbrev pub StopsPiece : Option (List ℕ) → Option (List ℕ) → Ahead → Ahead → ReadBy → ℕ → List ℕ → Fault → Type 0
-StopsPiece held_before held_after ahead_before ahead_after by at got why =
-    (length got < 2 ^ 24)
+-- the exchange of a read of no more than so many bytes, from an address on, ended so
+abbrev pub StopsPiece : ℕ → Option (List ℕ) → Option (List ℕ) → Ahead → Ahead → ReadBy → ℕ → List ℕ → Fault → Type 0
+StopsPiece most held_before held_after ahead_before ahead_after by at got why =
+    (length got < 2 ^ 24) × (length got ≤ most)
     × Asks held_before held_after ahead_before ahead_after (Err why) (request (sent_by by at (length got)) (length got))
     (Answers ahead_before ahead_after (Err why) got)
 
 -- some of the bytes that follow those in front were read, and the exchange of the next read ended so
-pub record StopsOn (held_before held_after : Option (List ℕ)) (ahead_before ahead_after : Ahead) (by : ReadBy) (front : List ℕ) (why : Fault)
-    : Type 0 where
+pub record StopsOn (most : ℕ) (held_before held_after : Option (List ℕ)) (ahead_before ahead_after : Ahead) (by : ReadBy) (front : List ℕ)
+    (why : Fault) : Type 0 where
   pub so_far : List ℕ
   pub held : Option (List ℕ)
   pub ahead : Ahead
-  pub read : HasReadOn held_before held ahead_before ahead by front so_far
+  pub read : HasReadOn most held_before held ahead_before ahead by front so_far
   pub got : List ℕ
-  pub stop : StopsPiece held held_after ahead ahead_after by (length so_far) got why
+  pub stop : StopsPiece most held held_after ahead ahead_after by (length so_far) got why

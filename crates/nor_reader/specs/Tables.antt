@@ -29,28 +29,28 @@ pub record AreTables (bytes : List ℕ) : Type 0 where
   pub far : length bytes ≡ tables_size (take (headers_end bytes) bytes)
 
 -- they came twice alike, as far as their own headers reach
-pub record HasReadTables (held_before held_after : Option (List ℕ)) (ahead_before ahead_after : Ahead) (bytes : List ℕ) : Type 0 where
+pub record HasReadTables (most : ℕ) (held_before held_after : Option (List ℕ)) (ahead_before ahead_after : Ahead) (bytes : List ℕ) : Type 0 where
   pub are : AreTables bytes
-  pub twice : ReadTwice held_before held_after ahead_before ahead_after Tables Tables bytes
+  pub twice : ReadTwice most held_before held_after ahead_before ahead_after Tables Tables bytes
 
 -- why they aren't read: there is no signature in the header, which was read once; or they didn't come twice alike; or memory ran out
 -- after a part of them
-abbrev pub StopsTables : Option (List ℕ) → Option (List ℕ) → Ahead → Ahead → TablesFault → Type 0
-StopsTables held_before held_after ahead_before ahead_after NoSignature =
-    (bytes : List ℕ) × (length bytes ≡ 8) × (HasSignature bytes → ⊥) × HasReadOn held_before held_after ahead_before ahead_after Tables [] bytes
-StopsTables held_before held_after ahead_before ahead_after (Unread why) =
-    (bytes : List ℕ) × StopsTwice held_before held_after ahead_before ahead_after Tables Tables bytes why
-StopsTables held_before held_after ahead_before ahead_after Memory =
-    (bytes : List ℕ) × HasReadOn held_before held_after ahead_before ahead_after Tables [] bytes
+abbrev pub StopsTables : ℕ → Option (List ℕ) → Option (List ℕ) → Ahead → Ahead → TablesFault → Type 0
+StopsTables most held_before held_after ahead_before ahead_after NoSignature =
+    (bytes : List ℕ) × (length bytes ≡ 8) × (HasSignature bytes → ⊥) × HasReadOn most held_before held_after ahead_before ahead_after Tables [] bytes
+StopsTables most held_before held_after ahead_before ahead_after (Unread why) =
+    (bytes : List ℕ) × StopsTwice most held_before held_after ahead_before ahead_after Tables Tables bytes why
+StopsTables most held_before held_after ahead_before ahead_after Memory =
+    (bytes : List ℕ) × HasReadOn most held_before held_after ahead_before ahead_after Tables [] bytes
 
 -- what reading on says, until there are so many bytes
-abbrev pub Grows : Option (List ℕ) → Option (List ℕ) → Ahead → Ahead → Result (Unit {0}) TablesFault → List ℕ → List ℕ → ℕ → Type 0
-Grows held_before held_after ahead_before ahead_after (Ok u) old new end =
-    (length new ≡ end) × HasReadOn held_before held_after ahead_before ahead_after Tables old new
-Grows held_before held_after ahead_before ahead_after (Err Memory) old new end = (held_after ≡ held_before) × (ahead_after ≡ ahead_before)
-Grows held_before held_after ahead_before ahead_after (Err (Unread (Exchange why))) old new end =
-    StopsOn held_before held_after ahead_before ahead_after Tables old why
-Grows held_before held_after ahead_before ahead_after (Err other) old new end = ⊥
+abbrev pub Grows : ℕ → Option (List ℕ) → Option (List ℕ) → Ahead → Ahead → Result (Unit {0}) TablesFault → List ℕ → List ℕ → ℕ → Type 0
+Grows most held_before held_after ahead_before ahead_after (Ok u) old new end =
+    (length new ≡ end) × HasReadOn most held_before held_after ahead_before ahead_after Tables old new
+Grows most held_before held_after ahead_before ahead_after (Err Memory) old new end = (held_after ≡ held_before) × (ahead_after ≡ ahead_before)
+Grows most held_before held_after ahead_before ahead_after (Err (Unread (Exchange why))) old new end =
+    StopsOn most held_before held_after ahead_before ahead_after Tables old why
+Grows most held_before held_after ahead_before ahead_after (Err other) old new end = ⊥
 
 -- the reader's count of failures rises by one exactly where the exchange ended in Read, the writer's where it ended in Write
 abbrev pub CountsTables : {T : Type 0} → Fault → ℕ → ℕ → Result T TablesFault → Type 0

@@ -11,13 +11,13 @@ use Rattle.nor_reader.specs.Switched.{enter_ops, leave_ops, StopsAmong}
 use Rattle.nor_reader.specs.Reads.{ReadsBy, HasReadOn, StopsOn}
 use Rattle.nor_reader.specs.Again.{MissesOn}
 
--- the exchanges were just two readings of the whole, and these bytes are what both gave
-pub record ReadTwice (held_before held_after : Option (List ℕ)) (ahead_before ahead_after : Ahead) (by again : ReadBy) (bytes : List ℕ)
-    : Type 0 where
+-- the exchanges were just two readings of the whole, by reads of no more than so many bytes, and these bytes are what both gave
+pub record ReadTwice (most : ℕ) (held_before held_after : Option (List ℕ)) (ahead_before ahead_after : Ahead) (by again : ReadBy)
+    (bytes : List ℕ) : Type 0 where
   pub first : List Operation
   pub second : List Operation
-  pub reads : ReadsBy by bytes first
-  pub rereads : ReadsBy again bytes second
+  pub reads : ReadsBy most by bytes first
+  pub rereads : ReadsBy most again bytes second
   pub wire : HasLogged held_before held_after ahead_before ahead_after (first ++ second)
 
 -- what happens between two moments of a device
@@ -48,56 +48,57 @@ StopsLeaving by why held_before held_after ahead_before ahead_after =
     StopsAmong held_before held_after ahead_before ahead_after (leave_ops by) why
 
 -- all bytes came; a byte came otherwise
-abbrev pub AllCame : ReadBy → List ℕ → Passage
-AllCame by bytes held_before held_after ahead_before ahead_after = HasReadOn held_before held_after ahead_before ahead_after by [] bytes
+abbrev pub AllCame : ℕ → ReadBy → List ℕ → Passage
+AllCame most by bytes held_before held_after ahead_before ahead_after =
+    HasReadOn most held_before held_after ahead_before ahead_after by [] bytes
 
-abbrev pub OtherCame : ReadBy → List ℕ → Difference → Passage
-OtherCame by bytes d held_before held_after ahead_before ahead_after =
-    MissesOn held_before held_after ahead_before ahead_after by bytes (Differs d)
+abbrev pub OtherCame : ℕ → ReadBy → List ℕ → Difference → Passage
+OtherCame most by bytes d held_before held_after ahead_before ahead_after =
+    MissesOn most held_before held_after ahead_before ahead_after by bytes (Differs d)
 
 -- bytes were read whole
-abbrev pub HasReadWhole : Option (List ℕ) → Option (List ℕ) → Ahead → Ahead → ReadBy → List ℕ → Type 0
-HasReadWhole held_before held_after ahead_before ahead_after by bytes =
-    IsEntered by (IsFollowed (AllCame by bytes) (IsLeft by)) held_before held_after ahead_before ahead_after
+abbrev pub HasReadWhole : ℕ → Option (List ℕ) → Option (List ℕ) → Ahead → Ahead → ReadBy → List ℕ → Type 0
+HasReadWhole most held_before held_after ahead_before ahead_after by bytes =
+    IsEntered by (IsFollowed (AllCame most by bytes) (IsLeft by)) held_before held_after ahead_before ahead_after
 
 -- a first reading ended early: as the mode was entered, in a read, or as the mode was left
-abbrev pub StopsFirst : Option (List ℕ) → Option (List ℕ) → Ahead → Ahead → ReadBy → List ℕ → Fault → Type 0
-StopsFirst held_before held_after ahead_before ahead_after by bytes why =
+abbrev pub StopsFirst : ℕ → Option (List ℕ) → Option (List ℕ) → Ahead → Ahead → ReadBy → List ℕ → Fault → Type 0
+StopsFirst most held_before held_after ahead_before ahead_after by bytes why =
     StopsAmong held_before held_after ahead_before ahead_after (enter_ops by) why
-    ⊎ (IsEntered by (λ h i a b. StopsOn h i a b by [] why) held_before held_after ahead_before ahead_after
-    ⊎ IsEntered by (IsFollowed (AllCame by bytes) (StopsLeaving by why)) held_before held_after ahead_before ahead_after)
+    ⊎ (IsEntered by (λ h i a b. StopsOn most h i a b by [] why) held_before held_after ahead_before ahead_after
+    ⊎ IsEntered by (IsFollowed (AllCame most by bytes) (StopsLeaving by why)) held_before held_after ahead_before ahead_after)
 
 -- bytes didn't come again: an exchange ended early, as the mode was entered, in a read, or as the mode was left; or a byte came
 -- otherwise, and the mode was left
-abbrev pub MissesWhole : Option (List ℕ) → Option (List ℕ) → Ahead → Ahead → ReadBy → List ℕ → Mismatch → Type 0
-MissesWhole held_before held_after ahead_before ahead_after by bytes (Exchange why) =
+abbrev pub MissesWhole : ℕ → Option (List ℕ) → Option (List ℕ) → Ahead → Ahead → ReadBy → List ℕ → Mismatch → Type 0
+MissesWhole most held_before held_after ahead_before ahead_after by bytes (Exchange why) =
     StopsAmong held_before held_after ahead_before ahead_after (enter_ops by) why
-    ⊎ (IsEntered by (λ h i a b. MissesOn h i a b by bytes (Exchange why)) held_before held_after ahead_before ahead_after
-    ⊎ (IsEntered by (IsFollowed (AllCame by bytes) (StopsLeaving by why)) held_before held_after ahead_before ahead_after
+    ⊎ (IsEntered by (λ h i a b. MissesOn most h i a b by bytes (Exchange why)) held_before held_after ahead_before ahead_after
+    ⊎ (IsEntered by (IsFollowed (AllCame most by bytes) (StopsLeaving by why)) held_before held_after ahead_before ahead_after
     ⊎ ((d : Difference)
-    × IsEntered by (IsFollowed (OtherCame by bytes d) (StopsLeaving by why)) held_before held_after ahead_before ahead_after)))
-MissesWhole held_before held_after ahead_before ahead_after by bytes (Differs d) =
-    IsEntered by (IsFollowed (OtherCame by bytes d) (IsLeft by)) held_before held_after ahead_before ahead_after
+    × IsEntered by (IsFollowed (OtherCame most by bytes d) (StopsLeaving by why)) held_before held_after ahead_before ahead_after)))
+MissesWhole most held_before held_after ahead_before ahead_after by bytes (Differs d) =
+    IsEntered by (IsFollowed (OtherCame most by bytes d) (IsLeft by)) held_before held_after ahead_before ahead_after
 
 -- what a second reading says
-abbrev pub ReadsWhole : Option (List ℕ) → Option (List ℕ) → Ahead → Ahead → Result (Unit {0}) Mismatch → ReadBy → List ℕ → Type 0
-ReadsWhole held_before held_after ahead_before ahead_after (Ok u) by bytes =
-    HasReadWhole held_before held_after ahead_before ahead_after by bytes
-ReadsWhole held_before held_after ahead_before ahead_after (Err why) by bytes =
-    MissesWhole held_before held_after ahead_before ahead_after by bytes why
+abbrev pub ReadsWhole : ℕ → Option (List ℕ) → Option (List ℕ) → Ahead → Ahead → Result (Unit {0}) Mismatch → ReadBy → List ℕ → Type 0
+ReadsWhole most held_before held_after ahead_before ahead_after (Ok u) by bytes =
+    HasReadWhole most held_before held_after ahead_before ahead_after by bytes
+ReadsWhole most held_before held_after ahead_before ahead_after (Err why) by bytes =
+    MissesWhole most held_before held_after ahead_before ahead_after by bytes why
 
 -- bytes were read whole, and then not found so again
-pub record MissesAgain (held_before held_after : Option (List ℕ)) (ahead_before ahead_after : Ahead) (by again : ReadBy) (bytes : List ℕ)
-    (why : Mismatch) : Type 0 where
+pub record MissesAgain (most : ℕ) (held_before held_after : Option (List ℕ)) (ahead_before ahead_after : Ahead) (by again : ReadBy)
+    (bytes : List ℕ) (why : Mismatch) : Type 0 where
   pub held : Option (List ℕ)
   pub ahead : Ahead
-  pub read : HasReadWhole held_before held ahead_before ahead by bytes
-  pub missed : MissesWhole held held_after ahead ahead_after again bytes why
+  pub read : HasReadWhole most held_before held ahead_before ahead by bytes
+  pub missed : MissesWhole most held held_after ahead ahead_after again bytes why
 
 -- why they didn't come twice alike: an exchange of the first reading ended early, or the second reading ended so
-abbrev pub StopsTwice : Option (List ℕ) → Option (List ℕ) → Ahead → Ahead → ReadBy → ReadBy → List ℕ → Mismatch → Type 0
-StopsTwice held_before held_after ahead_before ahead_after by again bytes (Exchange why) =
-    StopsFirst held_before held_after ahead_before ahead_after by bytes why
-    ⊎ MissesAgain held_before held_after ahead_before ahead_after by again bytes (Exchange why)
-StopsTwice held_before held_after ahead_before ahead_after by again bytes (Differs d) =
-    MissesAgain held_before held_after ahead_before ahead_after by again bytes (Differs d)
+abbrev pub StopsTwice : ℕ → Option (List ℕ) → Option (List ℕ) → Ahead → Ahead → ReadBy → ReadBy → List ℕ → Mismatch → Type 0
+StopsTwice most held_before held_after ahead_before ahead_after by again bytes (Exchange why) =
+    StopsFirst most held_before held_after ahead_before ahead_after by bytes why
+    ⊎ MissesAgain most held_before held_after ahead_before ahead_after by again bytes (Exchange why)
+StopsTwice most held_before held_after ahead_before ahead_after by again bytes (Differs d) =
+    MissesAgain most held_before held_after ahead_before ahead_after by again bytes (Differs d)

@@ -33,10 +33,10 @@ pub fn read_content<R: ByteIn, W: ByteOut>(
     requires size { length content.old ≤ 2 ^ 32 }
     requires room { HaveRoom (R.count from.old) (W.count to.old) }
     ensures twice { MatchResult result
-        (λ _. ReadTwice (W.held to.old) (W.held to.new) (R.ahead from.old) (R.ahead from.new) by
-        again content.new)
-        (StopsTwice (W.held to.old) (W.held to.new) (R.ahead from.old) (R.ahead from.new) by again
-        content.new) }
+        (λ _. ReadTwice limits.now.asked (W.held to.old) (W.held to.new) (R.ahead from.old)
+        (R.ahead from.new) by again content.new)
+        (StopsTwice limits.now.asked (W.held to.old) (W.held to.new) (R.ahead from.old)
+        (R.ahead from.new) by again content.new) }
     ensures counts { CountsMismatch Read (R.count from.old) (R.count from.new) result
         × CountsMismatch Write (W.count to.old) (W.count to.new) result }
 {
@@ -58,10 +58,10 @@ fn read_first<R: ByteIn, W: ByteOut>(
     requires size { length bytes.old ≤ 2 ^ 32 }
     requires room { HaveRoom (R.count from.old) (W.count to.old) }
     ensures read { MatchResult result
-        (λ _. HasReadWhole (W.held to.old) (W.held to.new) (R.ahead from.old) (R.ahead from.new) by
-        bytes.new)
-        (StopsFirst (W.held to.old) (W.held to.new) (R.ahead from.old) (R.ahead from.new) by
-        bytes.new) }
+        (λ _. HasReadWhole limits.now.asked (W.held to.old) (W.held to.new) (R.ahead from.old)
+        (R.ahead from.new) by bytes.new)
+        (StopsFirst limits.now.asked (W.held to.old) (W.held to.new) (R.ahead from.old)
+        (R.ahead from.new) by bytes.new) }
     ensures counts { CountsReads (R.count from.old) (R.count from.new) result
         × CountsWrites (W.count to.old) (W.count to.new) result }
 {
@@ -88,8 +88,8 @@ pub fn read_again<R: ByteIn, W: ByteOut>(
 ) -> Result<(), Mismatch>
     requires size { length bytes.now ≤ 2 ^ 32 }
     requires room { HaveRoom (R.count from.old) (W.count to.old) }
-    ensures again { ReadsWhole (W.held to.old) (W.held to.new) (R.ahead from.old) (R.ahead from.new)
-        result by bytes.now }
+    ensures again { ReadsWhole limits.now.asked (W.held to.old) (W.held to.new) (R.ahead from.old)
+        (R.ahead from.new) result by bytes.now }
     ensures counts { CountsMismatch Read (R.count from.old) (R.count from.new) result
         × CountsMismatch Write (W.count to.old) (W.count to.new) result }
 {
@@ -123,10 +123,10 @@ pub(crate) fn read_on<R: ByteIn, W: ByteOut>(
     requires size { length bytes.old ≤ 2 ^ 32 }
     requires room { HaveRoom (R.count from.old) (W.count to.old) }
     ensures read { MatchResult result
-        (λ _. HasReadOn (W.held to.old) (W.held to.new) (R.ahead from.old) (R.ahead from.new) by
-        (take start bytes.old) bytes.new)
-        (StopsOn (W.held to.old) (W.held to.new) (R.ahead from.old) (R.ahead from.new) by
-        (take start bytes.old)) }
+        (λ _. HasReadOn limits.now.asked (W.held to.old) (W.held to.new) (R.ahead from.old)
+        (R.ahead from.new) by (take start bytes.old) bytes.new)
+        (StopsOn limits.now.asked (W.held to.old) (W.held to.new) (R.ahead from.old)
+        (R.ahead from.new) by (take start bytes.old)) }
     ensures size { length bytes.new ≡ length bytes.old }
     ensures counts { CountsReads (R.count from.old) (R.count from.new) result
         × CountsWrites (W.count to.old) (W.count to.new) result }
@@ -154,8 +154,8 @@ pub(crate) fn compare_all<R: ByteIn, W: ByteOut>(
 ) -> Result<(), Mismatch>
     requires size { length bytes.now ≤ 2 ^ 32 }
     requires room { HaveRoom (R.count from.old) (W.count to.old) }
-    ensures again { ReadsAgain (W.held to.old) (W.held to.new) (R.ahead from.old) (R.ahead from.new)
-        result by bytes.now }
+    ensures again { ReadsAgain limits.now.asked (W.held to.old) (W.held to.new) (R.ahead from.old)
+        (R.ahead from.new) result by bytes.now }
     ensures counts { CountsMismatch Read (R.count from.old) (R.count from.new) result
         × CountsMismatch Write (W.count to.old) (W.count to.new) result }
 {

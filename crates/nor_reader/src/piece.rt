@@ -29,8 +29,8 @@ pub(crate) fn read_piece<R: ByteIn, W: ByteOut>(
     ensures read { MatchResult result
         (λ _. HasLogged (W.held to.old) (W.held to.new) (R.ahead from.old) (R.ahead from.new)
         (read_op by address piece.new ∷ []))
-        (StopsPiece (W.held to.old) (W.held to.new) (R.ahead from.old) (R.ahead from.new) by address
-        piece.new) }
+        (StopsPiece (length piece.new) (W.held to.old) (W.held to.new) (R.ahead from.old)
+        (R.ahead from.new) by address piece.new) }
     ensures counts { CountsReads (R.count from.old) (R.count from.new) result
         × CountsWrites (W.count to.old) (W.count to.new) result }
 {
@@ -82,8 +82,8 @@ pub(crate) fn compare_piece<R: ByteIn, W: ByteOut>(
     requires size { length piece.now < 2 ^ 24 }
     requires end { address + length piece.now < 2 ^ 32 + 1 }
     requires room { HaveRoom (R.count from.old) (W.count to.old) }
-    ensures read { ReadsPiece (W.held to.old) (W.held to.new) (R.ahead from.old) (R.ahead from.new)
-        result by address piece.now }
+    ensures read { ReadsPiece (length piece.now) (W.held to.old) (W.held to.new)
+        (R.ahead from.old) (R.ahead from.new) result by address piece.now }
     ensures counts { CountsMismatch Read (R.count from.old) (R.count from.new) result
         × CountsMismatch Write (W.count to.old) (W.count to.new) result }
 {

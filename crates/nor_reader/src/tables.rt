@@ -41,7 +41,7 @@ impl From<AllocError> for TablesFault {
 }
 
 /// Has the device read its chip's SFDP tables twice, from address 0 on as far as the headers and
-/// the tables that they point at reach. Memory is taken for them.
+/// the tables that they point at reach, in pieces that it can give. Memory is taken for them.
 ///
 /// `NoSignature` where the first four bytes aren't `SFDP`; `Unread` where they didn't come twice
 /// alike; `Memory` where a growth is refused.
@@ -53,9 +53,10 @@ pub fn read_tables<R: ByteIn, W: ByteOut>(
 ) -> Result<Vec<u8>, TablesFault>
     requires room { HaveRoom (R.count from.old) (W.count to.old) }
     ensures tables { MatchResult result
-        (λ bytes. HasReadTables (W.held to.old) (W.held to.new) (R.ahead from.old)
-        (R.ahead from.new) bytes.items)
-        (StopsTables (W.held to.old) (W.held to.new) (R.ahead from.old) (R.ahead from.new)) }
+        (λ bytes. HasReadTables limits.now.asked (W.held to.old) (W.held to.new)
+        (R.ahead from.old) (R.ahead from.new) bytes.items)
+        (StopsTables limits.now.asked (W.held to.old) (W.held to.new) (R.ahead from.old)
+        (R.ahead from.new)) }
     ensures counts { CountsTables Read (R.count from.old) (R.count from.new) result
         × CountsTables Write (W.count to.old) (W.count to.new) result }
 {
@@ -91,8 +92,8 @@ fn grow<R: ByteIn, W: ByteOut>(
     requires start { length bytes.old.items ≤ end }
     requires end { end ≤ 2 ^ 24 }
     requires room { HaveRoom (R.count from.old) (W.count to.old) }
-    ensures grows { Grows (W.held to.old) (W.held to.new) (R.ahead from.old) (R.ahead from.new)
-        result bytes.old.items bytes.new.items end }
+    ensures grows { Grows limits.now.asked (W.held to.old) (W.held to.new) (R.ahead from.old)
+        (R.ahead from.new) result bytes.old.items bytes.new.items end }
     ensures counts { CountsTables Read (R.count from.old) (R.count from.new) result
         × CountsTables Write (W.count to.old) (W.count to.new) result }
 {

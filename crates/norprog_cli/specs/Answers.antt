@@ -1,5 +1,5 @@
 -- What the program answers (this project's).
-use Rattle.std.specs.Prelude.{◌≡◌, ◌≢◌, ◌⊎◌, ◌<◌, ◌+◌, ◌-◌, ◌^◌, ℕ, zero, suc, min, List, [], Option, Some, None, Result, Ok, Err, IfErr}
+use Rattle.std.specs.Prelude.{◌≡◌, ◌≢◌, ◌⊎◌, ◌<◌, ◌≤◌, ◌+◌, ◌-◌, ◌^◌, ℕ, zero, suc, min, List, [], Option, Some, None, Result, Ok, Err, IfErr}
 use Rattle.std.specs.Io.KnownBytes.{Keeps, append_known}
 use Rattle.nor_base.specs.Device.{Ahead}
 use Rattle.nor_job.specs.declared.fault.BuildFault.TheVariants.{Memory, Write}
@@ -72,11 +72,13 @@ AnswersTo files Failed Made Unprinted (command.Script given) before after Quiet 
 AnswersTo files Failed Made Unprinted (command.Explain words) before after Quiet Works told_before told_after status shown =
     ShowsNone shown × Made [] × AnswersExplain (explained topics words.items) Unprinted before after Quiet Works told_before told_after status
 
--- more was written of the refusal that is the last line of the text so far, by what stands on the command line
+-- more was written of the refusal that is the last line of the text so far, by what stands on the command line; or nothing was, where
+-- what is written to had failed as often as can be counted
 abbrev pub AddsLines : {E : Type 0} → (E → ℕ) → (E → Option (List ℕ)) → FileFacts → TypedLine → E → E → Type 0
 AddsLines count held files typed before after =
     (line : CommandLine) × (refusal : List ℕ) × IsLineOf typed line × IsLastLine (held before) refusal
-    × TellsDetails files line refusal ((count before < 2 ^ 64 - 1) × (count after ≡ count before)) (held before) (held after)
+    × (((count before < 2 ^ 64 - 1) × TellsDetails files line refusal (count after ≡ count before) (held before) (held after))
+    ⊎ ((2 ^ 64 - 1 ≤ count before) × (after ≡ before)))
 
 -- that is so where the command line wants it and the command isn't done; else nothing was written
 abbrev pub AddsDetails : {E : Type 0} → (E → ℕ) → (E → Option (List ℕ)) → FileFacts → Option TypedLine → ℕ → E → E → Type 0

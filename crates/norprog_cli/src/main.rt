@@ -286,7 +286,7 @@ fn words_after_name(alloc: Global, words: Args) -> Result<Vec<String>, Refusal>
 
 /// Runs the command that the words spell, the program's name not among them. It opens the files
 /// that they name, writes what goes to standard output to `out`, a refusal to `err`, and the
-/// progress of a play to `progress`. It returns the status: 0 done, 1 refused or a script that goes
+/// progress of a play to `progress`. Returns the status: 0 done, 1 refused or a script that goes
 /// wrong or doesn't do its job, 2 usage.
 fn command<S: FileStore, O: ByteOut, E: ByteOut + Drop, P: ByteOut>(
     alloc: Global,

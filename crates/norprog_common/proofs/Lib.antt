@@ -1,5 +1,6 @@
 mod NumberLemmas
 mod LineLemmas
+pub mod TellsLemmas
 pub mod ToldLemmas
 pub mod StoreLemmas
 pub mod ReadingLemmas

@@ -1,6 +1,5 @@
 -- Refusals: which command line has one, and why.
 use Rattle.std.proofs.Common.{◌≡◌, ◌∙◌, ℕ, Bool, true, false, inl, inr, List, Option, Result, Ok, Err, IfOk, IfErr, MatchResult, ◌<◌, arith}
-use Rattle.std.specs.Io.KnownBytes.{Appends}
 use Rattle.nor_job.specs.declared.fault.BuildFault.{BuildFault}
 use Rattle.nor_job.specs.declared.fault.BuildFault.TheVariants as fault
 use Rattle.norprog_common.specs.declared.faults.FileName.{FileName}
@@ -8,7 +7,7 @@ use Rattle.norprog_common.specs.declared.faults.Refusal.{Refusal}
 use Rattle.norprog_common.specs.declared.faults.Refusal.TheVariants.{Text, Usage, File, Build, Page, Script, BinSize, Steps, EmptyRegion, Log}
 use Rattle.norprog_common.specs.Files.{TellsFile}
 use Rattle.norprog_common.specs.Lines.{printed, status_after}
-use Rattle.norprog_common.specs.Told.{ForAsked, OfFault, RefusesFor, TellsBroken, OrUsage, Answers}
+use Rattle.norprog_common.specs.Told.{ForAsked, OfFault, RefusesFor, TellsBroken, Tells, OrUsage, Answers}
 
 -- what is so of something is so of the same by another name
 pub asked_wider : (A : Type 0) (P Q Has : A → Type 0) → ((x : A) → P x → Q x) → ForAsked A P Has → ForAsked A Q Has
@@ -122,7 +121,7 @@ refused_status (Log line) status is = omega (arith, is)
 pub answer_is : (asks : Bool) (Done Cut Quiet Works Makes MayMake : Type 0) (Work : Refusal → Type 0) (told_before told_after : Option (List ℕ)) (work : Result ℕ Refusal)
     (status : ℕ) → IfOk work (λ s. (s ≡ 0) × (asks ≡ true)) → MatchResult work (λ _. Makes) (λ _. MayMake) → IfOk work (λ _. Done) → IfErr work (λ _. Cut)
     → IfErr work (OrUsage asks Work) → IfOk work (λ s. (status ≡ s) × Quiet)
-    → IfErr work (λ why. (status ≡ status_after why) × (Works → Appends told_before told_after (printed why)))
+    → IfErr work (λ why. (status ≡ status_after why) × Tells Works told_before told_after (printed why))
     → Answers asks ((status ≡ 0) × Done × Makes × Quiet) (Cut × MayMake) Work Works told_before told_after status
 answer_is asks Done Cut Quiet Works Makes MayMake Work told_before told_after (Ok s) status ends makes is cut why done told =
     inl (ends.1, (done.0 ∙ ends.0, is, makes, done.1))

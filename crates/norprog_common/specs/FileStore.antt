@@ -10,10 +10,12 @@ use Rattle.norprog_common.specs.declared.files.ScriptFile.{ScriptFile}
 use Rattle.norprog_common.specs.declared.files.ScriptFile.TheVariants.{Twice, Held}
 
 -- what is known of files, each by its name. `may`: a file of this name may be opened to be read. `may_ask`: the system may be asked about it
--- once more, which may open a regular file. `said`: that it doesn't open the file of this name was said in these words. `gave`: the file gave these bytes, read whole. `opened`: it was opened, this is ahead
--- of its reader, and this is its length in bytes. `stood`: it was opened, and stood at this place. `made`: it was made, or emptied,
--- at none of these places, and held this then. `fresh`: no file of this name was there, and the one that was made held this.
--- `emptied`: an output of this name was to be made and can't be used; it may be there, or may have been emptied, and took nothing.
+-- once more, which may open a regular file. `irregular`: no regular file of this name was found. `said`: that it doesn't open the file of
+-- this name was said in these words. `unsaid`: the system was asked about the file of this name, and didn't say that it doesn't open it.
+-- `gave`: the file gave these bytes, read whole. `starved`: memory ran out as the file of this name was read whole. `opened`: it was
+-- opened, this is ahead of its reader, and this is its length in bytes. `stood`: it was opened, and stood at this place. `made`: it was
+-- made, or emptied, at none of these places, and held this then. `fresh`: no file of this name was there, and the one that was made held
+-- this. `emptied`: an output of this name was to be made and can't be used; it may be there, or may have been emptied, and took nothing.
 -- `flushed`: some file that was made had taken this, all of it has gone out, and the file took nothing after it. `closed`: some file
 -- that was made had taken this as it was closed, though it may not have gone out, and took nothing after it. `lacked`: the file
 -- of this name, which is told so, couldn't be used. `device`: the device of this name was opened to be read and written; it had this
@@ -23,8 +25,11 @@ use Rattle.norprog_common.specs.declared.files.ScriptFile.TheVariants.{Twice, He
 pub record FileFacts : Type 1 where
   pub may : List ℕ → Type 0
   pub may_ask : List ℕ → Type 0
+  pub irregular : List ℕ → Type 0
   pub said : List ℕ → List ℕ → Type 0
+  pub unsaid : List ℕ → Type 0
   pub gave : List ℕ → List ℕ → Type 0
+  pub starved : List ℕ → Type 0
   pub opened : List ℕ → Ahead → ℕ → Type 0
   pub stood : List ℕ → FileId → Type 0
   pub made : List ℕ → List FileId → Option (List ℕ) → Type 0
@@ -44,8 +49,11 @@ abbrev pub nothing_known : FileFacts
 nothing_known = record {
   may = λ name. ⊤;
   may_ask = λ name. ⊤;
+  irregular = λ name. ⊤;
   said = λ name words. ⊤;
+  unsaid = λ name. ⊤;
   gave = λ name bytes. ⊤;
+  starved = λ name. ⊤;
   opened = λ name ahead len. ⊤;
   stood = λ name place. ⊤;
   made = λ name places held. ⊤;

@@ -1,5 +1,5 @@
 -- What a command line's answer is: what it asks for was done, or a refusal is told (this project's).
-use Rattle.std.specs.Prelude.{◌≡◌, ◌⊎◌, ⊤, ℕ, Bool, true, false, Option, List}
+use Rattle.std.specs.Prelude.{◌≡◌, ◌⊎◌, ⊤, ℕ, Bool, true, false, Option, List, [], ◌∷◌}
 use Rattle.std.specs.Io.KnownBytes.{Appends}
 use Rattle.nor_job.specs.declared.fault.BuildFault.{BuildFault}
 use Rattle.nor_job.specs.declared.fault.BuildFault.TheVariants.{Memory, Write}
@@ -41,10 +41,22 @@ TellsBroken Broke other = ⊤
 abbrev pub OrScript : (FileName → Type 0) → Type 0 → FileName → Type 0
 OrScript Lacked Failed name = Lacked name ⊎ ((name ≡ Script) × Failed)
 
--- such a refusal ends with this status, and where the writer works its text was written
+-- these bytes are some of a text's, in their order
+unfoldable pub ArePartOf : List ℕ → List ℕ → Type 0
+ArePartOf part [] = part ≡ []
+ArePartOf part (byte ∷ text) = ArePartOf part text ⊎ ((rest : List ℕ) × (part ≡ byte ∷ rest) × ArePartOf rest text)
+
+-- a text was written where the writer works; else some of its bytes were, in their order
+pub record Tells (Works : Type 0) (before after : Option (List ℕ)) (text : List ℕ) : Type 0 where
+  pub whole : Works → Appends before after text
+  pub part : List ℕ
+  pub some : ArePartOf part text
+  pub out : Appends before after part
+
+-- such a refusal ends with this status, and its text was written, or some of its bytes where the writer failed
 abbrev pub TellsOf : (Refusal → Type 0) → Type 0 → Option (List ℕ) → Option (List ℕ) → ℕ → Type 0
 TellsOf Why Works before after status =
-    (why : Refusal) × Why why × (status ≡ status_after why) × (Works → Appends before after (printed why))
+    (why : Refusal) × Why why × (status ≡ status_after why) × Tells Works before after (printed why)
 
 -- usage where texts ask for nothing, else a refusal of the work that they ask for
 abbrev pub OrUsage : Bool → (Refusal → Type 0) → Refusal → Type 0

@@ -1,11 +1,11 @@
 //! Why a command isn't done, what is printed of it, and the status that it ends with.
 
 ghost use Rattle.std.specs.Prelude.{◌≡◌, ◌<◌, ◌-◌, ◌^◌, IfOk, IfErr};
-ghost use Rattle.std.specs.Io.KnownBytes.{Appends};
 ghost use Rattle.nor_base.specs.Device.{Writes, Counts};
 ghost use Rattle.norprog_common.specs.Lines.{spelled, hex_text, layout_text, sfdp_text, plan_text};
 ghost use Rattle.norprog_common.specs.Lines.{script_text, fault_text, file_text, script_refusal};
 ghost use Rattle.norprog_common.specs.Lines.{program_line, printed, status_after};
+ghost use Rattle.norprog_common.specs.Told.{Tells};
 ghost use Rattle.nor_job.specs.declared.fault.BuildFault.TheVariants.{Memory};
 ghost use Rattle.norprog_common.specs.declared.faults.Refusal.TheVariants.{Build};
 
@@ -113,8 +113,8 @@ impl From<ScriptFault> for Refusal {
 pub fn refuse<E: ByteOut>(refusal: &Refusal, err: &mut E) -> u8
     requires { E.count err.old < 2 ^ 64 - 1 }
     ensures status { result ≡ status_after refusal.now }
-    ensures told { E.count err.new ≡ E.count err.old
-        → Appends (E.held err.old) (E.held err.new) (printed refusal.now) }
+    ensures told { Tells (E.count err.new ≡ E.count err.old) (E.held err.old) (E.held err.new)
+        (printed refusal.now) }
 {
     let _ = write_refusal(refusal, err);
     exit_status(refusal)
@@ -126,8 +126,8 @@ pub fn answered<E: ByteOut>(work: Result<u8, Refusal>, err: &mut E) -> u8
     requires { E.count err.old < 2 ^ 64 - 1 }
     ensures done { IfOk work (λ status. (result ≡ status) × (err.new ≡ err.old)) }
     ensures told { IfErr work (λ why. (result ≡ status_after why)
-        × (E.count err.new ≡ E.count err.old → Appends (E.held err.old) (E.held err.new)
-        (printed why))) }
+        × Tells (E.count err.new ≡ E.count err.old) (E.held err.old) (E.held err.new)
+        (printed why)) }
 {
     match work {
         Ok(status) => status,

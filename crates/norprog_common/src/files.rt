@@ -2,7 +2,8 @@
 
 ghost use Rattle.std.specs.Prelude.{◌≡◌, ◌≤◌, ◌^◌, length, true};
 ghost use Rattle.std.specs.Prelude.{All, IfOk, IfErr, IfSome, MatchResult};
-ghost use Rattle.std.specs.Fs.{IsDir, file_type, metadata_len, metadata_mode};
+ghost use Rattle.std.specs.Fs.{IsDir, file_type, metadata_len, metadata_mode, new_options};
+ghost use Rattle.std.specs.Fs.{with_create_new, with_write};
 ghost use Rattle.norprog_common.specs.declared.faults.FileName.TheVariants.{Device, Script};
 ghost use Rattle.norprog_common.specs.Files.{RefusesFile, IsOfFiles, is_character_device};
 
@@ -196,14 +197,20 @@ pub(crate) fn create_fresh<R: Files>(rt: &R, path: &str, name: FileName) -> Resu
     ensures refused { IfErr result (RefusesFile name) }
     ensures files { IfErr result IsOfFiles }
 {
-    match OpenOptions::new()
-        .write(true)
-        .create_new(true)
-        .open(rt, path)
-    {
+    match fresh_options().open(rt, path) {
         Ok(file) => Ok(file),
         Err(error) => Err(refusal_of(&error, name)),
     }
+}
+
+/// How a file is opened that must not be there yet: one that is there is neither opened nor
+/// emptied.
+fn fresh_options() -> OpenOptions
+    ensures { result ≡ with_create_new (with_write new_options true) true }
+{
+    let mut options = OpenOptions::new();
+    options.write(true).create_new(true);
+    options
 }
 
 /// Opens a terminal to read from it, and returns which one it is.
@@ -243,13 +250,22 @@ pub(crate) fn open_device_writer<R: Files>(
     ensures files { IfErr result IsOfFiles }
 {
     only_terminal(rt, alloc, fs::metadata(rt, path))?;
-    let to = match OpenOptions::new().write(true).open(rt, path) {
+    let to = match device_options().open(rt, path) {
         Ok(file) => file,
         Err(error) => return Err(refusal_of(&error, FileName::Device)),
     };
     let same = only_terminal(rt, alloc, to.metadata())?;
     only_same(place, same, FileName::Device)?;
     Ok(to)
+}
+
+/// How a device is opened to write to it: none is made, and nothing is emptied.
+fn device_options() -> OpenOptions
+    ensures { result ≡ with_write new_options true }
+{
+    let mut options = OpenOptions::new();
+    options.write(true);
+    options
 }
 
 /// Whether a regular file of this name is there. None is opened.

@@ -1,10 +1,12 @@
 //! Files by name.
 
 ghost use Rattle.std.specs.Prelude.{◌≡◌, ◌<◌, ◌≤◌, ◌^◌, [], ◌∷◌, length, IfOk, IfErr};
-ghost use Rattle.std.specs.Prelude.{IfSome, List, MatchResult, Option, Some, string_bytes, ℕ};
-ghost use Rattle.std.specs.Bool.{OnTrue};
+ghost use Rattle.std.specs.Prelude.{List, MatchOption, MatchResult, Option, Some, string_bytes, ℕ};
+ghost use Rattle.std.specs.Bool.{OnFalse, OnTrue};
+ghost use Rattle.nor_job.specs.declared.fault.BuildFault.TheVariants.{Memory};
 ghost use Rattle.norprog_common.specs.Chip.{origin_of};
 ghost use Rattle.norprog_common.specs.declared.faults.FileName.TheVariants.{Device, Script, Sfdp};
+ghost use Rattle.norprog_common.specs.declared.faults.Refusal.TheVariants.{Build};
 ghost use Rattle.norprog_common.specs.Files.{RefusesFile, TellsFile};
 ghost use Rattle.norprog_common.specs.FileStore.{AreTables, FileFacts, IsOfScript, DoNotFail};
 ghost use Rattle.norprog_common.specs.FileStore.{LacksNamed, MayReadNamed, Notes};
@@ -68,7 +70,9 @@ pub trait FileStore {
         name: FileName,
     ) -> Result<(Vec<u8>, FileId), Refusal>
         requires { (facts self.now).may path.now }
-        ensures gave { IfOk result (λ read. (facts self.now).gave path.now read.0.items) }
+        ensures gave { MatchResult result
+            (λ read. (facts self.now).gave path.now read.0.items)
+            (λ why. why ≡ Build Memory → (facts self.now).starved path.now) }
         ensures stood { IfOk result (λ read. (facts self.now).stood path.now read.1) }
         ensures length { IfOk result (λ read. length read.0.items ≤ 2 ^ 36) }
         ensures refused { IfErr result (RefusesFile name) }
@@ -203,22 +207,15 @@ pub trait FileStore {
     /// opened.
     fn is_regular(&self, path: &str) -> bool
         requires { (facts self.now).may_ask path.now }
-        ensures { OnTrue result ((facts self.now).may path.now) }
-    {
-        let _ = path;
-        false
-    }
+        ensures regular { OnTrue result ((facts self.now).may path.now) }
+        ensures irregular { OnFalse result ((facts self.now).irregular path.now) };
 
     /// Why the system doesn't open a file to be read, in its words. Nothing but a regular file is
     /// opened for that, and none is changed. None where it opens it or memory runs out.
     fn trouble(&self, alloc: Global, path: &str) -> Option<String>
         requires { (facts self.now).may_ask path.now }
-        ensures { IfSome result (λ words. (facts self.now).said path.now (string_bytes words)) }
-    {
-        let _ = alloc;
-        let _ = path;
-        None
-    }
+        ensures { MatchOption result ((facts self.now).unsaid path.now)
+            (λ words. (facts self.now).said path.now (string_bytes words)) };
 }
 
 /// What the file of a chip's SFDP tables holds; nothing for a uniform chip, which has none.

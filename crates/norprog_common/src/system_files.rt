@@ -1,6 +1,7 @@
 //! The files of the system as a store.
 
-ghost use Rattle.std.specs.Prelude.{◌≡◌, ◌&&◌, is_ok, nat_eq};
+ghost use Rattle.std.specs.Io.Buffered.{writer_buffer};
+ghost use Rattle.std.specs.Prelude.{◌≡◌, ◌&&◌, [], is_ok, nat_eq, IfOk};
 ghost use Rattle.norprog_common.specs.FileStore.{DoNotFail, IsSameScript};
 
 use crate::faults::{FileName, Refusal};
@@ -159,7 +160,9 @@ impl<'a, R: Files> FileStore for SystemFiles<'a, R> {
 
 /// Has all go out that a file took, to the disk where it is a regular one. What has no disk, as a
 /// pipe, can't be synced.
-fn write_out<F: OpenFile + Write + Drop>(file: &mut BufWriter<F>) -> io::Result<()> {
+fn write_out<F: OpenFile + Write + Drop>(file: &mut BufWriter<F>) -> io::Result<()>
+    ensures { IfOk result (λ _. writer_buffer file.new ≡ []) }
+{
     file.flush()?;
     if file.get_ref().metadata()?.is_file() {
         file.get_ref().sync_all()

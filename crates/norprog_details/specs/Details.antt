@@ -1,12 +1,14 @@
 -- What is written after the line of a refusal (this project's; docs/FORMATS.md, section 9).
-use Rattle.std.specs.Prelude.{◌≡◌, ◌⊎◌, ℕ, Bool, true, false, nat_eq, if◌then◌else◌, List, [], ◌∷◌, ◌++◌, length, drop, map, codes, Option, Some, None, Result, IfSome}
-use Rattle.std.specs.Io.KnownBytes.{Appends}
+use Rattle.std.specs.Prelude.{◌≡◌, ◌⊎◌, ℕ, Bool, true, false, nat_eq, if◌then◌else◌, List, [], ◌∷◌, ◌++◌, length, drop, map, codes, Option, Some, None, Result}
 use Rattle.std.specs.List.{starts_with, Contains}
 use Rattle.std.specs.Str.{bytes_eq}
 use Rattle.nor_base.specs.Device.{Writes}
 use Rattle.nor_base.specs.Script.{closed}
 use Rattle.nor_base.specs.declared.device.Failed.{Failed}
 use Rattle.norprog_common.specs.FileStore.{FileFacts, Adds}
+use Rattle.norprog_common.specs.Told.{Tells}
+use Rattle.norprog_common.specs.declared.faults.FileName.{FileName}
+use Rattle.norprog_common.specs.declared.faults.FileName.TheVariants.{Hex, Layout, Script, Log}
 use Rattle.norprog_explain.specs.Explained.{topic_text}
 use Rattle.norprog_explain.specs.Topics.{topics}
 use Rattle.norprog_details.specs.declared.typed.CommandLine.{CommandLine}
@@ -55,6 +57,14 @@ read_options =
 abbrev pub text_options : List (List ℕ)
 text_options = codes "hex" ∷ codes "layout" ∷ codes "script" ∷ codes "log" ∷ []
 
+-- the file that one of them names, as a refusal tells it; another option names no text
+abbrev pub text_file : List ℕ → Option FileName
+text_file name =
+    if bytes_eq name (codes "hex") then Some Hex
+    else if bytes_eq name (codes "layout") then Some Layout
+    else if bytes_eq name (codes "script") then Some Script
+    else if bytes_eq name (codes "log") then Some Log else None
+
 -- the system may be asked about the file of an option, by its name and value, if the option is one of those
 abbrev pub MayAskOption : FileFacts → List ℕ × List ℕ → Type 0
 MayAskOption files option = is_one_of read_options option.0 ≡ true → files.may_ask option.1
@@ -77,17 +87,23 @@ abbrev pub OpensAbout : Option (List (List ℕ)) → Option (List (List ℕ)) �
 OpensAbout before after None = Adds before after []
 OpensAbout before after (Some option) = OpensOption before after option
 
--- nothing; or these are the system's words on why it doesn't open the file of an option
+-- these are the system's words on why it doesn't open the file of an option; nothing where it was asked and gave none. Of an option
+-- whose file it isn't asked about there is nothing
 abbrev pub IsTroubleOf : FileFacts → List ℕ × List ℕ → Option (List ℕ) → Type 0
-IsTroubleOf files option trouble = IfSome trouble (λ words. (is_one_of read_options option.0 ≡ true) × files.said option.1 words)
+IsTroubleOf files option None = is_one_of read_options option.0 ≡ true → files.unsaid option.1
+IsTroubleOf files option (Some words) = (is_one_of read_options option.0 ≡ true) × files.said option.1 words
 
--- the file of a text gave this, or isn't read again, and this is nothing; so it is of an option that names no text
-abbrev pub IsHeldIf : Bool → FileFacts → List ℕ → List ℕ → Type 0
-IsHeldIf true files value text = (text ≡ []) ⊎ files.gave value text
-IsHeldIf false files value text = text ≡ []
+-- why the file of a text isn't read: no regular file of its name was found, or it couldn't be used and is told so, or memory ran out
+abbrev pub IsUnread : FileFacts → FileName → List ℕ → Type 0
+IsUnread files told value = files.irregular value ⊎ (files.lacked value told ⊎ files.starved value)
+
+-- the file of a text gave this, or isn't read, and this is nothing; so it is of an option that names no text
+abbrev pub IsHeldOf : Option FileName → FileFacts → List ℕ → List ℕ → Type 0
+IsHeldOf None files value text = text ≡ []
+IsHeldOf (Some told) files value text = files.gave value text ⊎ ((text ≡ []) × IsUnread files told value)
 
 abbrev pub IsHeld : FileFacts → List ℕ × List ℕ → List ℕ → Type 0
-IsHeld files option text = IsHeldIf (is_one_of text_options option.0) files option.1 text
+IsHeld files option text = IsHeldOf (text_file option.0) files option.1 text
 
 -- what is said of the option that a refusal is about, by its name and value; without one, of a region that it counts
 abbrev pub IsSaidOf : FileFacts → CommandLine → List ℕ → Option (List ℕ × List ℕ) → List ℕ → Type 0
@@ -118,7 +134,7 @@ paragraph refusal = topic_text topics (words_after refusal)
 abbrev pub WritesSome : (List ℕ → Type 0) → Option (List ℕ) → Option (List ℕ) → Result (Unit {0}) Failed → Type 0
 WritesSome Is before after result = (text : List ℕ) × Is text × Writes before after result text
 
--- both were written, if the writer works
+-- both were written, or some of their bytes where the writer failed
 abbrev pub TellsDetails : FileFacts → CommandLine → List ℕ → Type 0 → Option (List ℕ) → Option (List ℕ) → Type 0
 TellsDetails files line refusal Works before after =
-    Works → (said : List ℕ) × AreFacts files line refusal said × Appends before after (said ++ paragraph refusal)
+    (said : List ℕ) × AreFacts files line refusal said × Tells Works before after (said ++ paragraph refusal)

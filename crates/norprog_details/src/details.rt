@@ -7,7 +7,8 @@ ghost use Rattle.norprog_details.specs.Passage.{passage_of};
 ghost use Rattle.norprog_details.specs.Details.{about_lines, option_line, region_line};
 ghost use Rattle.norprog_details.specs.Details.{passage_lines, text_lines, words_after};
 ghost use Rattle.norprog_details.specs.Details.{paragraph, WritesSome, AreFacts, TellsDetails};
-ghost use Rattle.norprog_details.specs.Details.{read_options, text_options, IsHeld, IsTroubleOf};
+ghost use Rattle.norprog_details.specs.Details.{read_options, text_file, text_options};
+ghost use Rattle.norprog_details.specs.Details.{IsHeld, IsTroubleOf};
 ghost use Rattle.norprog_details.specs.Details.{MayAskAbout, MayAskOption, OpensAbout, OpensOption};
 ghost use Rattle.norprog_details.specs.Form.{is_one_of};
 ghost use Rattle.norprog_details.specs.Subject.{option_of};
@@ -170,6 +171,7 @@ fn held_by<S: FileStore>(
 
 /// Which text the option of this name names, if it names one.
 fn text_of(name: &str) -> Option<FileName>
+    ensures told { result ≡ text_file name.now }
     ensures text { is_some result ≡ is_one_of text_options name.now }
     ensures file { IfSome result (λ _. is_one_of read_options name.now ≡ true) }
 {

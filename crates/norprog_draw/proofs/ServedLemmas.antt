@@ -14,7 +14,7 @@ use Rattle.norprog_common.specs.declared.faults.FileName.{FileName}
 use Rattle.norprog_common.specs.declared.faults.FileName.TheVariants as file
 use Rattle.norprog_common.specs.declared.faults.Refusal.{Refusal}
 use Rattle.norprog_common.specs.declared.faults.Refusal.TheVariants.{Text, Usage, File, Build, Page, Script, BinSize, Steps, EmptyRegion, Log}
-use Rattle.norprog_common.specs.Told.{OrUsage, Answers}
+use Rattle.norprog_common.specs.Told.{OrUsage, Answers, Tells}
 use Rattle.norprog_common.specs.Lines.{printed, status_after}
 use Rattle.norprog_common.proofs.ToldLemmas.{by_files, refuses_wider, or_usage}
 use Rattle.norprog_common.specs.declared.given.DrawArgs.{DrawArgs}
@@ -240,7 +240,7 @@ done_asked asks (Err why) formed zero = tt
 pub answer_is : (files : FileFacts) (names : List (List ℕ)) (out : Option (List ℕ)) (Made : List Change → Type 0) (asks : Bool) (Untaken Done Quiet Works : Type 0)
     (Work : Refusal → Type 0) (told_before told_after : Option (List ℕ)) (work : Result ℕ Refusal) (status : ℕ)
     → IfOk work (λ s. (s ≡ 0) × (asks ≡ true)) → MakesIf files names out Made work → IfOk work (λ _. Done) → IfErr work (OrUsage asks Work) → IfErr work (IsUnmade (Made []) Untaken)
-    → IfOk work (λ s. (status ≡ s) × Quiet) → IfErr work (λ why. (status ≡ status_after why) × (Works → Appends told_before told_after (printed why)))
+    → IfOk work (λ s. (status ≡ s) × Quiet) → IfErr work (λ why. (status ≡ status_after why) × Tells Works told_before told_after (printed why))
     → Answers asks ((status ≡ 0) × Done × MakesNamed files names out Made × Quiet) (MayMake files names out Made × (asks ≡ false → Made [])) (λ why. Work why × IsUnmade (Made []) Untaken why) Works
     told_before told_after status
 answer_is files names out Made asks Untaken Done Quiet Works Work told_before told_after (Ok s) status ends made is first unmade done told =

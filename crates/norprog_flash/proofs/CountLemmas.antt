@@ -35,11 +35,12 @@ abbrev Told : FileFacts → ℕ → ℕ → Unflashed → Type 0
 Told files m n why = (m ≤ n) × (n ≤ m + 1) × TellsFailed (Breaks files m n) why
 
 -- ---- a chip that wasn't read, or isn't fit for the work
-reading_told : (B : Type 0) (h i : Option (List ℕ)) (a b : Ahead) (ask : Ask) (stop : Unread) → StopsChip h i a b ask stop → TellsFailed B (of_reading stop)
-reading_told B h i a b ask (unread.Refused (Build fault.Write)) stops = absurd (no_write h i a b ask stops)
-reading_told B h i a b ask (unread.Refused other) stops = tt
-reading_told B h i a b ask (unread.Device why) stops = tt
-reading_told B h i a b ask (unread.Unlike why) stops = tt
+reading_told : (most : ℕ) (B : Type 0) (h i : Option (List ℕ)) (a b : Ahead) (ask : Ask) (stop : Unread) → StopsChip most h i a b ask stop
+    → TellsFailed B (of_reading stop)
+reading_told most B h i a b ask (unread.Refused (Build fault.Write)) stops = absurd (no_write most h i a b ask stops)
+reading_told most B h i a b ask (unread.Refused other) stops = tt
+reading_told most B h i a b ask (unread.Device why) stops = tt
+reading_told most B h i a b ask (unread.Unlike why) stops = tt
 
 unsuited_told : (B : Type 0) (job : Job) (r : Reading) (why : Unflashed) → IsUnsuited job r why → TellsFailed B why
 unsuited_told B job r (Refused (Build fault.Write)) is = absurd is
@@ -48,14 +49,15 @@ unsuited_told B job r (Device why) is = tt
 unsuited_told B job r (Unlike why) is = tt
 unsuited_told B job r (Closed bits) is = tt
 
-pub unread_told : (files : FileFacts) (n : ℕ) (h i : Option (List ℕ)) (a b : Ahead) (job : Job) (why : Unflashed) → StopsBefore h i a b job why
+pub unread_told : (most : ℕ) (files : FileFacts) (n : ℕ) (h i : Option (List ℕ)) (a b : Ahead) (job : Job) (why : Unflashed)
+    → StopsBefore most h i a b job why
     → Told files n n why
-unread_told files n h i a b job why (inl reading) = (
+unread_told most files n h i a b job why (inl reading) = (
   omega arith,
   omega arith,
-  subst (TellsFailed (Breaks files n n)) (sym reading.is) (reading_told (Breaks files n n) h i a b job.ask reading.stop reading.stops),
+  subst (TellsFailed (Breaks files n n)) (sym reading.is) (reading_told most (Breaks files n n) h i a b job.ask reading.stop reading.stops),
 )
-unread_told files n h i a b job why (inr unsuited) =
+unread_told most files n h i a b job why (inr unsuited) =
     (omega arith, omega arith, unsuited_told (Breaks files n n) job unsuited.reading why unsuited.unsuited)
 
 -- ---- its work wasn't planned or printed

@@ -25,8 +25,8 @@ use Rattle.norprog_read.specs.declared.asked.Reading.{Reading}
 
 module _ (close : Closes) (break : Breaks) (files : FileFacts) (job : Job) (limits : Limits) (h0 h1 : Option (List ℕ)) (a0 a1 : Ahead)
     (r : Reading) (goal : List ℕ) (steps : List Step) (o0 o1 : Option (List ℕ)) (whole : job.ask.content ≡ true) (wet : job.dry ≡ false)
-    (planned : HasPlanned files job h0 h1 a0 a1 r goal steps o0 o1) (Shown : List Step → ℕ → Type 0) where
-  abbrev todo : IsToDo files job h0 h1 a0 a1 o0 o1
+    (planned : HasPlanned limits.asked files job h0 h1 a0 a1 r goal steps o0 o1) (Shown : List Step → ℕ → Type 0) where
+  abbrev todo : IsToDo limits.asked files job h0 h1 a0 a1 o0 o1
   todo = record { reading = r; goal = goal; steps = steps; wet = wet; planned = planned }
 
   -- a failure of another cause than that a step is no operation
@@ -51,7 +51,8 @@ module _ (close : Closes) (break : Breaks) (files : FileFacts) (job : Job) (limi
     by = by;
     way = way;
     worked = out.1;
-    every = every_flashes files job h0 h1 a0 a1 r goal steps o0 o1 planned whole close out.1.held out.1.ahead limits job.ask.turns out.1.done;
+    every = every_flashes limits.asked files job h0 h1 a0 a1 r goal steps o0 o1 planned whole close out.1.held out.1.ahead limits job.ask.turns
+        out.1.done;
     shown = shown;
   }
   worked_ends h2 a2 by (Failed step why) way carried (inl failed) shown =
@@ -62,7 +63,8 @@ module _ (close : Closes) (break : Breaks) (files : FileFacts) (job : Job) (limi
         failed = failed;
         every = subst (λ (n : ℕ). BreaksApart planned.read.read.h3 planned.read.read.h4 planned.read.read.a3 planned.read.read.a4 h1 a1 r.meaning
             (start_of (flash_task job r.tables.items)) r.content.items goal steps n (failed.halted.at ∷ failed.halted.beyond)) (sym failed.at)
-            (every_keeps files job h0 h1 a0 a1 r goal steps o0 o1 planned whole break h2 a2 limits job.ask.turns failed.halt failed.halted);
+            (every_keeps limits.asked files job h0 h1 a0 a1 r goal steps o0 o1 planned whole break h2 a2 limits job.ask.turns failed.halt
+            failed.halted);
         shown = shown;
       }))
   worked_ends h2 a2 by (Failed step why) way carried (inr missed) shown =
@@ -73,7 +75,8 @@ module _ (close : Closes) (break : Breaks) (files : FileFacts) (job : Job) (limi
         by = by;
         way = way;
         missed = missed;
-        every = every_flashes files job h0 h1 a0 a1 r goal steps o0 o1 planned whole close missed.worked.held missed.worked.ahead limits job.ask.turns
+        every = every_flashes limits.asked files job h0 h1 a0 a1 r goal steps o0 o1 planned whole close missed.worked.held missed.worked.ahead limits
+            job.ask.turns
             missed.worked.done;
         shown = shown;
       }))

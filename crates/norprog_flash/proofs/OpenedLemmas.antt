@@ -70,7 +70,7 @@ stopped_by B C wider files Made job h i j k a b c d o p limits (Err why) pins gr
 
 pub stopped_after : {T : Type 0} (files : FileFacts) (Made : List Change → Type 0) (job : Job) (h i j : Option (List ℕ)) (a b c : Ahead)
     (o p : Option (List ℕ)) (limits : Limits) (r : Result T Unflashed) → TestsLine h i a b (Ok tt) limits
-    → IfErr r (StopsBegun files Made i j b c job o p) → IfErr r (StopsTested files Made h j a c limits job o p)
+    → IfErr r (StopsBegun limits.asked files Made i j b c job o p) → IfErr r (StopsTested files Made h j a c limits job o p)
 stopped_after files Made job h i j a b c o p limits (Ok ending) tested begun = tt
 stopped_after files Made job h i j a b c o p limits (Err why) tested begun =
     inr (record { held = i; ahead = b; tested = tested; begun = begun })
@@ -117,9 +117,10 @@ flashed_on files device job first h held ahead o p Shown a b c d (Err why) reads
 -- ---- after other changes
 module _ (B C : Type 0) (later : B → C) (files : FileFacts) (Made Other : List Change → Type 0) (wider : (xs : List Change) → Made xs → Other xs)
     (job : Job) (o p : Option (List ℕ)) (why : Unflashed) where
-  work_wider : (h i : Option (List ℕ)) (a b : Ahead) → StopsWork files Made h i a b job o p why → StopsWork files Other h i a b job o p why
-  work_wider h i a b (inl (same, inl before)) = inl (same, inl (wider [] before.0, before.1))
-  work_wider h i a b (inl (same, inr late)) = inl (
+  work_wider : (most : ℕ) (h i : Option (List ℕ)) (a b : Ahead) → StopsWork most files Made h i a b job o p why
+      → StopsWork most files Other h i a b job o p why
+  work_wider most h i a b (inl (same, inl before)) = inl (same, inl (wider [] before.0, before.1))
+  work_wider most h i a b (inl (same, inr late)) = inl (
     same,
     inr (record {
       reading = late.reading;
@@ -129,7 +130,7 @@ module _ (B C : Type 0) (later : B → C) (files : FileFacts) (Made Other : List
       unsaved = unsaved_by files Made Other wider job.before.now file.Before late.reading.content.items late.refusal late.unsaved;
     }),
   )
-  work_wider h i a b (inr late) = inr (record {
+  work_wider most h i a b (inr late) = inr (record {
     reading = late.reading;
     read = late.read;
     saved = late.saved;
@@ -147,7 +148,7 @@ module _ (B C : Type 0) (later : B → C) (files : FileFacts) (Made Other : List
     ahead = after.ahead;
     tested = after.tested;
     begun = record {
-      stop = work_wider after.held i after.ahead b after.begun.stop;
+      stop = work_wider limits.asked after.held i after.ahead b after.begun.stop;
       harmless = after.begun.harmless;
     };
   })

@@ -25,13 +25,13 @@ meaning_same : (r : Result Parameters SfdpFault) (m n : Parameters) → r ≡ Ok
 meaning_same r m n p q = cc
 
 -- a content that was wanted came twice
-given_twice : (h i : Option (List ℕ)) (a b : Ahead) (m : Parameters) (start : Start) (wanted : Bool) (content : List ℕ) → wanted ≡ true
-    → GivesContent h i a b m start wanted content → ReadTwice h i a b m (record start { quad = false }) content
-given_twice h i a b m start true content is given = given.known false
-given_twice h i a b m start false content is given = absurd cc
+given_twice : (most : ℕ) (h i : Option (List ℕ)) (a b : Ahead) (m : Parameters) (start : Start) (wanted : Bool) (content : List ℕ) → wanted ≡ true
+    → GivesContent most h i a b m start wanted content → ReadTwice h i a b m (record start { quad = false }) content
+given_twice most h i a b m start true content is given = given.known false
+given_twice most h i a b m start false content is given = absurd cc
 
-module _ (files : FileFacts) (job : Job) (h0 h1 : Option (List ℕ)) (a0 a1 : Ahead) (r : Reading) (goal : List ℕ) (steps : List Step)
-    (o0 o1 : Option (List ℕ)) (planned : HasPlanned files job h0 h1 a0 a1 r goal steps o0 o1) where
+module _ (most : ℕ) (files : FileFacts) (job : Job) (h0 h1 : Option (List ℕ)) (a0 a1 : Ahead) (r : Reading) (goal : List ℕ) (steps : List Step)
+    (o0 o1 : Option (List ℕ)) (planned : HasPlanned most files job h0 h1 a0 a1 r goal steps o0 o1) where
   -- the work is that of the meaning that was read
   chip : planned.plan.work.m ≡ r.meaning
   chip = meaning_same _ planned.plan.work.m r.meaning planned.plan.work.accepted.means planned.read.read.means.means
@@ -50,7 +50,7 @@ module _ (files : FileFacts) (job : Job) (h0 h1 : Option (List ℕ)) (a0 a1 : Ah
   module _ (whole : job.ask.content ≡ true) where
     twice : ReadTwice planned.read.read.h3 planned.read.read.h4 planned.read.read.a3 planned.read.read.a4 r.meaning
         (start_of (flash_task job r.tables.items)) r.content.items
-    twice = given_twice _ _ _ _ _ _ job.ask.content r.content.items whole planned.read.read.content
+    twice = given_twice most _ _ _ _ _ _ job.ask.content r.content.items whole planned.read.read.content
 
     pub every_flashes : Closes → (h2 : Option (List ℕ)) (a2 : Ahead) (limits : Limits) (turns : ℕ) → HasDoneAll h1 h2 a1 a2 limits turns steps
         → ClosesApart planned.read.read.h3 planned.read.read.h4 planned.read.read.a3 planned.read.read.a4 h1 h2 a1 a2 r.meaning

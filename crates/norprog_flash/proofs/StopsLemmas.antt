@@ -27,35 +27,37 @@ use Rattle.norprog_read.specs.Chip.{HasReadChip}
 use Rattle.norprog_read.specs.Saved.{IsSaved, IsUnsaved}
 use Rattle.norprog_work.specs.Refused.{RefusesWork}
 
-pub closed : (h i : Option (List ℕ)) (a b : Ahead) (job : Job) (r : Reading) → HasReadChip h i a b job.ask r → (start : Start) (fits : Bool)
-    → start ≡ start_at job r.status → fits ≡ suits job.ask.part start r.status → fits ≡ false → StopsBefore h i a b job (Closed r.status)
-closed h i a b job r read start fits begins is unfit = inr (record {
+pub closed : (most : ℕ) (h i : Option (List ℕ)) (a b : Ahead) (job : Job) (r : Reading) → HasReadChip most h i a b job.ask r
+    → (start : Start) (fits : Bool) → start ≡ start_at job r.status → fits ≡ suits job.ask.part start r.status → fits ≡ false
+    → StopsBefore most h i a b job (Closed r.status)
+closed most h i a b job r read start fits begins is unfit = inr (record {
   reading = r;
   read = read;
   unsuited = (refl, ap (λ (s : Start). suits job.ask.part s r.status) (sym begins) ∙ (sym is ∙ unfit));
 })
 
-pub wayless : (h i : Option (List ℕ)) (a b : Ahead) (job : Job) (r : Reading) → HasReadChip h i a b job.ask r → (start : Start)
-    → start ≡ start_of (flash_task job r.tables.items) → false ≡ has_way r.meaning start → StopsBefore h i a b job (Unlike Unreadable)
-wayless h i a b job r read start begins wants = inr (record {
+pub wayless : (most : ℕ) (h i : Option (List ℕ)) (a b : Ahead) (job : Job) (r : Reading) → HasReadChip most h i a b job.ask r → (start : Start)
+    → start ≡ start_of (flash_task job r.tables.items) → false ≡ has_way r.meaning start → StopsBefore most h i a b job (Unlike Unreadable)
+wayless most h i a b job r read start begins wants = inr (record {
   reading = r;
   read = read;
   unsuited = ap (λ (s : Start). has_way r.meaning s) (sym begins) ∙ sym wants;
 })
 
-pub unfilled : (h i : Option (List ℕ)) (a b : Ahead) (job : Job) (r : Reading) → HasReadChip h i a b job.ask r → (why : Refusal)
-    → RefusesEmpty job.strict (flash_task job r.tables.items) (length r.content.items) why → StopsBefore h i a b job (Refused why)
-unfilled h i a b job r read why empty = inr (record { reading = r; read = read; unsuited = empty })
+pub unfilled : (most : ℕ) (h i : Option (List ℕ)) (a b : Ahead) (job : Job) (r : Reading) → HasReadChip most h i a b job.ask r → (why : Refusal)
+    → RefusesEmpty job.strict (flash_task job r.tables.items) (length r.content.items) why → StopsBefore most h i a b job (Refused why)
+unfilled most h i a b job r read why empty = inr (record { reading = r; read = read; unsuited = empty })
 
-pub unread : (files : FileFacts) (before : Option (List Change)) (h i : Option (List ℕ)) (a b : Ahead) (job : Job) (o : Option (List ℕ))
-    (why : Unflashed) → StopsBefore h i a b job why → SendsHarmless h i → StopsBegun files (Adds before before) h i a b job o o why
-unread files before h i a b job o why stops harmless =
+pub unread : (most : ℕ) (files : FileFacts) (before : Option (List Change)) (h i : Option (List ℕ)) (a b : Ahead) (job : Job) (o : Option (List ℕ))
+    (why : Unflashed) → StopsBefore most h i a b job why → SendsHarmless h i → StopsBegun most files (Adds before before) h i a b job o o why
+unread most files before h i a b job o why stops harmless =
     record { stop = inl (refl, inl (adds_none before before refl, stops)); harmless = harmless }
 
-pub unsaved : (files : FileFacts) (Made : List Change → Type 0) (h i : Option (List ℕ)) (a b : Ahead) (job : Job) (o : Option (List ℕ)) (r : Reading)
-    → HasRead job h i a b r → HasSentHarmless h i → (content : List ℕ) → content ≡ r.content.items → (why : Refusal)
-    → IsUnsaved files job.before.now file.Before content Made why → StopsBegun files Made h i a b job o o (Refused why)
-unsaved files Made h i a b job o r read sent content same why fails = record {
+pub unsaved : (most : ℕ) (files : FileFacts) (Made : List Change → Type 0) (h i : Option (List ℕ)) (a b : Ahead) (job : Job)
+    (o : Option (List ℕ)) (r : Reading)
+    → HasRead most job h i a b r → HasSentHarmless h i → (content : List ℕ) → content ≡ r.content.items → (why : Refusal)
+    → IsUnsaved files job.before.now file.Before content Made why → StopsBegun most files Made h i a b job o o (Refused why)
+unsaved most files Made h i a b job o r read sent content same why fails = record {
   stop = inl (
     refl,
     inr (record {
@@ -69,10 +71,11 @@ unsaved files Made h i a b job o r read sent content same why fails = record {
   harmless = whole_sent h i sent;
 }
 
-pub unplanned : (files : FileFacts) (Made : List Change → Type 0) (h i : Option (List ℕ)) (a b : Ahead) (job : Job) (o p : Option (List ℕ)) (r : Reading)
-    → HasRead job h i a b r → HasSentHarmless h i → (content : List ℕ) → content ≡ r.content.items → IsSaved files job.before.now content
-    → Made (Created job.before.now ∷ []) → (why : Refusal) → CantPlan job r o p why → StopsBegun files Made h i a b job o p (Refused why)
-unplanned files Made h i a b job o p r read sent content same saved made why cause = record {
+pub unplanned : (most : ℕ) (files : FileFacts) (Made : List Change → Type 0) (h i : Option (List ℕ)) (a b : Ahead) (job : Job)
+    (o p : Option (List ℕ)) (r : Reading)
+    → HasRead most job h i a b r → HasSentHarmless h i → (content : List ℕ) → content ≡ r.content.items → IsSaved files job.before.now content
+    → Made (Created job.before.now ∷ []) → (why : Refusal) → CantPlan job r o p why → StopsBegun most files Made h i a b job o p (Refused why)
+unplanned most files Made h i a b job o p r read sent content same saved made why cause = record {
   stop = inr (record {
     reading = r;
     read = read;

@@ -12,7 +12,7 @@ use Rattle.norprog_common.specs.FileStore.{FileFacts, Change, Created, Lacks, Op
 use Rattle.norprog_common.specs.Files.{TellsFile}
 use Rattle.norprog_common.specs.Lines.{printed, status_after}
 use Rattle.norprog_common.specs.Setup.{family_asked}
-use Rattle.norprog_common.specs.Told.{OrUsage}
+use Rattle.norprog_common.specs.Told.{OrUsage, Tells}
 use Rattle.norprog_common.specs.Values.{part_of}
 use Rattle.norprog_common.specs.declared.faults.Refusal.{Refusal}
 use Rattle.norprog_common.specs.declared.faults.Refusal.TheVariants.{Build}
@@ -90,9 +90,9 @@ family_of given = unwrap_or (part_of (family_asked given.chip)) Generic
 abbrev pub state_told : Ending → FlashArgs → List ℕ
 state_told ending given = if is_partial ending then state_line given else []
 
--- where the chip may hold a part of the work that was written, if the writer works; else nothing was
+-- where the chip may hold a part of the work that was written, or some of its bytes where the writer failed; else nothing was
 abbrev pub TellsState : Bool → FlashArgs → Type 0 → Type 0 → Option (List ℕ) → Option (List ℕ) → Type 0
-TellsState true given Quiet Works before after = Works → Appends before after (state_line given)
+TellsState true given Quiet Works before after = Tells Works before after (state_line given)
 TellsState false given Quiet Works before after = Quiet
 
 -- the line of an ending was printed, whose status it is; the chip's state was written first
@@ -108,7 +108,7 @@ pub record CutsLine (ending : Ending) (given : FlashArgs) (Broke : Type 0) (befo
   pub one : status ≡ 1
   pub cut : Cuts before after (ending_line ending)
   pub broke : Broke
-  pub told : Works → Appends told_before told_after (state_told ending given ++ printed (Build Write))
+  pub told : Tells Works told_before told_after (state_told ending given ++ printed (Build Write))
 
 -- what is written of an ending
 abbrev pub ReportsEnding : Ending → FlashArgs → Type 0 → Option (List ℕ) → Option (List ℕ) → Type 0 → Type 0 → Option (List ℕ) → Option (List ℕ)
@@ -121,9 +121,9 @@ ReportsEnding ending given Broke before after Quiet Works told_before told_after
 -- chip said or gave, with status 1
 abbrev pub ReportsUnflashed : Unflashed → Part → Type 0 → Option (List ℕ) → Option (List ℕ) → Type 0 → Type 0 → Option (List ℕ) → Option (List ℕ) → ℕ → Type 0
 ReportsUnflashed (Refused why) family Broke before after Quiet Works told_before told_after status =
-    (status ≡ status_after why) × (after ≡ before) × (Works → Appends told_before told_after (printed why))
+    (status ≡ status_after why) × (after ≡ before) × Tells Works told_before told_after (printed why)
 ReportsUnflashed (Device why) family Broke before after Quiet Works told_before told_after status =
-    (status ≡ 1) × (after ≡ before) × (Works → Appends told_before told_after (device_line why))
+    (status ≡ 1) × (after ≡ before) × Tells Works told_before told_after (device_line why)
 ReportsUnflashed (Unlike why) family Broke before after Quiet Works told_before told_after status =
     Reports (unlike_line why) 1 Broke before after Quiet Works told_before told_after status
 ReportsUnflashed (Closed bits) family Broke before after Quiet Works told_before told_after status =

@@ -27,9 +27,11 @@ start_at job status = record { mode4 = job.ask.mode4; quad = is_set status 9 }
 abbrev pub IsSureOfMode : Parameters → Start → Type 0
 IsSureOfMode m start = start.mode4 ≡ true → has_both m.width ≡ true → m.read4 ≡ true
 
--- the chip was read, and its status shows that it can take work; where the job is strict its image gives each chosen region a byte
-pub record HasRead (job : Job) (held_before held_after : Option (List ℕ)) (ahead_before ahead_after : Ahead) (r : Reading) : Type 0 where
-  pub read : HasReadChip held_before held_after ahead_before ahead_after job.ask r
+-- the chip was read, by reads of no more than so many bytes, and its status shows that it can take work; where the job is strict its image
+-- gives each chosen region a byte
+pub record HasRead (most : ℕ) (job : Job) (held_before held_after : Option (List ℕ)) (ahead_before ahead_after : Ahead) (r : Reading)
+    : Type 0 where
+  pub read : HasReadChip most held_before held_after ahead_before ahead_after job.ask r
   pub suited : suits job.ask.part (start_at job r.status) r.status ≡ true
   pub sure : IsSureOfMode r.meaning (start_of (flash_task job r.tables.items))
   pub filled : job.strict ≡ true → HasNoneEmpty (flash_task job r.tables.items) (length r.content.items)
@@ -41,15 +43,15 @@ pub record PrintsPlan (job : Job) (r : Reading) (goal : List ℕ) (steps : List 
   pub way : Appends middle out_after (way_text job.dry steps job.texts.now)
 
 -- it was read, and nothing else was sent; what it holds is saved; and the work from that to the target was planned and printed
-pub record HasPlanned (files : FileFacts) (job : Job) (held_before held_after : Option (List ℕ)) (ahead_before ahead_after : Ahead)
-    (r : Reading) (goal : List ℕ) (steps : List Step) (out_before out_after : Option (List ℕ)) : Type 0 where
-  pub read : HasRead job held_before held_after ahead_before ahead_after r
+pub record HasPlanned (most : ℕ) (files : FileFacts) (job : Job) (held_before held_after : Option (List ℕ))
+    (ahead_before ahead_after : Ahead) (r : Reading) (goal : List ℕ) (steps : List Step) (out_before out_after : Option (List ℕ)) : Type 0 where
+  pub read : HasRead most job held_before held_after ahead_before ahead_after r
   pub saved : IsSaved files job.before.now r.content.items
   pub plan : PrintsPlan job r goal steps out_before out_after
 
 -- so, whatever went over the wire and was printed meanwhile
-abbrev pub IsPlannedOn : FileFacts → Job → Reading → List ℕ → List Step → Type 0
-IsPlannedOn files job r goal steps =
+abbrev pub IsPlannedOn : ℕ → FileFacts → Job → Reading → List ℕ → List Step → Type 0
+IsPlannedOn most files job r goal steps =
     (held_before : Option (List ℕ)) × (held_after : Option (List ℕ)) × (ahead_before : Ahead) × (ahead_after : Ahead)
     × (out_before : Option (List ℕ)) × (out_after : Option (List ℕ))
-    × HasPlanned files job held_before held_after ahead_before ahead_after r goal steps out_before out_after
+    × HasPlanned most files job held_before held_after ahead_before ahead_after r goal steps out_before out_after

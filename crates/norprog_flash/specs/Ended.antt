@@ -21,18 +21,18 @@ use Rattle.norprog_flash.specs.Worked.{HasFailedAt, HasMissed, HasWorked}
 use Rattle.norprog_read.specs.declared.asked.Reading.{Reading}
 
 -- a chip was read, saved and planned for, and the plan is to be carried out, from these bytes of the wire on
-pub record IsToDo (files : FileFacts) (job : Job) (held_before held : Option (List ℕ)) (ahead_before ahead : Ahead)
+pub record IsToDo (most : ℕ) (files : FileFacts) (job : Job) (held_before held : Option (List ℕ)) (ahead_before ahead : Ahead)
     (out_before out_after : Option (List ℕ)) : Type 0 where
   pub reading : Reading
   pub goal : List ℕ
   pub steps : List Step
   pub wet : job.dry ≡ false
-  pub planned : HasPlanned files job held_before held ahead_before ahead reading goal steps out_before out_after
+  pub planned : HasPlanned most files job held_before held ahead_before ahead reading goal steps out_before out_after
 
 -- what went over the wire as the content was read, and then in the work, is explained only by chips that end with the target of what
 -- they held, and by some chip
-abbrev pub EveryChipFlashes : {files : FileFacts} {job : Job} {held_before held : Option (List ℕ)} {ahead_before ahead : Ahead}
-    {out_before out_after : Option (List ℕ)} → IsToDo files job held_before held ahead_before ahead out_before out_after
+abbrev pub EveryChipFlashes : {most : ℕ} {files : FileFacts} {job : Job} {held_before held : Option (List ℕ)} {ahead_before ahead : Ahead}
+    {out_before out_after : Option (List ℕ)} → IsToDo most files job held_before held ahead_before ahead out_before out_after
     → Option (List ℕ) → Ahead → Type 0
 EveryChipFlashes {job = job} {held = held} {ahead = ahead} todo held_after ahead_after =
     let t = flash_task job todo.reading.tables.items in
@@ -43,33 +43,33 @@ EveryChipFlashes {job = job} {held = held} {ahead = ahead} todo held_after ahead
 
 -- or, as far as the work came to a step, which begins a row, only by chips that held what was read, of which at most one unit of the work
 -- is in the making, also after they did some of the row
-abbrev pub EveryChipKeeps : {files : FileFacts} {job : Job} {held_before held : Option (List ℕ)} {ahead_before ahead : Ahead}
-    {out_before out_after : Option (List ℕ)} → IsToDo files job held_before held ahead_before ahead out_before out_after → ℕ → List Step
-    → Type 0
+abbrev pub EveryChipKeeps : {most : ℕ} {files : FileFacts} {job : Job} {held_before held : Option (List ℕ)} {ahead_before ahead : Ahead}
+    {out_before out_after : Option (List ℕ)} → IsToDo most files job held_before held ahead_before ahead out_before out_after → ℕ
+    → List Step → Type 0
 EveryChipKeeps {job = job} {held = held} {ahead = ahead} todo at row =
     let read = todo.planned.read.read in
     BreaksApart read.h3 read.h4 read.a3 read.a4 held ahead todo.reading.meaning (start_of (flash_task job todo.reading.tables.items))
     todo.reading.content.items todo.goal todo.steps at row
 
--- all was done: each step, and then the chip gave just what it must hold
+-- all was done: each step, and then the chip gave just what it must hold, by reads of no more bytes than the device gives at once
 pub record HasFlashed (files : FileFacts) (job : Job) (limits : Limits) (held_before held_after : Option (List ℕ))
     (ahead_before ahead_after : Ahead) (out_before out_after : Option (List ℕ)) (Shown : List Step → ℕ → Type 0) (transactions : ℕ)
     : Type 0 where
   pub held : Option (List ℕ)
   pub ahead : Ahead
-  pub todo : IsToDo files job held_before held ahead_before ahead out_before out_after
+  pub todo : IsToDo limits.asked files job held_before held ahead_before ahead out_before out_after
   pub count : transactions ≡ length todo.steps
   pub by : ReadBy
   pub way : GivesBy todo.reading.meaning (start_of (flash_task job todo.reading.tables.items)) by
   pub worked : HasWorked held held_after ahead ahead_after limits job.ask.turns by todo.steps todo.goal
-      (λ h i a b. ReadsWhole h i a b (Ok tt) by todo.goal)
+      (λ h i a b. ReadsWhole limits.asked h i a b (Ok tt) by todo.goal)
   pub every : EveryChipFlashes todo worked.held worked.ahead
   pub shown : Shown todo.steps transactions
 
 -- a step can't be done by this device: nothing was sent after the chip was read
 pub record CantFlash (files : FileFacts) (job : Job) (limits : Limits) (held_before held_after : Option (List ℕ))
     (ahead_before ahead_after : Ahead) (out_before out_after : Option (List ℕ)) (Shown : List Step → ℕ → Type 0) (step : ℕ) : Type 0 where
-  pub todo : IsToDo files job held_before held_after ahead_before ahead_after out_before out_after
+  pub todo : IsToDo limits.asked files job held_before held_after ahead_before ahead_after out_before out_after
   pub first : IsFirstNotCarried limits todo.steps step
   pub shown : Shown todo.steps 0
 
@@ -79,7 +79,7 @@ pub record HasHaltedFlash (files : FileFacts) (job : Job) (limits : Limits) (hel
     : Type 0 where
   pub held : Option (List ℕ)
   pub ahead : Ahead
-  pub todo : IsToDo files job held_before held ahead_before ahead out_before out_after
+  pub todo : IsToDo limits.asked files job held_before held ahead_before ahead out_before out_after
   pub failed : HasFailedAt held held_after ahead ahead_after limits job.ask.turns todo.reading.meaning todo.steps step why
   pub every : EveryChipKeeps todo step (failed.halted.at ∷ failed.halted.beyond)
   pub shown : Shown todo.steps step
@@ -90,7 +90,7 @@ pub record HasMissedFlash (files : FileFacts) (job : Job) (limits : Limits) (hel
     : Type 0 where
   pub held : Option (List ℕ)
   pub ahead : Ahead
-  pub todo : IsToDo files job held_before held ahead_before ahead out_before out_after
+  pub todo : IsToDo limits.asked files job held_before held ahead_before ahead out_before out_after
   pub by : ReadBy
   pub way : GivesBy todo.reading.meaning (start_of (flash_task job todo.reading.tables.items)) by
   pub missed : HasMissed held held_after ahead ahead_after limits job.ask.turns by todo.steps todo.goal step why
@@ -103,7 +103,7 @@ abbrev pub EndsFlash : FileFacts → Job → Limits → Option (List ℕ) → Op
     → (List Step → ℕ → Type 0) → Ending → Type 0
 EndsFlash files job limits held_before held_after ahead_before ahead_after out_before out_after Shown Planned =
     (job.dry ≡ true) × ((reading : Reading) × (goal : List ℕ) × (steps : List Step)
-    × HasPlanned files job held_before held_after ahead_before ahead_after reading goal steps out_before out_after × Shown steps 0)
+    × HasPlanned limits.asked files job held_before held_after ahead_before ahead_after reading goal steps out_before out_after × Shown steps 0)
 EndsFlash files job limits held_before held_after ahead_before ahead_after out_before out_after Shown (Done transactions) =
     HasFlashed files job limits held_before held_after ahead_before ahead_after out_before out_after Shown transactions
 EndsFlash files job limits held_before held_after ahead_before ahead_after out_before out_after Shown (Failed step Carried) =

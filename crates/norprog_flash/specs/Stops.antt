@@ -59,10 +59,11 @@ of_reading (unread.Refused why) = Refused why
 of_reading (unread.Device why) = Device why
 of_reading (unread.Unlike why) = Unlike why
 
--- the reading of the chip stopped so
-pub record StopsReading (held_before held_after : Option (List ℕ)) (ahead_before ahead_after : Ahead) (ask : Ask) (why : Unflashed) : Type 0 where
+-- the reading of the chip, by reads of no more than so many bytes, stopped so
+pub record StopsReading (most : ℕ) (held_before held_after : Option (List ℕ)) (ahead_before ahead_after : Ahead) (ask : Ask)
+    (why : Unflashed) : Type 0 where
   pub stop : Unread
-  pub stops : StopsChip held_before held_after ahead_before ahead_after ask stop
+  pub stops : StopsChip most held_before held_after ahead_before ahead_after ask stop
   pub is : why ≡ of_reading stop
 
 -- a chip that begins so can be read whole, and a reading shows in which address mode it is
@@ -77,22 +78,23 @@ IsUnsuited job r (Refused why) = RefusesEmpty job.strict (flash_task job r.table
 IsUnsuited job r other = ⊥
 
 -- it was read, and that is so
-pub record StopsUnsuited (held_before held_after : Option (List ℕ)) (ahead_before ahead_after : Ahead) (job : Job) (why : Unflashed) : Type 0 where
+pub record StopsUnsuited (most : ℕ) (held_before held_after : Option (List ℕ)) (ahead_before ahead_after : Ahead) (job : Job)
+    (why : Unflashed) : Type 0 where
   pub reading : Reading
-  pub read : HasReadChip held_before held_after ahead_before ahead_after job.ask reading
+  pub read : HasReadChip most held_before held_after ahead_before ahead_after job.ask reading
   pub unsuited : IsUnsuited job reading why
 
 -- it wasn't read, or that
-abbrev pub StopsBefore : Option (List ℕ) → Option (List ℕ) → Ahead → Ahead → Job → Unflashed → Type 0
-StopsBefore held_before held_after ahead_before ahead_after job why =
-    StopsReading held_before held_after ahead_before ahead_after job.ask why
-    ⊎ StopsUnsuited held_before held_after ahead_before ahead_after job why
+abbrev pub StopsBefore : ℕ → Option (List ℕ) → Option (List ℕ) → Ahead → Ahead → Job → Unflashed → Type 0
+StopsBefore most held_before held_after ahead_before ahead_after job why =
+    StopsReading most held_before held_after ahead_before ahead_after job.ask why
+    ⊎ StopsUnsuited most held_before held_after ahead_before ahead_after job why
 
 -- it was read, and what it holds couldn't be saved in its file
-pub record StopsUnsaved (files : FileFacts) (Made : List Change → Type 0) (held_before held_after : Option (List ℕ)) (ahead_before ahead_after : Ahead)
-    (job : Job) (why : Unflashed) : Type 0 where
+pub record StopsUnsaved (most : ℕ) (files : FileFacts) (Made : List Change → Type 0) (held_before held_after : Option (List ℕ))
+    (ahead_before ahead_after : Ahead) (job : Job) (why : Unflashed) : Type 0 where
   pub reading : Reading
-  pub read : HasRead job held_before held_after ahead_before ahead_after reading
+  pub read : HasRead most job held_before held_after ahead_before ahead_after reading
   pub refusal : Refusal
   pub is : why ≡ Refused refusal
   pub unsaved : IsUnsaved files job.before.now file.Before reading.content.items Made refusal
@@ -114,10 +116,10 @@ CantPlan job r out_before out_after why =
     ⊎ ((why ≡ Build Write) × LacksWay job r out_before out_after))
 
 -- it was read and saved, and its work couldn't be planned or printed
-pub record StopsUnplanned (files : FileFacts) (Made : List Change → Type 0) (held_before held_after : Option (List ℕ))
+pub record StopsUnplanned (most : ℕ) (files : FileFacts) (Made : List Change → Type 0) (held_before held_after : Option (List ℕ))
     (ahead_before ahead_after : Ahead) (job : Job) (out_before out_after : Option (List ℕ)) (why : Unflashed) : Type 0 where
   pub reading : Reading
-  pub read : HasRead job held_before held_after ahead_before ahead_after reading
+  pub read : HasRead most job held_before held_after ahead_before ahead_after reading
   pub saved : IsSaved files job.before.now reading.content.items
   pub made : Made (Created job.before.now ∷ [])
   pub refusal : Refusal
@@ -125,17 +127,17 @@ pub record StopsUnplanned (files : FileFacts) (Made : List Change → Type 0) (h
   pub cause : CantPlan job reading out_before out_after refusal
 
 -- one of these; nothing was made except that file, and nothing printed except of a plan
-abbrev pub StopsWork : FileFacts → (List Change → Type 0) → Option (List ℕ) → Option (List ℕ) → Ahead → Ahead → Job → Option (List ℕ) → Option (List ℕ)
-    → Unflashed → Type 0
-StopsWork files Made held_before held_after ahead_before ahead_after job out_before out_after why =
-    ((out_after ≡ out_before) × ((Made [] × StopsBefore held_before held_after ahead_before ahead_after job why)
-    ⊎ StopsUnsaved files Made held_before held_after ahead_before ahead_after job why))
-    ⊎ StopsUnplanned files Made held_before held_after ahead_before ahead_after job out_before out_after why
+abbrev pub StopsWork : ℕ → FileFacts → (List Change → Type 0) → Option (List ℕ) → Option (List ℕ) → Ahead → Ahead → Job → Option (List ℕ)
+    → Option (List ℕ) → Unflashed → Type 0
+StopsWork most files Made held_before held_after ahead_before ahead_after job out_before out_after why =
+    ((out_after ≡ out_before) × ((Made [] × StopsBefore most held_before held_after ahead_before ahead_after job why)
+    ⊎ StopsUnsaved most files Made held_before held_after ahead_before ahead_after job why))
+    ⊎ StopsUnplanned most files Made held_before held_after ahead_before ahead_after job out_before out_after why
 
 -- and then only operations were asked for that change nothing
-pub record StopsBegun (files : FileFacts) (Made : List Change → Type 0) (held_before held_after : Option (List ℕ)) (ahead_before ahead_after : Ahead)
-    (job : Job) (out_before out_after : Option (List ℕ)) (why : Unflashed) : Type 0 where
-  pub stop : StopsWork files Made held_before held_after ahead_before ahead_after job out_before out_after why
+pub record StopsBegun (most : ℕ) (files : FileFacts) (Made : List Change → Type 0) (held_before held_after : Option (List ℕ))
+    (ahead_before ahead_after : Ahead) (job : Job) (out_before out_after : Option (List ℕ)) (why : Unflashed) : Type 0 where
+  pub stop : StopsWork most files Made held_before held_after ahead_before ahead_after job out_before out_after why
   pub harmless : SendsHarmless held_before held_after
 
 -- the line was tested, and then that
@@ -144,7 +146,7 @@ pub record StopsAfter (files : FileFacts) (Made : List Change → Type 0) (held_
   pub held : Option (List ℕ)
   pub ahead : Ahead
   pub tested : TestsLine held_before held ahead_before ahead (Ok tt) limits
-  pub begun : StopsBegun files Made held held_after ahead ahead_after job out_before out_after why
+  pub begun : StopsBegun limits.asked files Made held held_after ahead ahead_after job out_before out_after why
 
 -- the test of the line stopped, or so
 abbrev pub StopsTested : FileFacts → (List Change → Type 0) → Option (List ℕ) → Option (List ℕ) → Ahead → Ahead → Limits → Job → Option (List ℕ)

@@ -45,12 +45,12 @@ pub record HasFailedAt (held_before held_after : Option (List ℕ)) (ahead_befor
   pub at : step ≡ halt.step
   pub failed : IsFailureAt m steps halt why
 
--- all steps were done, and the chip didn't give what it must hold
+-- all steps were done, and the chip didn't give what it must hold, by reads of no more bytes than the device gives at once
 pub record HasMissed (held_before held_after : Option (List ℕ)) (ahead_before ahead_after : Ahead) (limits : Limits) (turns : ℕ) (by : ReadBy)
     (steps : List Step) (goal : List ℕ) (step : ℕ) (why : Failure) : Type 0 where
   pub mismatch : Mismatch
   pub worked : HasWorked held_before held_after ahead_before ahead_after limits turns by steps goal
-      (λ h i a b. ReadsWhole h i a b (Err mismatch) by goal)
+      (λ h i a b. ReadsWhole limits.asked h i a b (Err mismatch) by goal)
   pub at : step ≡ length steps
   pub failed : why ≡ failure_by mismatch
 
@@ -59,7 +59,8 @@ abbrev pub WorksOut : Option (List ℕ) → Option (List ℕ) → Ahead → Ahea
 WorksOut held_before held_after ahead_before ahead_after limits turns m by steps goal Planned = ⊥
 WorksOut held_before held_after ahead_before ahead_after limits turns m by steps goal (Done transactions) =
     (transactions ≡ length steps)
-    × HasWorked held_before held_after ahead_before ahead_after limits turns by steps goal (λ h i a b. ReadsWhole h i a b (Ok tt) by goal)
+    × HasWorked held_before held_after ahead_before ahead_after limits turns by steps goal
+    (λ h i a b. ReadsWhole limits.asked h i a b (Ok tt) by goal)
 WorksOut held_before held_after ahead_before ahead_after limits turns m by steps goal (Failed step why) =
     HasFailedAt held_before held_after ahead_before ahead_after limits turns m steps step why
     ⊎ HasMissed held_before held_after ahead_before ahead_after limits turns by steps goal step why

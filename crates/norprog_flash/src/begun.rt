@@ -56,8 +56,8 @@ pub(crate) fn begin<S: FileStore, R: ByteIn, W: ByteOut, O: ByteOut>(
     requires room { HaveRoom (R.count from.old) (W.count to.old) }
     requires out { O.count out.old < 2 ^ 64 - 1 }
     ensures planned { IfOk result
-        (λ begun. HasPlanned (S.facts store.now) job.now (W.held to.old) (W.held to.new)
-        (R.ahead from.old)
+        (λ begun. HasPlanned limits.now.asked (S.facts store.now) job.now (W.held to.old)
+        (W.held to.new) (R.ahead from.old)
         (R.ahead from.new) begun.reading begun.work.goal.items begun.work.steps.items
         (O.held out.old) (O.held out.new)
         × GivesBy begun.reading.meaning (start_of (flash_task job.now begun.reading.tables.items))
@@ -65,7 +65,7 @@ pub(crate) fn begin<S: FileStore, R: ByteIn, W: ByteOut, O: ByteOut>(
         × Adds (S.Journal.changes journal.old) (S.Journal.changes journal.new)
         (Created job.now.before.now ∷ [])) }
     ensures stops { IfErr result
-        (StopsBegun (S.facts store.now)
+        (StopsBegun limits.now.asked (S.facts store.now)
         (Adds (S.Journal.changes journal.old) (S.Journal.changes journal.new)) (W.held to.old)
         (W.held to.new) (R.ahead from.old) (R.ahead from.new) job.now (O.held out.old)
         (O.held out.new)) }
@@ -156,14 +156,14 @@ fn read_suited<R: ByteIn, W: ByteOut>(
 ) -> Result<(Reading, ReadBy), Unflashed>
     requires room { HaveRoom (R.count from.old) (W.count to.old) }
     ensures read { IfOk result
-        (λ read. HasRead job.now (W.held to.old) (W.held to.new) (R.ahead from.old)
-        (R.ahead from.new) read.0) }
+        (λ read. HasRead limits.now.asked job.now (W.held to.old) (W.held to.new)
+        (R.ahead from.old) (R.ahead from.new) read.0) }
     ensures way { IfOk result
         (λ read. GivesBy read.0.meaning (start_of (flash_task job.now read.0.tables.items))
         read.1) }
     ensures stops { IfErr result
-        (StopsBefore (W.held to.old) (W.held to.new) (R.ahead from.old) (R.ahead from.new)
-        job.now) }
+        (StopsBefore limits.now.asked (W.held to.old) (W.held to.new) (R.ahead from.old)
+        (R.ahead from.new) job.now) }
     ensures harmless { MatchResult result (λ _. HasSentHarmless (W.held to.old) (W.held to.new))
         (λ _. SendsHarmless (W.held to.old) (W.held to.new)) }
     ensures counts { CountsBoth (R.count from.old) (R.count from.new) (W.count to.old)

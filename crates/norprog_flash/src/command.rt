@@ -2,13 +2,13 @@
 
 ghost use Rattle.std.specs.Prelude.{◌≡◌, ◌<◌, ◌≤◌, ◌-◌, ◌+◌, ◌^◌, [], ◌∷◌, true, option_map};
 ghost use Rattle.std.specs.Prelude.{IfOk, IfErr};
-ghost use Rattle.std.specs.Io.KnownBytes.{Appends};
 ghost use Rattle.nor_job.specs.declared.fault.BuildFault.{BuildFault};
 ghost use Rattle.nor_job.specs.declared.fault.BuildFault.TheVariants.{Write};
 ghost use Rattle.norprog_common.specs.declared.faults.Refusal.TheVariants.{Build};
 ghost use Rattle.norprog_common.specs.FileStore.{Adds, Breaks, Created, MayRead, Opened};
 ghost use Rattle.norprog_common.specs.FileStore.{OpensAt, OpensIf};
 ghost use Rattle.norprog_common.specs.Lines.{printed};
+ghost use Rattle.norprog_common.specs.Told.{Tells};
 ghost use Rattle.norprog_flash.specs.Answer.{AnswersFlash, IsEndingOf, IsUnbegunFor, IsUnbegunOn};
 ghost use Rattle.norprog_flash.specs.Answer.{ReportsUnflashed, family_of};
 ghost use Rattle.norprog_flash.specs.Early.{file_tables, is_known, IsSoundEarly, RefusesEarly};
@@ -31,10 +31,9 @@ use norprog_read::{Ask, Known, ask_of, write_unlike};
 use norprog_work::look;
 use std::alloc::Global;
 
-/// Does what the texts of a command line of `flash` ask for. Its lines go to `out`; a refusal, and
-/// how to go on with a chip that may hold a part of the work, to `err`; how far it is to `progress`
-/// (docs/FORMATS.md, section 14). The device is closed at last. Returns 0 where all was done, 1
-/// where not, 2 for usage.
+/// Does what the texts of a command line of `flash` ask for (docs/FORMATS.md, section 14). Its
+/// lines go to `out`; a refusal, and how to go on with a chip that may hold a part of the work, to
+/// `err`; how far it is to `progress`. Returns 0 where all was done, 1 where not, 2 for usage.
 pub fn flash<S: FileStore, O: ByteOut, E: ByteOut, P: ByteOut>(
     alloc: Global,
     store: &S,
@@ -103,8 +102,8 @@ fn end_line<E: ByteOut>(written: Result<(), Failed>, err: &mut E) -> u8
     requires err { E.count err.old < 2 ^ 64 - 1 }
     ensures status { result ≡ 1 }
     ensures quiet { IfOk written (λ _. err.new ≡ err.old) }
-    ensures told { IfErr written (λ _. E.count err.new ≡ E.count err.old
-        → Appends (E.held err.old) (E.held err.new) (printed (Build Write))) }
+    ensures told { IfErr written (λ _. Tells (E.count err.new ≡ E.count err.old)
+        (E.held err.old) (E.held err.new) (printed (Build Write))) }
 {
     match written {
         Ok(()) => 1,

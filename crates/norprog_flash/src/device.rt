@@ -54,7 +54,7 @@ pub fn flash_chip<S: FileStore, R: ByteIn, W: ByteOut, O: ByteOut, P: ByteOut>(
         (Showing (P.held progress.old) (P.held progress.new) (P.count progress.old)
         (P.count progress.new))) }
     ensures stops { IfErr result
-        (StopsBegun (S.facts store.now)
+        (StopsBegun limits.now.asked (S.facts store.now)
         (Adds (S.Journal.changes journal.old) (S.Journal.changes journal.new)) (W.held to.old)
         (W.held to.new) (R.ahead from.old) (R.ahead from.new) job.now (O.held out.old)
         (O.held out.new)) }
@@ -87,8 +87,8 @@ fn flash_planned<S: FileStore, R: ByteIn, W: ByteOut, P: ByteOut>(
     progress: &mut P,
 ) -> Ending
     requires wet { job.now.dry ≡ false }
-    requires planned { IsPlannedOn (S.facts store.now) job.now begun.now.reading
-        begun.now.work.goal.items begun.now.work.steps.items }
+    requires planned { IsPlannedOn limits.now.asked (S.facts store.now) job.now
+        begun.now.reading begun.now.work.goal.items begun.now.work.steps.items }
     requires way { GivesBy begun.now.reading.meaning
         (start_of (flash_task job.now begun.now.reading.tables.items)) begun.now.by }
     requires room { HaveRoom (R.count from.old) (W.count to.old)

@@ -4,7 +4,6 @@ use Rattle.std.specs.Prelude.{IsErrAnd}
 use Rattle.nor_base.specs.Device.{Ahead}
 use Rattle.nor_base.proofs.FaultLaws.{handed_on}
 use Rattle.nor_job.specs.declared.fault.BuildFault.TheVariants as fault
-use Rattle.std.specs.Io.KnownBytes.{Appends}
 use Rattle.norprog_common.specs.FileStore.{Change, FileFacts, HasGone, IsMadeApart, LacksEarly, MakesIf, MakesNamed, MayMake, MayRead, Named, TookNothing}
 use Rattle.norprog_common.specs.Lines.{printed, status_after}
 use Rattle.norprog_common.specs.Files.{TellsFile, RefusesFile}
@@ -14,7 +13,7 @@ use Rattle.norprog_common.specs.declared.faults.Refusal.{Refusal}
 use Rattle.norprog_common.specs.declared.faults.Refusal.TheVariants.{Usage, File, Build, BinSize}
 use Rattle.norprog_common.specs.Content.{CountsWriter, of_writer}
 use Rattle.norprog_common.specs.Reading.{HasFailed}
-use Rattle.norprog_common.specs.Told.{Answers, ForAsked, OrUsage, TellsBroken}
+use Rattle.norprog_common.specs.Told.{Answers, ForAsked, OrUsage, Tells, TellsBroken}
 use Rattle.norprog_common.proofs.LackedLemmas.{early_same, may_same}
 use Rattle.norprog_common.proofs.ToldLemmas.{asked_wider, or_usage}
 use Rattle.norprog_common.specs.declared.given.HexArgs.{HexArgs}
@@ -231,7 +230,7 @@ pub answer_is : (files : FileFacts) (names : List (List ℕ)) (out : Option (Lis
     (Work : Refusal → Type 0) (told_before told_after : Option (List ℕ)) (work : Result ℕ Refusal) (status : ℕ)
     → IfOk work (λ s. (s ≡ 0) × (asks ≡ true)) → MakesIf files names out Made work → IfOk work (λ _. Done) → IfErr work (OrUsage asks Work)
     → IfErr work (IsUnmade (Made []) Untaken) → IfOk work (λ s. (status ≡ s) × Quiet)
-    → IfErr work (λ why. (status ≡ status_after why) × (Works → Appends told_before told_after (printed why)))
+    → IfErr work (λ why. (status ≡ status_after why) × Tells Works told_before told_after (printed why))
     → Answers asks ((status ≡ 0) × Done × MakesNamed files names out Made × Quiet) (MayMake files names out Made × (asks ≡ false → Made [])) (λ why. Work why × IsUnmade (Made []) Untaken why) Works
     told_before told_after status
 answer_is files names out Made asks Untaken Done Quiet Works Work told_before told_after (Ok s) status ends made is first unmade done told =

@@ -43,29 +43,30 @@ marked_since P size old new marked cells k inside = (
 )
 
 -- where the same addresses were to be compared
-pub compares_alike : (trusted : Bool) (access : Access) (V W : ℕ → Type 0) (before after : Moment) → ((k : ℕ) → k < length before.shown.chip.array → (V k ↔ W k))
-    → Compares trusted access V before after → Compares trusted access W before after
-compares_alike true access V W before after alike compared = compared
-compares_alike false access V W before after alike compared = record {
+pub compares_alike : (limits : Limits) (trusted : Bool) (access : Access) (V W : ℕ → Type 0) (before after : Moment) → ((k : ℕ) → k < length before.shown.chip.array → (V k ↔ W k))
+    → Compares limits trusted access V before after → Compares limits trusted access W before after
+compares_alike limits true access V W before after alike compared = compared
+compares_alike limits false access V W before after alike compared = record {
   shown = compared.shown;
-  compared = wanted_alike before.held after.held before.ahead after.ahead access before.shown.chip.array V W (length before.shown.chip.array) alike compared.compared;
+  compared = wanted_alike before.held after.held before.ahead after.ahead limits access before.shown.chip.array V W (length before.shown.chip.array) alike compared.compared;
 }
 
-pub unlike_alike : (access : Access) (V W : ℕ → Type 0) (before after : Moment) (why : Mismatch) → ((k : ℕ) → k < length before.shown.chip.array → (V k ↔ W k))
-    → IsUnlike access V before after why → IsUnlike access W before after why
-unlike_alike access V W before after why alike unlike =
+pub unlike_alike : (limits : Limits) (access : Access) (V W : ℕ → Type 0) (before after : Moment) (why : Mismatch) → ((k : ℕ) → k < length before.shown.chip.array → (V k ↔ W k))
+    → IsUnlike limits access V before after why → IsUnlike limits access W before after why
+unlike_alike limits access V W before after why alike unlike =
     let stop = unlike.stopped in
     record {
       shown = unlike.shown;
       stopped = record {
         last = stop.last;
         some = stop.some;
+        few = stop.few;
         within = stop.within;
         sided = stop.sided;
         wanted = λ k h. (alike k (omega (arith, h.1, stop.within))).0 (stop.wanted k h);
         held = stop.held;
         ahead = stop.ahead;
-        before = wanted_alike before.held stop.held before.ahead stop.ahead access before.shown.chip.array V W stop.last.start
+        before = wanted_alike before.held stop.held before.ahead stop.ahead limits access before.shown.chip.array V W stop.last.start
             (λ k below. alike k (omega (arith, below, stop.within))) stop.before;
         stop = stop.stop;
       };
@@ -82,26 +83,29 @@ since : (content : List ℕ) (old new : List Bool) (reached : Moment) → Marked
 since content old new reached marked is cells = marked_since (ShowsWrap reached.shown.chip.array) (length reached.shown.chip.array) old new
     (subst (λ (l : List ℕ). MarkedBy (ShowsWrap l) old new) is marked) cells
 
-pub compares_since : (trusted : Bool) (access : Access) (content : List ℕ) (old new : List Bool) (reached after : Moment) → MarkedBy (ShowsWrap content) old new
-    → content ≡ reached.shown.chip.array → length reached.shown.chip.array ≡ 256 * length old → Compares trusted access (IsMarked new) reached after
-    → Compares trusted access (MarkedSince old reached.shown.chip.array) reached after
-compares_since trusted access content old new reached after marked is cells =
-    compares_alike trusted access (IsMarked new) (MarkedSince old reached.shown.chip.array) reached after (since content old new reached marked is cells)
+-- by a port of the same limits
+pub compares_since : (limits later : Limits) (trusted : Bool) (access : Access) (content : List ℕ) (old new : List Bool) (reached after : Moment) → later ≡ limits
+    → MarkedBy (ShowsWrap content) old new → content ≡ reached.shown.chip.array → length reached.shown.chip.array ≡ 256 * length old
+    → Compares later trusted access (IsMarked new) reached after → Compares limits trusted access (MarkedSince old reached.shown.chip.array) reached after
+compares_since limits later trusted access content old new reached after same marked is cells compared =
+    compares_alike limits trusted access (IsMarked new) (MarkedSince old reached.shown.chip.array) reached after (since content old new reached marked is cells)
+    (subst (λ (l : Limits). Compares l trusted access (IsMarked new) reached after) same compared)
 
-pub unlike_since : (access : Access) (content : List ℕ) (old new : List Bool) (reached after : Moment) (why : Mismatch) → MarkedBy (ShowsWrap content) old new
-    → content ≡ reached.shown.chip.array → length reached.shown.chip.array ≡ 256 * length old → IsUnlike access (IsMarked new) reached after why
-    → IsUnlike access (MarkedSince old reached.shown.chip.array) reached after why
-unlike_since access content old new reached after why marked is cells =
-    unlike_alike access (IsMarked new) (MarkedSince old reached.shown.chip.array) reached after why (since content old new reached marked is cells)
+pub unlike_since : (limits later : Limits) (access : Access) (content : List ℕ) (old new : List Bool) (reached after : Moment) (why : Mismatch) → later ≡ limits
+    → MarkedBy (ShowsWrap content) old new → content ≡ reached.shown.chip.array → length reached.shown.chip.array ≡ 256 * length old
+    → IsUnlike later access (IsMarked new) reached after why → IsUnlike limits access (MarkedSince old reached.shown.chip.array) reached after why
+unlike_since limits later access content old new reached after why same marked is cells unlike =
+    unlike_alike limits access (IsMarked new) (MarkedSince old reached.shown.chip.array) reached after why (since content old new reached marked is cells)
+    (subst (λ (l : Limits). IsUnlike l access (IsMarked new) reached after why) same unlike)
 
 -- a chip of whole cells
 pub as_cells : (P : ℕ → Type 0) (marks : List Bool) (long size : ℕ) → AreMarks P (size / 256) marks → long ≡ size → size % 4096 ≡ 0 → long ≡ 256 * length marks
 as_cells P marks long size are same whole = omega (arith, are.as_many, same, whole)
 
 -- a comparison leaves the chip in memory as it was
-pub compares_keep : (trusted : Bool) (access : Access) (Wanted : ℕ → Type 0) (before after : Moment) → Compares trusted access Wanted before after → after.shown ≡ before.shown
-compares_keep true access Wanted before after same = ap (λ (m : Moment). m.shown) same
-compares_keep false access Wanted before after like = like.shown
+pub compares_keep : (limits : Limits) (trusted : Bool) (access : Access) (Wanted : ℕ → Type 0) (before after : Moment) → Compares limits trusted access Wanted before after → after.shown ≡ before.shown
+compares_keep limits true access Wanted before after same = ap (λ (m : Moment). m.shown) same
+compares_keep limits false access Wanted before after like = like.shown
 
 -- what was asked before it too
 identified_keep : (x : Expectation) (limits : Limits) (turns : ℕ) (before after : Moment) → IsIdentified x limits turns before after → after.shown ≡ before.shown
@@ -152,7 +156,7 @@ module _ (limits : Limits) (turns : ℕ) (x : Expectation) (m : Parameters) (acc
   begins_alike false after known = record {
     between = known.between;
     identified = known.identified;
-    like = compares_alike false access V W known.between after (alike_then known.between (size_known known.between known.identified)) known.like;
+    like = compares_alike limits false access V W known.between after (alike_then known.between (size_known known.between known.identified)) known.like;
   }
 
   unknown_alike : (why : Unlikeness) (after : Moment) → IsUnknown x limits turns access V before after why → IsUnknown x limits turns access W before after why
@@ -161,7 +165,7 @@ module _ (limits : Limits) (turns : ℕ) (x : Expectation) (m : Parameters) (acc
   unknown_alike (unlike.Status status) after is = is
   unknown_alike (unlike.Registers status) after is = is
   unknown_alike (unlike.Tables why) after is = is
-  unknown_alike (unlike.Content why) after is = (is.0, is.1, unlike_alike access V W is.0 after why (alike_then is.0 (size_known is.0 is.1)) is.2)
+  unknown_alike (unlike.Content why) after is = (is.0, is.1, unlike_alike limits access V W is.0 after why (alike_then is.0 (size_known is.0 is.1)) is.2)
 
   done_alike : (after : Moment) → HasDoneAll limits turns x access V before steps after → HasDoneAll limits turns x access W before steps after
   done_alike after done = record { between = done.between; begins = begins_alike x.trusted done.between done.begins; does = done.does }
@@ -188,7 +192,7 @@ module _ (limits : Limits) (turns : ℕ) (x : Expectation) (m : Parameters) (acc
     ends = stop.ends;
     wary = stop.wary;
     why = stop.why;
-    unlike = unlike_alike access (Again stop.reached.shown.chip.array) (More stop.reached.shown.chip.array) stop.reached after stop.why
+    unlike = unlike_alike limits access (Again stop.reached.shown.chip.array) (More stop.reached.shown.chip.array) stop.reached after stop.why
         (again_then stop.reached (size_after stop.reached stop.done)) stop.unlike;
     failure = stop.failure;
   }
@@ -206,7 +210,7 @@ module _ (limits : Limits) (turns : ℕ) (x : Expectation) (m : Parameters) (acc
     counted = is.counted;
     reached = is.reached;
     done = done_alike is.reached is.done;
-    back = compares_alike x.trusted access (Again is.reached.shown.chip.array) (More is.reached.shown.chip.array) is.reached after
+    back = compares_alike limits x.trusted access (Again is.reached.shown.chip.array) (More is.reached.shown.chip.array) is.reached after
         (again_then is.reached (size_after is.reached is.done)) is.back;
     says = is.says;
   }

@@ -1,6 +1,5 @@
 -- What is told of a play on a device (this project's).
 use Rattle.std.specs.Prelude.{◌≡◌, ◌⊎◌, ⊤, ℕ, true, List, [], Option}
-use Rattle.std.specs.Io.KnownBytes.{Appends}
 use Rattle.nor_base.specs.declared.step.Step.{Step}
 use Rattle.nor_base.specs.Device.{Ahead}
 use Rattle.nor_base.specs.Parameters.{Parameters}
@@ -15,7 +14,7 @@ use Rattle.norprog_common.specs.declared.faults.Refusal.{Refusal}
 use Rattle.norprog_common.specs.declared.faults.Refusal.TheVariants.{File, Build}
 use Rattle.norprog_common.specs.declared.given.PlayArgs.{PlayArgs}
 use Rattle.norprog_common.specs.FileStore.{FileFacts, Change, Lacks}
-use Rattle.norprog_common.specs.Told.{ForAsked, RefusesFor, OrUsage, TellsOf}
+use Rattle.norprog_common.specs.Told.{ForAsked, RefusesFor, OrUsage, Tells, TellsOf}
 use Rattle.norprog_play.specs.declared.ending.Ending.{Ending}
 use Rattle.norprog_play.specs.declared.unplayed.Unplayed.{Unplayed}
 use Rattle.norprog_play.specs.declared.unplayed.Unplayed.TheVariants.{Refused, Device}
@@ -102,7 +101,7 @@ pub record TellsGreeting (files : FileFacts) (Made : List Change → Type 0) (As
   pub is : IsHalt files Made Asked (Device why)
   pub one : status ≡ 1
   pub unprinted : after ≡ before
-  pub told : Works → Appends told_before told_after (device_line why)
+  pub told : Tells Works told_before told_after (device_line why)
 
 -- what `play` answers to the texts of a command line, where `Made` says which changes it made, `Failed` that a reader of the store that
 -- had this ahead has failed, and `Broke` that an output failed: an ending, with the progress of the steps that were done; or the

@@ -40,7 +40,7 @@ pub record IsIdentified (x : Expectation) (limits : Limits) (turns : ℕ) (befor
 pub record IsKnownChip (x : Expectation) (limits : Limits) (turns : ℕ) (access : Access) (Wanted : ℕ → Type 0) (before after : Moment) : Type 0 where
   pub between : Moment
   pub identified : IsIdentified x limits turns before between
-  pub like : IsLike access Wanted between after
+  pub like : IsLike limits access Wanted between after
 
 -- what comes before the steps: nothing where the chip is trusted
 abbrev pub BeginsWith : Bool → Expectation → Limits → ℕ → Access → (ℕ → Type 0) → Moment → Moment → Type 0
@@ -65,5 +65,5 @@ StopsAsking x limits turns before after (unlike.Content why) = ⊥
 -- why it isn't known to be the chip that is expected
 abbrev pub IsUnknown : Expectation → Limits → ℕ → Access → (ℕ → Type 0) → Moment → Moment → Unlike → Type 0
 IsUnknown x limits turns access Wanted before after (unlike.Content why) =
-    (between : Moment) × IsIdentified x limits turns before between × IsUnlike access Wanted between after why
+    (between : Moment) × IsIdentified x limits turns before between × IsUnlike limits access Wanted between after why
 IsUnknown x limits turns access Wanted before after other = StopsAsking x limits turns before after other

@@ -6,6 +6,7 @@ use Rattle.nor_probe.specs.declared.difference.Difference.{Difference}
 use Rattle.nor_probe.specs.declared.difference.Mismatch.{Mismatch}
 use Rattle.nor_probe.specs.declared.difference.Mismatch.TheVariants.{Exchange, Differs}
 use Rattle.nor_serprog.specs.declared.fault.Fault.{Fault}
+use Rattle.nor_serprog.specs.declared.limits.Limits.{Limits}
 use Rattle.nor_serprog.specs.Exchange.{Talked, Answers, Asks, IsOther}
 use Rattle.norprog_play.specs.declared.access.Access.{Access}
 use Rattle.norprog_play.specs.Access.{Operation, asked, given, reading, read_ops}
@@ -53,10 +54,10 @@ IsOneSidedPiece start len = (start + len ≤ 2 ^ 24) ⊎ (2 ^ 24 ≤ start)
 abbrev pub IsOneSided : Range → Type 0
 IsOneSided r = IsOneSidedPiece r.start r.len
 
--- none is empty or goes over 2^24, and they follow one another from one address on up to another
-abbrev pub AreInOrder : ℕ → ℕ → List Range → Type 0
-AreInOrder low high [] = low ≤ high
-AreInOrder low high (r ∷ rs) = (low ≤ r.start) × (0 < r.len) × IsOneSided r × AreInOrder (r.start + r.len) high rs
+-- none is empty, longer than so many addresses, or goes over 2^24, and they follow one another from one address on up to another
+abbrev pub AreInOrder : ℕ → ℕ → ℕ → List Range → Type 0
+AreInOrder most low high [] = low ≤ high
+AreInOrder most low high (r ∷ rs) = (low ≤ r.start) × (0 < r.len) × (r.len ≤ most) × IsOneSided r × AreInOrder most (r.start + r.len) high rs
 
 -- the bytes of a content in a range
 abbrev pub bytes_in : List ℕ → Range → List ℕ
@@ -71,18 +72,18 @@ abbrev pub HasRead : Option (List ℕ) → Option (List ℕ) → Ahead → Ahead
 HasRead held_before held_after ahead_before ahead_after access content ranges =
     HasOperated held_before held_after ahead_before ahead_after (flat_map (range_ops access content) ranges)
 
--- these ranges hold just the addresses below one that were to be compared
-pub record HasComparedTo (held_before held_after : Option (List ℕ)) (ahead_before ahead_after : Ahead) (access : Access) (content : List ℕ)
-    (Wanted : ℕ → Type 0) (high : ℕ) : Type 0 where
+-- these ranges hold just the addresses below one that were to be compared, each no more than the device gives at once
+pub record HasComparedTo (held_before held_after : Option (List ℕ)) (ahead_before ahead_after : Ahead) (limits : Limits) (access : Access)
+    (content : List ℕ) (Wanted : ℕ → Type 0) (high : ℕ) : Type 0 where
   pub ranges : List Range
-  pub in_order : AreInOrder 0 high ranges
+  pub in_order : AreInOrder limits.asked 0 high ranges
   pub just : (a : ℕ) → LiesInOne ranges a ↔ ((a < high) × Wanted a)
   pub read : HasRead held_before held_after ahead_before ahead_after access content ranges
 
 -- of the whole content
-abbrev pub HasCompared : Option (List ℕ) → Option (List ℕ) → Ahead → Ahead → Access → List ℕ → (ℕ → Type 0) → Type 0
-HasCompared held_before held_after ahead_before ahead_after access content Wanted =
-    HasComparedTo held_before held_after ahead_before ahead_after access content Wanted (length content)
+abbrev pub HasCompared : Option (List ℕ) → Option (List ℕ) → Ahead → Ahead → Limits → Access → List ℕ → (ℕ → Type 0) → Type 0
+HasCompared held_before held_after ahead_before ahead_after limits access content Wanted =
+    HasComparedTo held_before held_after ahead_before ahead_after limits access content Wanted (length content)
 
 -- bytes came in place of those wanted, and this is the first that is another; the wanted ones stand at an address
 pub record IsFirstOther (got want : List ℕ) (start : ℕ) (d : Difference) : Type 0 where
@@ -112,14 +113,15 @@ ReadsRange held_before held_after ahead_before ahead_after result access start w
     ReadsOps held_before held_after ahead_before ahead_after result (read_ops access start) start want
 
 -- those before this range were compared, and its own read ended so
-pub record StopsComparing (held_before held_after : Option (List ℕ)) (ahead_before ahead_after : Ahead) (access : Access) (content : List ℕ)
-    (Wanted : ℕ → Type 0) (why : Mismatch) : Type 0 where
+pub record StopsComparing (held_before held_after : Option (List ℕ)) (ahead_before ahead_after : Ahead) (limits : Limits) (access : Access)
+    (content : List ℕ) (Wanted : ℕ → Type 0) (why : Mismatch) : Type 0 where
   pub last : Range
   pub some : 0 < last.len
+  pub few : last.len ≤ limits.asked
   pub within : last.start + last.len ≤ length content
   pub sided : IsOneSided last
   pub wanted : (a : ℕ) → LiesIn last a → Wanted a
   pub held : Option (List ℕ)
   pub ahead : Ahead
-  pub before : HasComparedTo held_before held ahead_before ahead access content Wanted last.start
+  pub before : HasComparedTo held_before held ahead_before ahead limits access content Wanted last.start
   pub stop : ReadsRange held held_after ahead ahead_after (Err why) access last.start (bytes_in content last)

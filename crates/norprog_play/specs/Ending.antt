@@ -52,7 +52,7 @@ pub record IsDone (limits : Limits) (turns : ℕ) (x : Expectation) (access : Ac
   pub counted : transactions ≡ length (trail before.shown.setting before.shown.chip steps)
   pub reached : Moment
   pub done : HasDoneAll limits turns x access Wanted before steps reached
-  pub back : Compares x.trusted access (Again reached.shown.chip.array) reached after
+  pub back : Compares limits x.trusted access (Again reached.shown.chip.array) reached after
   pub says : SaysBlank x before.shown.chip.array blank
 
 -- they go well, this one is the first that is no operation of the device, and nothing was done
@@ -86,7 +86,7 @@ pub record IsUnlikeAfter (limits : Limits) (turns : ℕ) (x : Expectation) (acce
   pub ends : play before.shown.setting 1 before.shown.chip steps ≡ Ok reached.shown.chip
   pub wary : x.trusted ≡ false
   pub why : Mismatch
-  pub unlike : IsUnlike access (Again reached.shown.chip.array) reached after why
+  pub unlike : IsUnlike limits access (Again reached.shown.chip.array) reached after why
   pub failure : failed ≡ failure_by why
 
 -- how steps end that go well on the chip in memory, where these addresses are compared before them, and those after them, by the

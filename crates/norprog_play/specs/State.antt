@@ -6,6 +6,7 @@ use Rattle.nor_job.specs.declared.fault.BuildFault.TheVariants.{Write}
 use Rattle.norprog_failure.specs.declared.failure.Failure.{Failure}
 use Rattle.norprog_failure.specs.declared.failure.Failure.TheVariants.{Carried}
 use Rattle.norprog_common.specs.Lines.{program_line, printed}
+use Rattle.norprog_common.specs.Told.{Tells}
 use Rattle.norprog_common.specs.declared.faults.Refusal.TheVariants.{Build}
 use Rattle.norprog_play.specs.declared.ending.Ending.{Ending}
 use Rattle.norprog_play.specs.declared.ending.Ending.TheVariants.{Done, Wrong as GoesWrong, No, Unlike, Failed}
@@ -39,9 +40,9 @@ status_of (No step why) = 1
 status_of (Unlike why) = 1
 status_of (Failed step why) = 1
 
--- where the chip may hold a part of the work that was written, if the writer works; else nothing was
+-- where the chip may hold a part of the work that was written, or some of its bytes where the writer failed; else nothing was
 abbrev pub TellsState : Bool → Type 0 → Type 0 → Option (List ℕ) → Option (List ℕ) → Type 0
-TellsState true Quiet Works before after = Works → Appends before after state_line
+TellsState true Quiet Works before after = Tells Works before after state_line
 TellsState false Quiet Works before after = Quiet
 
 -- the line of an ending was printed, whose status it is; the chip's state was written first
@@ -58,7 +59,7 @@ pub record CutsLine (ending : Ending) (Broke : Type 0) (before after : Option (L
     pub one : status ≡ 1
     pub cut : Cuts before after (ending_line ending)
     pub broke : Broke
-    pub told : Works → Appends told_before told_after (state_told ending ++ printed (Build Write))
+    pub told : Tells Works told_before told_after (state_told ending ++ printed (Build Write))
 
 -- what is written of an ending
 abbrev pub ReportsEnding : Ending → Type 0 → Option (List ℕ) → Option (List ℕ) → Type 0 → Type 0 → Option (List ℕ) → Option (List ℕ) → ℕ → Type 0

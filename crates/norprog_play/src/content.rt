@@ -32,9 +32,9 @@ pub(crate) fn compare<R: ByteIn, W: ByteOut>(
     requires room { HaveRoom (R.count from.old) (W.count to.old) }
     ensures compared { MatchResult result
         (λ _. HasCompared (W.held to.old) (W.held to.new) (R.ahead from.old) (R.ahead from.new)
-        access content.now (IsMarked marks.now))
-        (StopsComparing (W.held to.old) (W.held to.new) (R.ahead from.old) (R.ahead from.new) access
-        content.now (IsMarked marks.now)) }
+        limits.now access content.now (IsMarked marks.now))
+        (StopsComparing (W.held to.old) (W.held to.new) (R.ahead from.old) (R.ahead from.new)
+        limits.now access content.now (IsMarked marks.now)) }
     ensures counts { CountsMismatch Read (R.count from.old) (R.count from.new) result
         × CountsMismatch Write (W.count to.old) (W.count to.new) result }
 {

@@ -26,10 +26,10 @@ pub(crate) fn compare_unless_trusted<R: ByteIn + Drop, W: ByteOut + Drop>(
         × (length port.old.chip.chip.array ≡ 256 * length marks.now) }
     requires count { port.old.failed < 2 ^ 64 - 1 }
     ensures compared { MatchResult result
-        (λ _. Compares trusted access (IsMarked marks.now)
+        (λ _. Compares port.old.limits trusted access (IsMarked marks.now)
         (moment port.old.chip (W.held port.old.to) (R.ahead port.old.from))
         (moment port.new.chip (W.held port.new.to) (R.ahead port.new.from)))
-        (λ why. (trusted ≡ false) × IsUnlike access (IsMarked marks.now)
+        (λ why. (trusted ≡ false) × IsUnlike port.old.limits access (IsMarked marks.now)
         (moment port.old.chip (W.held port.old.to) (R.ahead port.old.from))
         (moment port.new.chip (W.held port.new.to) (R.ahead port.new.from))
         why) }
@@ -59,10 +59,10 @@ pub(crate) fn compare_chip<R: ByteIn + Drop, W: ByteOut + Drop>(
         × (length port.old.chip.chip.array ≡ 256 * length marks.now) }
     requires count { port.old.failed < 2 ^ 64 - 1 }
     ensures compared { MatchResult result
-        (λ _. IsLike access (IsMarked marks.now)
+        (λ _. IsLike port.old.limits access (IsMarked marks.now)
         (moment port.old.chip (W.held port.old.to) (R.ahead port.old.from))
         (moment port.new.chip (W.held port.new.to) (R.ahead port.new.from)))
-        (λ why. IsUnlike access (IsMarked marks.now)
+        (λ why. IsUnlike port.old.limits access (IsMarked marks.now)
         (moment port.old.chip (W.held port.old.to) (R.ahead port.old.from))
         (moment port.new.chip (W.held port.new.to) (R.ahead port.new.from))
         why) }

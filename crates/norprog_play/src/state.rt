@@ -1,11 +1,11 @@
 //! What is reported beside an ending, and its status.
 
 ghost use Rattle.std.specs.Prelude.{◌≡◌, ◌≤◌, ◌<◌, ◌-◌, ◌^◌, false, IfOk, IfErr};
-ghost use Rattle.std.specs.Io.KnownBytes.{Appends};
 ghost use Rattle.nor_base.specs.Device.{Writes, Counts};
 ghost use Rattle.nor_job.specs.declared.fault.BuildFault.TheVariants.{Write};
 ghost use Rattle.norprog_common.specs.declared.faults.Refusal.TheVariants.{Build};
 ghost use Rattle.norprog_common.specs.Lines.{printed};
+ghost use Rattle.norprog_common.specs.Told.{Tells};
 ghost use Rattle.norprog_play.specs.State.{is_partial, is_sent, state_told, status_of};
 ghost use Rattle.norprog_play.specs.State.{ReportsEnding};
 
@@ -45,8 +45,8 @@ pub(crate) fn report_ending<O: ByteOut, E: ByteOut>(ending: &Ending, out: &mut O
 fn refuse_line<E: ByteOut>(told: Result<(), Failed>, err: &mut E) -> u8
     requires { IfOk told (λ _. E.count err.old < 2 ^ 64 - 1) }
     ensures status { result ≡ 1 }
-    ensures told { IfOk told (λ _. E.count err.new ≡ E.count err.old
-        → Appends (E.held err.old) (E.held err.new) (printed (Build Write))) }
+    ensures told { IfOk told (λ _. Tells (E.count err.new ≡ E.count err.old)
+        (E.held err.old) (E.held err.new) (printed (Build Write))) }
     ensures lost { IfErr told (λ _. err.new ≡ err.old) }
 {
     match told {

@@ -102,21 +102,21 @@ no_file ask known.Own why p = p
 no_file ask (known.Tables file) why p = p
 no_file ask (known.Uniform size) why p = p
 
-no_tables : (h i : Option (List ℕ)) (a b : Ahead) (by : Known) (why : DeviceFault) → StopsAsked h i a b by (Device why) → ⊥
-no_tables h i a b known.Own why p = p
-no_tables h i a b (known.Tables file) why (inl p) = p
-no_tables h i a b (known.Tables file) why (inr p) = p.2
-no_tables h i a b (known.Uniform size) why p = p
+no_tables : (most : ℕ) (h i : Option (List ℕ)) (a b : Ahead) (by : Known) (why : DeviceFault) → StopsAsked most h i a b by (Device why) → ⊥
+no_tables most h i a b known.Own why p = p
+no_tables most h i a b (known.Tables file) why (inl p) = p
+no_tables most h i a b (known.Tables file) why (inr p) = p.2
+no_tables most h i a b (known.Uniform size) why p = p
 
-no_device : (h i : Option (List ℕ)) (a b : Ahead) (ask : Ask) (why : DeviceFault) → StopsChip h i a b ask (Device why) → ⊥
-no_device h i a b ask why (inl (inl p)) = no_file ask ask.known why p.2
-no_device h i a b ask why (inl (inr p)) = p
-no_device h i a b ask why (inr (inl p)) = p.stop
-no_device h i a b ask why (inr (inr (inl p))) = no_tables p.held i p.ahead b ask.known why p.stop
-no_device h i a b ask why (inr (inr (inr (inl p)))) = p.refused
-no_device h i a b ask why (inr (inr (inr (inr (inl p))))) = p.stop
-no_device h i a b ask why (inr (inr (inr (inr (inr (inl p)))))) = elim p.stop [ inl stop ↦ stop | inr other ↦ other ]
-no_device h i a b ask why (inr (inr (inr (inr (inr (inr p)))))) = p.stop
+no_device : (most : ℕ) (h i : Option (List ℕ)) (a b : Ahead) (ask : Ask) (why : DeviceFault) → StopsChip most h i a b ask (Device why) → ⊥
+no_device most h i a b ask why (inl (inl p)) = no_file ask ask.known why p.2
+no_device most h i a b ask why (inl (inr p)) = p
+no_device most h i a b ask why (inr (inl p)) = p.stop
+no_device most h i a b ask why (inr (inr (inl p))) = no_tables most p.held i p.ahead b ask.known why p.stop
+no_device most h i a b ask why (inr (inr (inr (inl p)))) = p.refused
+no_device most h i a b ask why (inr (inr (inr (inr (inl p))))) = p.stop
+no_device most h i a b ask why (inr (inr (inr (inr (inr (inl p)))))) = elim p.stop [ inl stop ↦ stop | inr other ↦ other ]
+no_device most h i a b ask why (inr (inr (inr (inr (inr (inr p)))))) = p.stop
 
 -- nor because an output can't be written
 no_file_write : (ask : Ask) (by : Known) → RefusesFile ask by (Refused (Build fault.Write)) → ⊥
@@ -124,26 +124,26 @@ no_file_write ask known.Own p = p
 no_file_write ask (known.Tables file) p = p
 no_file_write ask (known.Uniform size) p = p
 
-no_tables_write : (h i : Option (List ℕ)) (a b : Ahead) (by : Known) → StopsAsked h i a b by (Refused (Build fault.Write)) → ⊥
-no_tables_write h i a b known.Own p = p
-no_tables_write h i a b (known.Tables file) (inl p) = p
-no_tables_write h i a b (known.Tables file) (inr p) = p.2
-no_tables_write h i a b (known.Uniform size) p = p
+no_tables_write : (most : ℕ) (h i : Option (List ℕ)) (a b : Ahead) (by : Known) → StopsAsked most h i a b by (Refused (Build fault.Write)) → ⊥
+no_tables_write most h i a b known.Own p = p
+no_tables_write most h i a b (known.Tables file) (inl p) = p
+no_tables_write most h i a b (known.Tables file) (inr p) = p.2
+no_tables_write most h i a b (known.Uniform size) p = p
 
-pub no_write : (h i : Option (List ℕ)) (a b : Ahead) (ask : Ask) → StopsChip h i a b ask (Refused (Build fault.Write)) → ⊥
-no_write h i a b ask (inl (inl p)) = no_file_write ask ask.known p.2
-no_write h i a b ask (inl (inr p)) = p
-no_write h i a b ask (inr (inl p)) = p.stop
-no_write h i a b ask (inr (inr (inl p))) = no_tables_write p.held i p.ahead b ask.known p.stop
-no_write h i a b ask (inr (inr (inr (inl p)))) = p.refused
-no_write h i a b ask (inr (inr (inr (inr (inl p))))) = p.stop
-no_write h i a b ask (inr (inr (inr (inr (inr (inl p)))))) = elim p.stop [ inl stop ↦ stop | inr other ↦ other ]
-no_write h i a b ask (inr (inr (inr (inr (inr (inr p)))))) = p.stop
+pub no_write : (most : ℕ) (h i : Option (List ℕ)) (a b : Ahead) (ask : Ask) → StopsChip most h i a b ask (Refused (Build fault.Write)) → ⊥
+no_write most h i a b ask (inl (inl p)) = no_file_write ask ask.known p.2
+no_write most h i a b ask (inl (inr p)) = p
+no_write most h i a b ask (inr (inl p)) = p.stop
+no_write most h i a b ask (inr (inr (inl p))) = no_tables_write most p.held i p.ahead b ask.known p.stop
+no_write most h i a b ask (inr (inr (inr (inl p)))) = p.refused
+no_write most h i a b ask (inr (inr (inr (inr (inl p))))) = p.stop
+no_write most h i a b ask (inr (inr (inr (inr (inr (inl p)))))) = elim p.stop [ inl stop ↦ stop | inr other ↦ other ]
+no_write most h i a b ask (inr (inr (inr (inr (inr (inr p)))))) = p.stop
 
 -- the line was tested, and then that stopped
 pub tested_stops : (h i j : Option (List ℕ)) (a b c : Ahead) (limits : Limits) (ask : Ask) (r : Result Reading Unread) → TestsLine h i a b (Ok tt) limits
-    → IfErr r (StopsChip i j b c ask) → IfErr r (StopsTested h j a c limits ask)
+    → IfErr r (StopsChip limits.asked i j b c ask) → IfErr r (StopsTested h j a c limits ask)
 tested_stops h i j a b c limits ask (Ok reading) tested stops = tt
-tested_stops h i j a b c limits ask (Err (Device why)) tested stops = absurd (no_device i j b c ask why stops)
+tested_stops h i j a b c limits ask (Err (Device why)) tested stops = absurd (no_device limits.asked i j b c ask why stops)
 tested_stops h i j a b c limits ask (Err (Refused why)) tested stops = record { held = i; ahead = b; tested = tested; stops = stops }
 tested_stops h i j a b c limits ask (Err (Unlike why)) tested stops = record { held = i; ahead = b; tested = tested; stops = stops }

@@ -11,7 +11,7 @@ use Rattle.norprog_common.specs.declared.given.ReadArgs.{ReadArgs}
 use Rattle.norprog_common.specs.FileStore.{FileFacts, Change, Lacks}
 use Rattle.norprog_common.specs.Files.{TellsFile}
 use Rattle.norprog_common.specs.Lines.{printed}
-use Rattle.norprog_common.specs.Told.{TellsOf}
+use Rattle.norprog_common.specs.Told.{Tells, TellsOf}
 use Rattle.norprog_device.specs.declared.fault.DeviceFault.{DeviceFault}
 use Rattle.norprog_device.specs.Line.{device_line}
 use Rattle.norprog_read.specs.declared.asked.Ask.{Ask}
@@ -106,7 +106,7 @@ pub record PrintsReading (files : FileFacts) (given : ReadArgs) (Made : List Cha
 abbrev pub Reports : List ℕ → ℕ → Type 0 → Option (List ℕ) → Option (List ℕ) → Type 0 → Type 0 → Option (List ℕ) → Option (List ℕ) → ℕ → Type 0
 Reports text ends Broke before after Quiet Works told_before told_after status =
     ((status ≡ ends) × Appends before after text × Quiet)
-    ⊎ ((status ≡ 1) × Cuts before after text × Broke × (Works → Appends told_before told_after (printed (Build Write))))
+    ⊎ ((status ≡ 1) × Cuts before after text × Broke × Tells Works told_before told_after (printed (Build Write)))
 
 -- the lines of a reading that was kept are reported; or why the chip isn't read
 abbrev pub ReportsReading : FileFacts → ReadArgs → (List Change → Type 0) → Type 0 → Option (List ℕ) → Option (List ℕ) → Type 0 → Type 0
@@ -128,7 +128,7 @@ pub record TellsDevice (files : FileFacts) (given : ReadArgs) (Made : List Chang
   pub is : IsStopOf files given Made (Device why)
   pub one : status ≡ 1
   pub unprinted : after ≡ before
-  pub told : Works → Appends told_before told_after (device_line why)
+  pub told : Tells Works told_before told_after (device_line why)
 
 -- what `read` answers to the texts of a command line, where `Made` says which changes it made, and `Broke` that an output failed: one of
 -- these; or a refusal, with nothing printed

@@ -41,17 +41,18 @@ chip_task ask tables = record {
   erased_only = ask.erased_only;
 }
 
--- its tables came twice alike; a chip of a size was asked for none
-abbrev pub GivesTables : Option (List ℕ) → Option (List ℕ) → Ahead → Ahead → Known → List ℕ → Type 0
-GivesTables held_before held_after ahead_before ahead_after (Uniform size) tables =
+-- its tables came twice alike, by reads of no more than so many bytes; a chip of a size was asked for none
+abbrev pub GivesTables : ℕ → Option (List ℕ) → Option (List ℕ) → Ahead → Ahead → Known → List ℕ → Type 0
+GivesTables most held_before held_after ahead_before ahead_after (Uniform size) tables =
     (tables ≡ []) × (held_after ≡ held_before) × (ahead_after ≡ ahead_before)
-GivesTables held_before held_after ahead_before ahead_after other tables = HasReadTables held_before held_after ahead_before ahead_after tables
+GivesTables most held_before held_after ahead_before ahead_after other tables =
+    HasReadTables most held_before held_after ahead_before ahead_after tables
 
--- its content came twice alike, where it was wanted
-abbrev pub GivesContent : Option (List ℕ) → Option (List ℕ) → Ahead → Ahead → Parameters → Start → Bool → List ℕ → Type 0
-GivesContent held_before held_after ahead_before ahead_after m start true content =
-    HoldsWhole held_before held_after ahead_before ahead_after m start content
-GivesContent held_before held_after ahead_before ahead_after m start false content =
+-- its content came twice alike, by such reads, where it was wanted
+abbrev pub GivesContent : ℕ → Option (List ℕ) → Option (List ℕ) → Ahead → Ahead → Parameters → Start → Bool → List ℕ → Type 0
+GivesContent most held_before held_after ahead_before ahead_after m start true content =
+    HoldsWhole most held_before held_after ahead_before ahead_after m start content
+GivesContent most held_before held_after ahead_before ahead_after m start false content =
     (content ≡ []) × (held_after ≡ held_before) × (ahead_after ≡ ahead_before)
 
 -- an identification isn't what a line gives that no chip drives: only clear bits, or only set ones
@@ -83,10 +84,10 @@ AreAlike (Tables file) tables = take (both_go tables file.now) tables ≡ take (
 AreAlike other tables = ⊤
 
 -- in this order, and nothing else was sent: its status until it was idle, which shows the mode that was said, its identification, its
--- tables, its content, and its identification again, which was the same and that of a chip; its meaning is that of the tables that came, or
--- of its size; where the content was wanted, and the terminal isn't said to hand on each byte as it comes, what came shows that it changed
--- nothing of tables and content
-pub record HasReadChip (h0 h5 : Option (List ℕ)) (a0 a5 : Ahead) (ask : Ask) (r : Reading) : Type 0 where
+-- tables, its content, and its identification again, which was the same and that of a chip; each read of tables and content was of no more
+-- than so many bytes; its meaning is that of the tables that came, or of its size; where the content was wanted, and the terminal isn't said
+-- to hand on each byte as it comes, what came shows that it changed nothing of tables and content
+pub record HasReadChip (most : ℕ) (h0 h5 : Option (List ℕ)) (a0 a5 : Ahead) (ask : Ask) (r : Reading) : Type 0 where
   pub part : r.part ≡ ask.part
   pub wanted : r.whole ≡ ask.content
   pub h1 : Option (List ℕ)
@@ -100,11 +101,11 @@ pub record HasReadChip (h0 h5 : Option (List ℕ)) (a0 a5 : Ahead) (ask : Ask) (
   pub status : ReadsStatus ask.part h0 h1 a0 a1 (Ok r.status) ask.turns
   pub id : Identifies h1 h2 a1 a2 (Ok r.id)
   pub driven : IsDriven r.id
-  pub tables : GivesTables h2 h3 a2 a3 ask.known r.tables.items
+  pub tables : GivesTables most h2 h3 a2 a3 ask.known r.tables.items
   pub mode : is_otherwise ask.part ask.mode4 r.status ≡ false
   pub file : HasMeaning ask ask.known
   pub alike : AreAlike ask.known r.tables.items
   pub means : HasChip (chip_task ask r.tables.items) r.meaning
-  pub content : GivesContent h3 h4 a3 a4 r.meaning (start_of (chip_task ask r.tables.items)) ask.content r.content.items
+  pub content : GivesContent most h3 h4 a3 a4 r.meaning (start_of (chip_task ask r.tables.items)) ask.content r.content.items
   pub again : Identifies h4 h5 a4 a5 (Ok r.id)
   pub shown : ShowsLine ask r.id (r.tables.items ++ r.content.items)

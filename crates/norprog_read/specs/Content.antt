@@ -7,10 +7,10 @@ use Rattle.nor_reader.specs.Laws.{KnowsContent}
 use Rattle.nor_reader.specs.Twice.{ReadTwice}
 use Rattle.norprog_read.specs.Way.{first_by, second_by}
 
--- a byte for each address, by just these two readings; and what every ready chip of the meaning and the start holds, whatever its quad
--- setting, that would have given these answers
-pub record HoldsWhole (held_before held_after : Option (List ℕ)) (ahead_before ahead_after : Ahead) (m : Parameters) (start : Start)
-    (content : List ℕ) : Type 0 where
+-- a byte for each address, by just these two readings, each read of no more than so many bytes; and what every ready chip of the meaning
+-- and the start holds, whatever its quad setting, that would have given these answers
+pub record HoldsWhole (most : ℕ) (held_before held_after : Option (List ℕ)) (ahead_before ahead_after : Ahead) (m : Parameters)
+    (start : Start) (content : List ℕ) : Type 0 where
   pub whole : length content ≡ m.size
   pub known : (quad : Bool) → KnowsContent held_before held_after ahead_before ahead_after m (record start { quad = quad }) content
-  pub twice : ReadTwice held_before held_after ahead_before ahead_after (first_by m start) (second_by m start) content
+  pub twice : ReadTwice most held_before held_after ahead_before ahead_after (first_by m start) (second_by m start) content

@@ -16,13 +16,13 @@ use Rattle.norprog_read.specs.Chip.{HasReadChip}
 use Rattle.norprog_read.specs.Blame.{fault_of_stop}
 use Rattle.norprog_read.specs.Stops.{StopsChip}
 
--- the line was tested, and the chip read
+-- the line was tested, and the chip read, by reads of no more bytes than the device gives at once
 pub record HasReadTested (held_before held_after : Option (List ℕ)) (ahead_before ahead_after : Ahead) (limits : Limits) (ask : Ask)
     (r : Reading) : Type 0 where
   pub held : Option (List ℕ)
   pub ahead : Ahead
   pub tested : TestsLine held_before held ahead_before ahead (Ok tt) limits
-  pub read : HasReadChip held held_after ahead ahead_after ask r
+  pub read : HasReadChip limits.asked held held_after ahead ahead_after ask r
 
 -- it was tested, and the reading of the chip stopped so
 pub record StopsReading (held_before held_after : Option (List ℕ)) (ahead_before ahead_after : Ahead) (limits : Limits) (ask : Ask)
@@ -30,7 +30,7 @@ pub record StopsReading (held_before held_after : Option (List ℕ)) (ahead_befo
   pub held : Option (List ℕ)
   pub ahead : Ahead
   pub tested : TestsLine held_before held ahead_before ahead (Ok tt) limits
-  pub stops : StopsChip held held_after ahead ahead_after ask why
+  pub stops : StopsChip limits.asked held held_after ahead ahead_after ask why
 
 -- the test of the line stopped so, or what came after it
 abbrev pub StopsTested : Option (List ℕ) → Option (List ℕ) → Ahead → Ahead → Limits → Ask → Unread → Type 0

@@ -57,17 +57,17 @@ StopsId held_before held_after ahead_before ahead_after (Unlike (Id id)) =
     Identifies held_before held_after ahead_before ahead_after (Ok id) × IsUndriven id
 StopsId held_before held_after ahead_before ahead_after other = ⊥
 
--- the tables have no signature, or didn't come twice alike
-abbrev pub StopsOwn : Option (List ℕ) → Option (List ℕ) → Ahead → Ahead → Unread → Type 0
-StopsOwn held_before held_after ahead_before ahead_after (Refused (Build Memory)) =
-    StopsTables held_before held_after ahead_before ahead_after tables.Memory
-StopsOwn held_before held_after ahead_before ahead_after (Refused (Build (Sfdp Signature))) =
-    StopsTables held_before held_after ahead_before ahead_after tables.NoSignature
-StopsOwn held_before held_after ahead_before ahead_after (Unlike (Asking why)) =
-    StopsTables held_before held_after ahead_before ahead_after (tables.Unread (Exchange why))
-StopsOwn held_before held_after ahead_before ahead_after (Unlike (At address)) =
-    (d : Difference) × (d.address ≡ address) × StopsTables held_before held_after ahead_before ahead_after (tables.Unread (Differs d))
-StopsOwn held_before held_after ahead_before ahead_after other = ⊥
+-- the tables have no signature, or didn't come twice alike; each read of them is of no more than so many bytes
+abbrev pub StopsOwn : ℕ → Option (List ℕ) → Option (List ℕ) → Ahead → Ahead → Unread → Type 0
+StopsOwn most held_before held_after ahead_before ahead_after (Refused (Build Memory)) =
+    StopsTables most held_before held_after ahead_before ahead_after tables.Memory
+StopsOwn most held_before held_after ahead_before ahead_after (Refused (Build (Sfdp Signature))) =
+    StopsTables most held_before held_after ahead_before ahead_after tables.NoSignature
+StopsOwn most held_before held_after ahead_before ahead_after (Unlike (Asking why)) =
+    StopsTables most held_before held_after ahead_before ahead_after (tables.Unread (Exchange why))
+StopsOwn most held_before held_after ahead_before ahead_after (Unlike (At address)) =
+    (d : Difference) × (d.address ≡ address) × StopsTables most held_before held_after ahead_before ahead_after (tables.Unread (Differs d))
+StopsOwn most held_before held_after ahead_before ahead_after other = ⊥
 
 -- at this address the bytes of a chip and of a file differ first, as far as both go
 pub record IsOther (chip file : List ℕ) (d : Difference) : Type 0 where
@@ -82,26 +82,26 @@ DiffersFrom chip file (Unlike (Tables d)) = IsOther chip file d
 DiffersFrom chip file other = ⊥
 
 -- so, or they aren't as the file's
-abbrev pub StopsAsked : Option (List ℕ) → Option (List ℕ) → Ahead → Ahead → Known → Unread → Type 0
-StopsAsked held_before held_after ahead_before ahead_after Own why = StopsOwn held_before held_after ahead_before ahead_after why
-StopsAsked held_before held_after ahead_before ahead_after (OfFile file) why =
-    StopsOwn held_before held_after ahead_before ahead_after why
-    ⊎ ((chip : List ℕ) × HasReadTables held_before held_after ahead_before ahead_after chip × DiffersFrom chip file.now why)
-StopsAsked held_before held_after ahead_before ahead_after other why = ⊥
+abbrev pub StopsAsked : ℕ → Option (List ℕ) → Option (List ℕ) → Ahead → Ahead → Known → Unread → Type 0
+StopsAsked most held_before held_after ahead_before ahead_after Own why = StopsOwn most held_before held_after ahead_before ahead_after why
+StopsAsked most held_before held_after ahead_before ahead_after (OfFile file) why =
+    StopsOwn most held_before held_after ahead_before ahead_after why
+    ⊎ ((chip : List ℕ) × HasReadTables most held_before held_after ahead_before ahead_after chip × DiffersFrom chip file.now why)
+StopsAsked most held_before held_after ahead_before ahead_after other why = ⊥
 
--- the content can't be read whole, or didn't come twice alike
-abbrev pub StopsContent : Option (List ℕ) → Option (List ℕ) → Ahead → Ahead → Parameters → Start → Unread → Type 0
-StopsContent held_before held_after ahead_before ahead_after m start (Unlike Unreadable) =
+-- the content can't be read whole, or didn't come twice alike; each read of it is of no more than so many bytes
+abbrev pub StopsContent : ℕ → Option (List ℕ) → Option (List ℕ) → Ahead → Ahead → Parameters → Start → Unread → Type 0
+StopsContent most held_before held_after ahead_before ahead_after m start (Unlike Unreadable) =
     (is_readable m start ≡ false) × (held_after ≡ held_before) × (ahead_after ≡ ahead_before)
-StopsContent held_before held_after ahead_before ahead_after m start (Refused (Build Memory)) =
+StopsContent most held_before held_after ahead_before ahead_after m start (Refused (Build Memory)) =
     (held_after ≡ held_before) × (ahead_after ≡ ahead_before)
-StopsContent held_before held_after ahead_before ahead_after m start (Unlike (Asking why)) =
+StopsContent most held_before held_after ahead_before ahead_after m start (Unlike (Asking why)) =
     (content : List ℕ)
-    × StopsTwice held_before held_after ahead_before ahead_after (first_by m start) (second_by m start) content (Exchange why)
-StopsContent held_before held_after ahead_before ahead_after m start (Unlike (At address)) =
+    × StopsTwice most held_before held_after ahead_before ahead_after (first_by m start) (second_by m start) content (Exchange why)
+StopsContent most held_before held_after ahead_before ahead_after m start (Unlike (At address)) =
     (content : List ℕ) × (d : Difference) × (d.address ≡ address)
-    × StopsTwice held_before held_after ahead_before ahead_after (first_by m start) (second_by m start) content (Differs d)
-StopsContent held_before held_after ahead_before ahead_after m start other = ⊥
+    × StopsTwice most held_before held_after ahead_before ahead_after (first_by m start) (second_by m start) content (Differs d)
+StopsContent most held_before held_after ahead_before ahead_after m start other = ⊥
 
 -- the chip gave another identification than before
 abbrev pub GivesOtherId : Option (List ℕ) → Option (List ℕ) → Ahead → Ahead → List ℕ → Unread → Type 0
@@ -125,24 +125,25 @@ pub record IsIdentified (held_before held_after : Option (List ℕ)) (ahead_befo
   pub driven : IsDriven id
 
 -- then the tables, which are as the file's
-pub record IsKnown (held_before held_after : Option (List ℕ)) (ahead_before ahead_after : Ahead) (ask : Ask) (id chip : List ℕ)
+pub record IsKnown (most : ℕ) (held_before held_after : Option (List ℕ)) (ahead_before ahead_after : Ahead) (ask : Ask) (id chip : List ℕ)
     : Type 0 where
   pub held : Option (List ℕ)
   pub ahead : Ahead
   pub identified : IsIdentified held_before held ahead_before ahead ask id
-  pub read : GivesTables held held_after ahead ahead_after ask.known chip
+  pub read : GivesTables most held held_after ahead ahead_after ask.known chip
   pub alike : AreAlike ask.known chip
 
 -- then the content, where it was wanted
-pub record IsHeld (held_before held_after : Option (List ℕ)) (ahead_before ahead_after : Ahead) (ask : Ask) (id : List ℕ) : Type 0 where
+pub record IsHeld (most : ℕ) (held_before held_after : Option (List ℕ)) (ahead_before ahead_after : Ahead) (ask : Ask) (id : List ℕ)
+    : Type 0 where
   pub held : Option (List ℕ)
   pub ahead : Ahead
   pub chip : List ℕ
   pub m : Parameters
   pub content : List ℕ
-  pub known : IsKnown held_before held ahead_before ahead ask id chip
+  pub known : IsKnown most held_before held ahead_before ahead ask id chip
   pub means : HasChip (chip_task ask chip) m
-  pub read : GivesContent held held_after ahead ahead_after m (start_of (chip_task ask chip)) ask.content content
+  pub read : GivesContent most held held_after ahead ahead_after m (start_of (chip_task ask chip)) ask.content content
 
 -- where it stopped: at the file, before the chip was asked; at the status
 abbrev pub StopsEarly : Option (List ℕ) → Option (List ℕ) → Ahead → Ahead → Ask → Unread → Type 0
@@ -158,59 +159,61 @@ pub record StopsAtId (held_before held_after : Option (List ℕ)) (ahead_before 
   pub stop : StopsId held held_after ahead ahead_after why
 
 -- at the tables
-pub record StopsAtTables (held_before held_after : Option (List ℕ)) (ahead_before ahead_after : Ahead) (ask : Ask) (why : Unread)
+pub record StopsAtTables (most : ℕ) (held_before held_after : Option (List ℕ)) (ahead_before ahead_after : Ahead) (ask : Ask) (why : Unread)
     : Type 0 where
   pub id : List ℕ
   pub held : Option (List ℕ)
   pub ahead : Ahead
   pub identified : IsIdentified held_before held ahead_before ahead ask id
-  pub stop : StopsAsked held held_after ahead ahead_after ask.known why
+  pub stop : StopsAsked most held held_after ahead ahead_after ask.known why
 
 -- they came, and the chip has no meaning
-pub record StopsAtMeaning (held_before held_after : Option (List ℕ)) (ahead_before ahead_after : Ahead) (ask : Ask) (why : Unread)
+pub record StopsAtMeaning (most : ℕ) (held_before held_after : Option (List ℕ)) (ahead_before ahead_after : Ahead) (ask : Ask) (why : Unread)
     : Type 0 where
   pub id : List ℕ
   pub chip : List ℕ
-  pub known : IsKnown held_before held_after ahead_before ahead_after ask id chip
+  pub known : IsKnown most held_before held_after ahead_before ahead_after ask id chip
   pub refused : RefusesMeaning (chip_task ask chip) why
 
 -- at the content
-pub record StopsAtContent (held_before held_after : Option (List ℕ)) (ahead_before ahead_after : Ahead) (ask : Ask) (why : Unread)
+pub record StopsAtContent (most : ℕ) (held_before held_after : Option (List ℕ)) (ahead_before ahead_after : Ahead) (ask : Ask) (why : Unread)
     : Type 0 where
   pub id : List ℕ
   pub chip : List ℕ
   pub m : Parameters
   pub held : Option (List ℕ)
   pub ahead : Ahead
-  pub known : IsKnown held_before held ahead_before ahead ask id chip
+  pub known : IsKnown most held_before held ahead_before ahead ask id chip
   pub means : HasChip (chip_task ask chip) m
   pub wanted : ask.content ≡ true
-  pub stop : StopsContent held held_after ahead ahead_after m (start_of (chip_task ask chip)) why
+  pub stop : StopsContent most held held_after ahead ahead_after m (start_of (chip_task ask chip)) why
 
 -- at the second identification
-pub record StopsAtEnd (held_before held_after : Option (List ℕ)) (ahead_before ahead_after : Ahead) (ask : Ask) (why : Unread) : Type 0 where
+pub record StopsAtEnd (most : ℕ) (held_before held_after : Option (List ℕ)) (ahead_before ahead_after : Ahead) (ask : Ask) (why : Unread)
+    : Type 0 where
   pub id : List ℕ
   pub held : Option (List ℕ)
   pub ahead : Ahead
-  pub is_held : IsHeld held_before held ahead_before ahead ask id
+  pub is_held : IsHeld most held_before held ahead_before ahead ask id
   pub stop : StopsId held held_after ahead ahead_after why ⊎ GivesOtherId held held_after ahead ahead_after id why
 
 -- after all came: it doesn't show that the terminal changed nothing of what was read
-pub record StopsAtLine (held_before held_after : Option (List ℕ)) (ahead_before ahead_after : Ahead) (ask : Ask) (why : Unread) : Type 0 where
+pub record StopsAtLine (most : ℕ) (held_before held_after : Option (List ℕ)) (ahead_before ahead_after : Ahead) (ask : Ask) (why : Unread)
+    : Type 0 where
   pub id : List ℕ
   pub held : Option (List ℕ)
   pub ahead : Ahead
-  pub is_held : IsHeld held_before held ahead_before ahead ask id
+  pub is_held : IsHeld most held_before held ahead_before ahead ask id
   pub again : Identifies held held_after ahead ahead_after (Ok id)
   pub stop : HidesLine ask id (is_held.chip ++ is_held.content) why
 
 -- in the order in which the chip is asked
-abbrev pub StopsChip : Option (List ℕ) → Option (List ℕ) → Ahead → Ahead → Ask → Unread → Type 0
-StopsChip held_before held_after ahead_before ahead_after ask why =
+abbrev pub StopsChip : ℕ → Option (List ℕ) → Option (List ℕ) → Ahead → Ahead → Ask → Unread → Type 0
+StopsChip most held_before held_after ahead_before ahead_after ask why =
     StopsEarly held_before held_after ahead_before ahead_after ask why
     ⊎ (StopsAtId held_before held_after ahead_before ahead_after ask why
-    ⊎ (StopsAtTables held_before held_after ahead_before ahead_after ask why
-    ⊎ (StopsAtMeaning held_before held_after ahead_before ahead_after ask why
-    ⊎ (StopsAtContent held_before held_after ahead_before ahead_after ask why
-    ⊎ (StopsAtEnd held_before held_after ahead_before ahead_after ask why
-    ⊎ StopsAtLine held_before held_after ahead_before ahead_after ask why)))))
+    ⊎ (StopsAtTables most held_before held_after ahead_before ahead_after ask why
+    ⊎ (StopsAtMeaning most held_before held_after ahead_before ahead_after ask why
+    ⊎ (StopsAtContent most held_before held_after ahead_before ahead_after ask why
+    ⊎ (StopsAtEnd most held_before held_after ahead_before ahead_after ask why
+    ⊎ StopsAtLine most held_before held_after ahead_before ahead_after ask why)))))

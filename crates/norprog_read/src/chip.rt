@@ -33,9 +33,8 @@ use nor_sfdp::SfdpFault;
 use norprog_common::{Refusal, known_chip};
 use std::alloc::Global;
 
-/// Has the chip behind a device say what it is, wait until it is idle, give its tables and its
-/// content, each byte twice, and say again what it is. A content has to show the line, unless
-/// `ask` is `raw`.
+/// Has the chip behind a device get idle, say what it is, give its tables and its content, each
+/// byte twice, and say again what it is. A content has to show the line, unless `ask` is `raw`.
 ///
 /// `Unlike` where it doesn't do so; `Refused` where its tables or size have no meaning, and for
 /// `Memory`.
@@ -48,11 +47,12 @@ pub fn read_chip<R: ByteIn, W: ByteOut>(
 ) -> Result<Reading, Unread>
     requires room { HaveRoom (R.count from.old) (W.count to.old) }
     ensures read { IfOk result
-        (λ reading. HasReadChip (W.held to.old) (W.held to.new) (R.ahead from.old)
+        (λ reading. HasReadChip limits.now.asked (W.held to.old) (W.held to.new) (R.ahead from.old)
         (R.ahead from.new)
         ask.now reading) }
     ensures stops { IfErr result
-        (StopsChip (W.held to.old) (W.held to.new) (R.ahead from.old) (R.ahead from.new) ask.now) }
+        (StopsChip limits.now.asked (W.held to.old) (W.held to.new) (R.ahead from.old)
+        (R.ahead from.new) ask.now) }
     ensures harmless { MatchResult result (λ _. HasSentHarmless (W.held to.old) (W.held to.new))
         (λ _. SendsHarmless (W.held to.old) (W.held to.new)) }
     ensures blamed { Blames (R.count from.old < R.count from.new)
@@ -73,11 +73,12 @@ fn ask_chip<R: ByteIn, W: ByteOut>(
 ) -> Result<Reading, Unread>
     requires room { HaveRoom (R.count from.old) (W.count to.old) }
     ensures read { IfOk result
-        (λ reading. HasReadChip (W.held to.old) (W.held to.new) (R.ahead from.old)
+        (λ reading. HasReadChip limits.now.asked (W.held to.old) (W.held to.new) (R.ahead from.old)
         (R.ahead from.new)
         ask.now reading) }
     ensures stops { IfErr result
-        (StopsChip (W.held to.old) (W.held to.new) (R.ahead from.old) (R.ahead from.new) ask.now) }
+        (StopsChip limits.now.asked (W.held to.old) (W.held to.new) (R.ahead from.old)
+        (R.ahead from.new) ask.now) }
     ensures counts { CountsBoth (R.count from.old) (R.count from.new) (W.count to.old)
         (W.count to.new) (fault_in result) }
 {
@@ -198,12 +199,12 @@ fn ask_tables<R: ByteIn, W: ByteOut>(
 ) -> Result<Vec<u8>, Unread>
     requires room { HaveRoom (R.count from.old) (W.count to.old) }
     ensures tables { IfOk result
-        (λ tables. GivesTables (W.held to.old) (W.held to.new) (R.ahead from.old) (R.ahead from.new)
-        ask.now.known tables.items) }
+        (λ tables. GivesTables limits.now.asked (W.held to.old) (W.held to.new) (R.ahead from.old)
+        (R.ahead from.new) ask.now.known tables.items) }
     ensures alike { IfOk result (λ tables. AreAlike ask.now.known tables.items) }
     ensures stops { IfErr result
-        (StopsAsked (W.held to.old) (W.held to.new) (R.ahead from.old) (R.ahead from.new)
-        ask.now.known) }
+        (StopsAsked limits.now.asked (W.held to.old) (W.held to.new) (R.ahead from.old)
+        (R.ahead from.new) ask.now.known) }
     ensures counts { CountsBoth (R.count from.old) (R.count from.new) (W.count to.old)
         (W.count to.new) (fault_in result) }
 {
@@ -227,11 +228,12 @@ fn own_tables<R: ByteIn, W: ByteOut>(
 ) -> Result<Vec<u8>, Unread>
     requires room { HaveRoom (R.count from.old) (W.count to.old) }
     ensures tables { IfOk result
-        (λ tables. HasReadTables (W.held to.old) (W.held to.new) (R.ahead from.old)
-        (R.ahead from.new)
+        (λ tables. HasReadTables limits.now.asked (W.held to.old) (W.held to.new)
+        (R.ahead from.old) (R.ahead from.new)
         tables.items) }
     ensures stops { IfErr result
-        (StopsOwn (W.held to.old) (W.held to.new) (R.ahead from.old) (R.ahead from.new)) }
+        (StopsOwn limits.now.asked (W.held to.old) (W.held to.new) (R.ahead from.old)
+        (R.ahead from.new)) }
     ensures counts { CountsBoth (R.count from.old) (R.count from.new) (W.count to.old)
         (W.count to.new) (fault_in result) }
 {
@@ -326,11 +328,11 @@ fn ask_content<R: ByteIn, W: ByteOut>(
 ) -> Result<Vec<u8>, Unread>
     requires room { HaveRoom (R.count from.old) (W.count to.old) }
     ensures content { IfOk result (λ content.
-        GivesContent (W.held to.old) (W.held to.new) (R.ahead from.old) (R.ahead from.new)
-        meaning.now start wanted content.items) }
+        GivesContent limits.now.asked (W.held to.old) (W.held to.new) (R.ahead from.old)
+        (R.ahead from.new) meaning.now start wanted content.items) }
     ensures stops { IfErr result
-        (StopsContent (W.held to.old) (W.held to.new) (R.ahead from.old) (R.ahead from.new)
-        meaning.now start) }
+        (StopsContent limits.now.asked (W.held to.old) (W.held to.new) (R.ahead from.old)
+        (R.ahead from.new) meaning.now start) }
     ensures wanted { IfErr result (λ _. wanted ≡ true) }
     ensures counts { CountsBoth (R.count from.old) (R.count from.new) (W.count to.old)
         (W.count to.new) (fault_in result) }

@@ -35,11 +35,11 @@ pub(crate) fn read_whole<R: ByteIn, W: ByteOut>(
 ) -> Result<Vec<u8>, Unread>
     requires room { HaveRoom (R.count from.old) (W.count to.old) }
     ensures whole { IfOk result
-        (λ content. HoldsWhole (W.held to.old) (W.held to.new) (R.ahead from.old) (R.ahead from.new)
-        meaning.now start content.items) }
+        (λ content. HoldsWhole limits.now.asked (W.held to.old) (W.held to.new) (R.ahead from.old)
+        (R.ahead from.new) meaning.now start content.items) }
     ensures stops { IfErr result
-        (StopsContent (W.held to.old) (W.held to.new) (R.ahead from.old) (R.ahead from.new)
-        meaning.now start) }
+        (StopsContent limits.now.asked (W.held to.old) (W.held to.new) (R.ahead from.old)
+        (R.ahead from.new) meaning.now start) }
     ensures counts { CountsBoth (R.count from.old) (R.count from.new) (W.count to.old)
         (W.count to.new) (fault_in result) }
 {

@@ -40,15 +40,19 @@ lacks files device name told =
     (file_of files name ≡ None)
     ⊎ (((bytes : List ℕ) × (bytes_in files name ≡ Some bytes) × (2 ^ 36 < length bytes)) ⊎ ((told ≡ told_as.Device) × (answers_of device name ≡ None)))
 
--- a file that is there may be read, and gives the bytes that it has; each may be asked about, and nothing is said of one that isn't there; an output is empty
--- when it is made, and has gone out with what it took, unless memory was refused to it, of which nothing is told; none is emptied that then can't be used; a
--- device has its answers ahead when it is opened, and has taken nothing; of its failures nothing is told
+-- a file that is there may be read, and gives the bytes that it has, unless memory is refused to it; each may be asked about, and of one that
+-- isn't there it is said, in no words, that it isn't opened, and no regular file is found; an output is empty when it is made, and has gone out
+-- with what it took, unless memory was refused to it, of which nothing is told; none is emptied that then can't be used; a device has its
+-- answers ahead when it is opened, and has taken nothing; of its failures nothing is told
 abbrev pub told_files : List File → Option Device → FileFacts
 told_files files device = record {
   may = λ name. is_some (file_of files name) ≡ true;
   may_ask = λ name. ⊤;
-  said = λ name words. ⊥;
+  irregular = λ name. file_of files name ≡ None;
+  said = λ name words. (file_of files name ≡ None) × (words ≡ []);
+  unsaid = λ name. is_some (file_of files name) ≡ true;
   gave = λ name bytes. bytes_in files name ≡ Some bytes;
+  starved = λ name. is_some (file_of files name) ≡ true;
   opened = λ name ahead len. (bytes : List ℕ) × (bytes_in files name ≡ Some bytes) × (ahead ≡ Finite bytes) × (len ≡ length bytes);
   stood = λ name place. option_map (λ file. file.id) (file_of files name) ≡ Some place;
   made = λ name places held. held ≡ Some [];

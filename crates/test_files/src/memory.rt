@@ -195,4 +195,11 @@ impl<'a> FileStore for Memory<'a> {
     fn is_regular(&self, path: &str) -> bool {
         self.file(path, FileName::Script).is_ok()
     }
+
+    fn trouble(&self, alloc: Global, path: &str) -> Option<String> {
+        match self.file(path, FileName::Script) {
+            Ok(_) => None,
+            Err(_) => Some(String::new(alloc)),
+        }
+    }
 }

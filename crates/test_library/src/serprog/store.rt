@@ -216,4 +216,12 @@ impl<'a> FileStore for Store<'a> {
     }
 
     fn close_device(&self, _from: FromRead<FromLine<'a>>, _to: IntoWrite<ToLine<'a>>) {}
+
+    fn is_regular(&self, path: &str) -> bool {
+        self.file(path, FileName::Script).is_ok()
+    }
+
+    fn trouble(&self, _alloc: Global, _path: &str) -> Option<String> {
+        None
+    }
 }

@@ -7,7 +7,7 @@ use Rattle.nor_reader.proofs.pass.compare_all.Goals as goal
 pub loop-done-init : goal.loop-done-init
 loop-done-init g c = record {
   within = omega arith;
-  alike = nothing_read (g.W.ByteOut.held c.args.to.now) (g.R.ByteIn.ahead c.args.from.now) c.args.by [];
+  alike = nothing_read c.args.limits.now.asked (g.W.ByteOut.held c.args.to.now) (g.R.ByteIn.ahead c.args.from.now) c.args.by [];
   reads = refl;
   writes = refl;
 }
@@ -16,12 +16,14 @@ pub loop-done-preserved : goal.loop-done-preserved
 loop-done-preserved g c =
     let within : c.loop-done.done + c.min-len.result ≤ length c.args.bytes.now = omega arith in
     let some : 0 < c.min-len.result = omega (arith, c.args.limits.now.some_asked) in
+    let few : c.min-len.result ≤ c.args.limits.now.asked = omega arith in
     let ok = c.in_default.ensures in
     record {
       within = within;
-      alike = again_more (g.W.ByteOut.held c.args.to.now) (g.W.ByteOut.held c.loop-done.to) (g.W.ByteOut.held c.compare_piece.new.to) (g.R.ByteIn.ahead c.args.from.now)
-          (g.R.ByteIn.ahead c.loop-done.from) (g.R.ByteIn.ahead c.compare_piece.new.from) c.args.by c.args.bytes.now c.loop-done.done c.min-len.result within some
-          c.loop-done.invariant.alike ok.read;
+      alike = again_more c.args.limits.now.asked (g.W.ByteOut.held c.args.to.now) (g.W.ByteOut.held c.loop-done.to)
+          (g.W.ByteOut.held c.compare_piece.new.to) (g.R.ByteIn.ahead c.args.from.now) (g.R.ByteIn.ahead c.loop-done.from)
+          (g.R.ByteIn.ahead c.compare_piece.new.from) c.args.by c.args.bytes.now
+          c.loop-done.done c.min-len.result within some few c.loop-done.invariant.alike ok.read;
       reads = ok.counts.0 ∙ c.loop-done.invariant.reads;
       writes = ok.counts.1 ∙ c.loop-done.invariant.writes;
     }
@@ -30,6 +32,7 @@ pub returns-in-Err-clause-again : goal.returns-in-Err-clause-again
 returns-in-Err-clause-again g c =
     let within : c.loop-done.done + c.min-len.result ≤ length c.args.bytes.now = omega arith in
     let some : 0 < c.min-len.result = omega (arith, c.args.limits.now.some_asked) in
-    again_not (g.W.ByteOut.held c.args.to.now) (g.W.ByteOut.held c.loop-done.to) (g.W.ByteOut.held c.compare_piece.new.to) (g.R.ByteIn.ahead c.args.from.now)
-    (g.R.ByteIn.ahead c.loop-done.from) (g.R.ByteIn.ahead c.compare_piece.new.from) c.args.by c.args.bytes.now c.loop-done.done c.min-len.result c.in-Err.why within some
-    c.loop-done.invariant.alike c.in-Err.ensures.read
+    let few : c.min-len.result ≤ c.args.limits.now.asked = omega arith in
+    again_not c.args.limits.now.asked (g.W.ByteOut.held c.args.to.now) (g.W.ByteOut.held c.loop-done.to) (g.W.ByteOut.held c.compare_piece.new.to)
+    (g.R.ByteIn.ahead c.args.from.now) (g.R.ByteIn.ahead c.loop-done.from) (g.R.ByteIn.ahead c.compare_piece.new.from) c.args.by c.args.bytes.now
+    c.loop-done.done c.min-len.result c.in-Err.why within some few c.loop-done.invariant.alike c.in-Err.ensures.read

@@ -6,7 +6,8 @@ use Rattle.nor_reader.proofs.pass.compare_all.Given as goal
 abbrev pub invariant-loop-done : goal.invariant-loop-done
 invariant-loop-done g l = record {
   within : l.done ≤ length l.bytes;
-  alike : HasReadOn (g.W.ByteOut.held l.fn.to) (g.W.ByteOut.held l.to) (g.R.ByteIn.ahead l.fn.from) (g.R.ByteIn.ahead l.from) l.by [] (take l.done l.bytes);
+  alike : HasReadOn l.limits.asked (g.W.ByteOut.held l.fn.to) (g.W.ByteOut.held l.to) (g.R.ByteIn.ahead l.fn.from) (g.R.ByteIn.ahead l.from) l.by []
+      (take l.done l.bytes);
   reads : g.R.ByteIn.count l.from ≡ g.R.ByteIn.count l.fn.from;
   writes : g.W.ByteOut.count l.to ≡ g.W.ByteOut.count l.fn.to;
 }

@@ -4,6 +4,7 @@ use Rattle.nor_reader.proofs.pass.read_content.Goals as goal
 
 pub returns-clause-twice : goal.returns-clause-twice
 returns-clause-twice g c =
-    twice_by (g.W.ByteOut.held c.args.to.now) (g.W.ByteOut.held c.read_first.new.to) (g.W.ByteOut.held c.read_again.new.to) (g.R.ByteIn.ahead c.args.from.now)
+    twice_by c.args.limits.now.asked (g.W.ByteOut.held c.args.to.now) (g.W.ByteOut.held c.read_first.new.to) (g.W.ByteOut.held c.read_again.new.to)
+    (g.R.ByteIn.ahead c.args.from.now)
     (g.R.ByteIn.ahead c.read_first.new.from) (g.R.ByteIn.ahead c.read_again.new.from) c.args.by c.args.again c.read_first.new.bytes c.read_again.result
     c.in_default.ensures.read c.read_again.ensures.again

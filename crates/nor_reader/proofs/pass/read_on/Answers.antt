@@ -2,20 +2,22 @@
 use Rattle.std.proofs.Common.{◌≡◌, ◌≤◌, ◌+◌, ◌-◌, length, take, drop, refl, ◌∙◌, ap, subst, arith, length-take, length-drop}
 use borrow.Rule.Slice.PartMut.{put_mid}
 use Rattle.nor_reader.specs.Reads.{HasReadOn}
-use Rattle.nor_reader.proofs.PassLemmas.{nothing_read, piece_more, put_piece}
+use Rattle.nor_reader.proofs.PassLemmas.{nothing_read, piece_more, piece_stops, put_piece}
 use Rattle.nor_reader.proofs.pass.read_on.Goals as goal
 
 pub loop-done-init : goal.loop-done-init
 loop-done-init g c = record {
   within = c.requires.start;
   size = refl;
-  read = nothing_read (g.W.ByteOut.held c.args.to.now) (g.R.ByteIn.ahead c.args.from.now) c.args.by (take c.args.start c.args.bytes.now);
+  read = nothing_read c.args.limits.now.asked (g.W.ByteOut.held c.args.to.now) (g.R.ByteIn.ahead c.args.from.now) c.args.by
+      (take c.args.start c.args.bytes.now);
   reads = refl;
   writes = refl;
 }
 
 pub loop-done-preserved : goal.loop-done-preserved
 loop-done-preserved g c =
+    let most = c.args.limits.now.asked in
     let old = c.loop-done.bytes in
     let done = c.loop-done.done in
     let len = c.min-len.result in
@@ -34,11 +36,33 @@ loop-done-preserved g c =
     record {
       within = omega (arith, put.size, fits);
       size = put.size ∙ size;
-      read = subst (λ n. HasReadOn (g.W.ByteOut.held c.args.to.now) (g.W.ByteOut.held c.read_piece.new.to) (g.R.ByteIn.ahead c.args.from.now) (g.R.ByteIn.ahead c.read_piece.new.from)
-          c.args.by (take c.args.start c.args.bytes.now) (take (done + n) new)) long
-          (piece_more (g.W.ByteOut.held c.args.to.now) (g.W.ByteOut.held c.loop-done.to) (g.W.ByteOut.held c.read_piece.new.to) (g.R.ByteIn.ahead c.args.from.now)
+      read = subst (λ n. HasReadOn most (g.W.ByteOut.held c.args.to.now) (g.W.ByteOut.held c.read_piece.new.to) (g.R.ByteIn.ahead c.args.from.now)
+          (g.R.ByteIn.ahead c.read_piece.new.from) c.args.by (take c.args.start c.args.bytes.now) (take (done + n) new)) long
+          (piece_more most (g.W.ByteOut.held c.args.to.now) (g.W.ByteOut.held c.loop-done.to) (g.W.ByteOut.held c.read_piece.new.to)
+          (g.R.ByteIn.ahead c.args.from.now)
           (g.R.ByteIn.ahead c.loop-done.from) (g.R.ByteIn.ahead c.read_piece.new.from) c.args.by (take c.args.start c.args.bytes.now) old new piece done within
-          (omega (arith, long, least, some_asked, goes, size)) (ap (λ n. take (done + n) new) long ∙ put.front) c.loop-done.invariant.read c.in_default.ensures.read);
+          (omega (arith, long, least, some_asked, goes, size)) (omega (arith, long, least)) (ap (λ n. take (done + n) new) long ∙ put.front)
+          c.loop-done.invariant.read c.in_default.ensures.read);
       reads = c.in_default.ensures.counts.0 ∙ c.loop-done.invariant.reads;
       writes = c.in_default.ensures.counts.1 ∙ c.loop-done.invariant.writes;
     }
+
+pub returns-in-Err-clause-read : goal.returns-in-Err-clause-read
+returns-in-Err-clause-read g c =
+    let most = c.args.limits.now.asked in
+    let old = c.loop-done.bytes in
+    let done = c.loop-done.done in
+    let len = c.min-len.result in
+    let piece = c.read_piece.new.piece in
+    let size = c.loop-done.invariant.size in
+    let within = c.loop-done.invariant.within in
+    let goes = c.loop-done-test.true in
+    let least = c.min-len.ensures in
+    let fits : done + len ≤ length old = omega (arith, size, within, goes, least) in
+    let count : done + len - done ≡ len = omega arith in
+    let long : length piece ≡ len =
+    c.read_piece.auto.piece ∙ omega (arith, length-take (done + len - done) (drop done old), length-drop done old, fits, count) in
+    piece_stops most (g.W.ByteOut.held c.args.to.now) (g.W.ByteOut.held c.loop-done.to) (g.W.ByteOut.held c.read_piece.new.to)
+    (g.R.ByteIn.ahead c.args.from.now) (g.R.ByteIn.ahead c.loop-done.from) (g.R.ByteIn.ahead c.read_piece.new.from) c.args.by
+    (take c.args.start c.args.bytes.now) old piece done c.in-Err.why within (omega (arith, long, least)) c.loop-done.invariant.read
+    c.in-Err.ensures.read

@@ -11,57 +11,76 @@ use Rattle.nor_reader.proofs.tables.read_tables.Goals as goal
 
 pub returns-in-Err-clause-tables : goal.returns-in-Err-clause-tables
 returns-in-Err-clause-tables g c =
+    let most = c.args.limits.now.asked in
     let h = g.W.ByteOut.held c.args.to.now in
     let a = g.R.ByteIn.ahead c.args.from.now in
-    grow_stops h h (g.W.ByteOut.held c.grow.new.to) a a (g.R.ByteIn.ahead c.grow.new.from) c.new-bytes.result.items c.grow.new.bytes.items 8 c.in-Err.why
-    (subst (λ (old : List ℕ). HasReadOn h h a a Tables [] old) (sym c.new-bytes.ensures.items) (nothing_read h a Tables [])) c.in-Err.ensures.grows
+    grow_stops most h h (g.W.ByteOut.held c.grow.new.to) a a (g.R.ByteIn.ahead c.grow.new.from) c.new-bytes.result.items c.grow.new.bytes.items 8
+    c.in-Err.why
+    (subst (λ (old : List ℕ). HasReadOn most h h a a Tables [] old) (sym c.new-bytes.ensures.items) (nothing_read most h a Tables []))
+    c.in-Err.ensures.grows
 
 pub returns-in-Err-grow-clause-tables : goal.returns-in-Err-grow-clause-tables
 returns-in-Err-grow-clause-tables g c =
-    grow_stops (g.W.ByteOut.held c.args.to.now) (g.W.ByteOut.held c.grow.new.to) (g.W.ByteOut.held c.grow-2.new.to) (g.R.ByteIn.ahead c.args.from.now)
+    let most = c.args.limits.now.asked in
+    grow_stops most (g.W.ByteOut.held c.args.to.now) (g.W.ByteOut.held c.grow.new.to) (g.W.ByteOut.held c.grow-2.new.to)
+    (g.R.ByteIn.ahead c.args.from.now)
     (g.R.ByteIn.ahead c.grow.new.from) (g.R.ByteIn.ahead c.grow-2.new.from) c.grow.new.bytes.items c.grow-2.new.bytes.items c.headers_end-headers.result c.in-Err-grow.why
     (from_none c.new-bytes.result.items c.grow.new.bytes.items c.new-bytes.ensures.items c.in_default.ensures.grows.1) c.in-Err-grow.ensures.grows
 
 pub returns-in-Err-grow-2-clause-tables : goal.returns-in-Err-grow-2-clause-tables
 returns-in-Err-grow-2-clause-tables g c =
+    let most = c.args.limits.now.asked in
     let one = from_none c.new-bytes.result.items c.grow.new.bytes.items c.new-bytes.ensures.items c.in_default.ensures.grows.1 in
-    grow_stops (g.W.ByteOut.held c.args.to.now) (g.W.ByteOut.held c.grow-2.new.to) (g.W.ByteOut.held c.grow-3.new.to) (g.R.ByteIn.ahead c.args.from.now)
+    grow_stops most (g.W.ByteOut.held c.args.to.now) (g.W.ByteOut.held c.grow-2.new.to) (g.W.ByteOut.held c.grow-3.new.to)
+    (g.R.ByteIn.ahead c.args.from.now)
     (g.R.ByteIn.ahead c.grow-2.new.from) (g.R.ByteIn.ahead c.grow-3.new.from) c.grow-2.new.bytes.items c.grow-3.new.bytes.items c.tables_size-size.result c.in-Err-grow-2.why
-    (read_both (g.W.ByteOut.held c.args.to.now) (g.W.ByteOut.held c.grow.new.to) (g.W.ByteOut.held c.grow-2.new.to) (g.R.ByteIn.ahead c.args.from.now)
+    (read_both most (g.W.ByteOut.held c.args.to.now) (g.W.ByteOut.held c.grow.new.to) (g.W.ByteOut.held c.grow-2.new.to)
+    (g.R.ByteIn.ahead c.args.from.now)
     (g.R.ByteIn.ahead c.grow.new.from) (g.R.ByteIn.ahead c.grow-2.new.from) Tables [] c.grow.new.bytes.items c.grow-2.new.bytes.items one c.in_default-grow.ensures.grows.1)
     c.in-Err-grow-2.ensures.grows
 
 pub returns-in-Ok-clause-tables : goal.returns-in-Ok-clause-tables
 returns-in-Ok-clause-tables g c =
+    let most = c.args.limits.now.asked in
     let one = from_none c.new-bytes.result.items c.grow.new.bytes.items c.new-bytes.ensures.items c.in_default.ensures.grows.1 in
-    let two = read_both (g.W.ByteOut.held c.args.to.now) (g.W.ByteOut.held c.grow.new.to) (g.W.ByteOut.held c.grow-2.new.to) (g.R.ByteIn.ahead c.args.from.now)
+    let two = read_both most (g.W.ByteOut.held c.args.to.now) (g.W.ByteOut.held c.grow.new.to) (g.W.ByteOut.held c.grow-2.new.to)
+    (g.R.ByteIn.ahead c.args.from.now)
     (g.R.ByteIn.ahead c.grow.new.from) (g.R.ByteIn.ahead c.grow-2.new.from) Tables [] c.grow.new.bytes.items c.grow-2.new.bytes.items one c.in_default-grow.ensures.grows.1 in
-    let three = read_both (g.W.ByteOut.held c.args.to.now) (g.W.ByteOut.held c.grow-2.new.to) (g.W.ByteOut.held c.grow-3.new.to) (g.R.ByteIn.ahead c.args.from.now)
+    let three = read_both most (g.W.ByteOut.held c.args.to.now) (g.W.ByteOut.held c.grow-2.new.to) (g.W.ByteOut.held c.grow-3.new.to)
+    (g.R.ByteIn.ahead c.args.from.now)
     (g.R.ByteIn.ahead c.grow-2.new.from) (g.R.ByteIn.ahead c.grow-3.new.from) Tables [] c.grow-2.new.bytes.items c.grow-3.new.bytes.items two c.in_default-grow-2.ensures.grows.1 in
     record {
-      are = these_tables (g.W.ByteOut.held c.grow.new.to) (g.W.ByteOut.held c.grow-2.new.to) (g.W.ByteOut.held c.grow-3.new.to) (g.W.ByteOut.held c.grow-3.new.to)
+      are = these_tables most (g.W.ByteOut.held c.grow.new.to) (g.W.ByteOut.held c.grow-2.new.to) (g.W.ByteOut.held c.grow-3.new.to)
+          (g.W.ByteOut.held c.grow-3.new.to)
           (g.R.ByteIn.ahead c.grow.new.from) (g.R.ByteIn.ahead c.grow-2.new.from) (g.R.ByteIn.ahead c.grow-3.new.from) (g.R.ByteIn.ahead c.grow-3.new.from)
           c.grow.new.bytes.items c.grow-2.new.bytes.items c.grow-3.new.bytes.items c.as_slice-2.result.now c.as_slice-3.result.now c.headers_end-headers.result c.tables_size-size.result
           c.in_default.ensures.grows.0 c.as_slice-2.ensures.value
           (subst HasSignature (c.as_slice.ensures.value ∙ sym c.as_slice-2.ensures.value) (c.is_signed.ensures.0 c.if-not-is_signed.false))
           c.in_default-grow.ensures.grows.1 c.in_default-grow.ensures.grows.0 c.headers_end-headers.ensures.is
           c.as_slice-3.ensures.value c.in_default-grow-2.ensures.grows.1 c.in_default-grow-2.ensures.grows.0 c.tables_size-size.ensures.is;
-      twice = tables_twice (g.W.ByteOut.held c.args.to.now) (g.W.ByteOut.held c.grow-3.new.to) (g.W.ByteOut.held c.compare_all.new.to) (g.R.ByteIn.ahead c.args.from.now)
+      twice = tables_twice most (g.W.ByteOut.held c.args.to.now) (g.W.ByteOut.held c.grow-3.new.to) (g.W.ByteOut.held c.compare_all.new.to)
+          (g.R.ByteIn.ahead c.args.from.now)
           (g.R.ByteIn.ahead c.grow-3.new.from) (g.R.ByteIn.ahead c.compare_all.new.from) c.grow-3.new.bytes.items three
-          (subst (λ bytes. HasReadOn (g.W.ByteOut.held c.grow-3.new.to) (g.W.ByteOut.held c.compare_all.new.to) (g.R.ByteIn.ahead c.grow-3.new.from)
+          (subst (λ bytes. HasReadOn most (g.W.ByteOut.held c.grow-3.new.to) (g.W.ByteOut.held c.compare_all.new.to)
+          (g.R.ByteIn.ahead c.grow-3.new.from)
           (g.R.ByteIn.ahead c.compare_all.new.from) Tables [] bytes) c.as_slice-4.ensures.value c.in-Ok.ensures.again);
     }
 
 pub returns-in-Err-compare_all-clause-tables : goal.returns-in-Err-compare_all-clause-tables
 returns-in-Err-compare_all-clause-tables g c =
+    let most = c.args.limits.now.asked in
     let one = from_none c.new-bytes.result.items c.grow.new.bytes.items c.new-bytes.ensures.items c.in_default.ensures.grows.1 in
-    let two = read_both (g.W.ByteOut.held c.args.to.now) (g.W.ByteOut.held c.grow.new.to) (g.W.ByteOut.held c.grow-2.new.to) (g.R.ByteIn.ahead c.args.from.now)
+    let two = read_both most (g.W.ByteOut.held c.args.to.now) (g.W.ByteOut.held c.grow.new.to) (g.W.ByteOut.held c.grow-2.new.to)
+    (g.R.ByteIn.ahead c.args.from.now)
     (g.R.ByteIn.ahead c.grow.new.from) (g.R.ByteIn.ahead c.grow-2.new.from) Tables [] c.grow.new.bytes.items c.grow-2.new.bytes.items one c.in_default-grow.ensures.grows.1 in
-    let three = read_both (g.W.ByteOut.held c.args.to.now) (g.W.ByteOut.held c.grow-2.new.to) (g.W.ByteOut.held c.grow-3.new.to) (g.R.ByteIn.ahead c.args.from.now)
+    let three = read_both most (g.W.ByteOut.held c.args.to.now) (g.W.ByteOut.held c.grow-2.new.to) (g.W.ByteOut.held c.grow-3.new.to)
+    (g.R.ByteIn.ahead c.args.from.now)
     (g.R.ByteIn.ahead c.grow-2.new.from) (g.R.ByteIn.ahead c.grow-3.new.from) Tables [] c.grow-2.new.bytes.items c.grow-3.new.bytes.items two c.in_default-grow-2.ensures.grows.1 in (
       c.grow-3.new.bytes.items,
-      tables_missed (g.W.ByteOut.held c.args.to.now) (g.W.ByteOut.held c.grow-3.new.to) (g.W.ByteOut.held c.compare_all.new.to) (g.R.ByteIn.ahead c.args.from.now)
+      tables_missed most (g.W.ByteOut.held c.args.to.now) (g.W.ByteOut.held c.grow-3.new.to) (g.W.ByteOut.held c.compare_all.new.to)
+          (g.R.ByteIn.ahead c.args.from.now)
           (g.R.ByteIn.ahead c.grow-3.new.from) (g.R.ByteIn.ahead c.compare_all.new.from) c.grow-3.new.bytes.items c.in-Err-compare_all.why three
-          (subst (λ bytes. ReadsAgain (g.W.ByteOut.held c.grow-3.new.to) (g.W.ByteOut.held c.compare_all.new.to) (g.R.ByteIn.ahead c.grow-3.new.from)
+          (subst (λ bytes. ReadsAgain most (g.W.ByteOut.held c.grow-3.new.to) (g.W.ByteOut.held c.compare_all.new.to)
+          (g.R.ByteIn.ahead c.grow-3.new.from)
           (g.R.ByteIn.ahead c.compare_all.new.from) (Err c.in-Err-compare_all.why) Tables bytes) c.as_slice-4.ensures.value c.in-Err-compare_all.ensures.again),
     )

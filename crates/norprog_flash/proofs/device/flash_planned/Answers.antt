@@ -45,5 +45,6 @@ pub do_work-requires-clause-form : goal.do_work-requires-clause-form
 do_work-requires-clause-form g c =
     let p = c.requires.planned in
     subst (λ (xs : List Step). All IsDoable xs) (sym c.as_slice-steps.ensures.value)
-    (steps_doable (g.S.FileStore.facts c.args.store.now) c.args.job.now p.0 p.1 p.2 p.3 c.args.begun.now.reading c.args.begun.now.work.goal.items
+    (steps_doable c.args.limits.now.asked (g.S.FileStore.facts c.args.store.now) c.args.job.now p.0 p.1 p.2 p.3 c.args.begun.now.reading
+    c.args.begun.now.work.goal.items
     c.args.begun.now.work.steps.items p.4 p.5 p.6 c.doable.ensures.doable)

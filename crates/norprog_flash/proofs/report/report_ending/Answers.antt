@@ -1,5 +1,10 @@
 -- The chip's state was written first, where it is to be.
-use Rattle.std.proofs.Common.{◌≡◌, inl}
+use Rattle.std.proofs.Common.{◌≡◌, inl, inr, rules}
+use Rattle.nor_job.specs.declared.fault.BuildFault.TheVariants.{Write}
+use Rattle.norprog_common.specs.declared.faults.Refusal.TheVariants.{Build}
+use Rattle.norprog_common.specs.Lines.{printed}
+use Rattle.norprog_common.proofs.TellsLemmas.{told_then}
+use Rattle.norprog_flash.specs.Answer.{state_told}
 use Rattle.norprog_flash.specs.Line.{is_partial}
 use Rattle.norprog_flash.proofs.ReportLemmas.{tells}
 use Rattle.norprog_flash.proofs.report.report_ending.Goals as goal
@@ -11,4 +16,16 @@ returns-in-Ok-clause-reported g c =
       printed = c.in-Ok.ensures.bytes;
       told = tells c.args.given.now (c.write_state-told.new.err ≡ c.args.err.now) _ _ _ _ (is_partial c.args.ending) c.write_state-told.result
           c.write_state-told.ensures.bytes c.write_state-told.ensures.count c.write_state-told.ensures.quiet;
+    })
+
+-- that the line can't be written came behind it
+pub returns-in-Err-clause-reported : goal.returns-in-Err-clause-reported
+returns-in-Err-clause-reported g c =
+    inr (record {
+      one = c.refuse_line.ensures.status;
+      cut = c.in-Err.ensures.bytes;
+      broke = search rules;
+      told = told_then g.E.ByteOut.held g.E.ByteOut.count c.args.err.now c.write_state-told.new.err c.refuse_line.new.err c.write_state-told.result
+          (state_told c.args.ending c.args.given.now) (printed (Build Write)) c.write_state-told.ensures.bytes c.write_state-told.ensures.count
+          c.refuse_line.ensures.told c.refuse_line.ensures.lost;
     })

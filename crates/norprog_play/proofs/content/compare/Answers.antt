@@ -8,7 +8,7 @@ use Rattle.norprog_play.proofs.content.compare.Goals as goal
 pub loop-start-init : goal.loop-start-init
 loop-start-init g c = record {
   within = omega arith;
-  read = none_read (g.W.ByteOut.held c.args.to.now) (g.R.ByteIn.ahead c.args.from.now) c.args.access c.args.content.now (IsMarked c.args.marks.now);
+  read = none_read (g.W.ByteOut.held c.args.to.now) (g.R.ByteIn.ahead c.args.from.now) c.args.limits.now c.args.access c.args.content.now (IsMarked c.args.marks.now);
   reads = refl;
   writes = refl;
 }
@@ -18,8 +18,8 @@ returns-in-Err-clause-compared g c =
     let start = c.in-Some.start in
     let len = c.len_on_side-len.result in
     piece_stopped (g.W.ByteOut.held c.args.to.now) (g.W.ByteOut.held c.loop-start.to) (g.W.ByteOut.held c.compare_piece.new.to)
-    (g.R.ByteIn.ahead c.args.from.now) (g.R.ByteIn.ahead c.loop-start.from) (g.R.ByteIn.ahead c.compare_piece.new.from) c.args.access c.args.content.now
-    (slice_range c.args.content.now start (start + len)) c.args.marks.now c.loop-start.done c.args.limits.now.asked start c.in-Some.most len
+    (g.R.ByteIn.ahead c.args.from.now) (g.R.ByteIn.ahead c.loop-start.from) (g.R.ByteIn.ahead c.compare_piece.new.from) c.args.limits.now c.args.access c.args.content.now
+    (slice_range c.args.content.now start (start + len)) c.args.marks.now c.loop-start.done start c.in-Some.most len
     c.in-Err.why (omega (arith, c.in-Some.ensures.1.within, c.len_on_side-len.ensures.few, c.requires.cells)) refl c.in-Some.ensures.0 c.in-Some.ensures.1
     c.len_on_side-len.ensures.some c.len_on_side-len.ensures.few c.len_on_side-len.ensures.sided c.loop-start.invariant.read c.in-Err.ensures.read
 
@@ -31,8 +31,8 @@ loop-start-preserved g c =
     record {
       within = within;
       read = piece_more (g.W.ByteOut.held c.args.to.now) (g.W.ByteOut.held c.loop-start.to) (g.W.ByteOut.held c.compare_piece.new.to)
-          (g.R.ByteIn.ahead c.args.from.now) (g.R.ByteIn.ahead c.loop-start.from) (g.R.ByteIn.ahead c.compare_piece.new.from) c.args.access c.args.content.now
-          (slice_range c.args.content.now start (start + len)) c.args.marks.now c.loop-start.done c.args.limits.now.asked start c.in-Some.most len
+          (g.R.ByteIn.ahead c.args.from.now) (g.R.ByteIn.ahead c.loop-start.from) (g.R.ByteIn.ahead c.compare_piece.new.from) c.args.limits.now c.args.access c.args.content.now
+          (slice_range c.args.content.now start (start + len)) c.args.marks.now c.loop-start.done start c.in-Some.most len
           within refl c.in-Some.ensures.0 c.in-Some.ensures.1 c.len_on_side-len.ensures.some c.len_on_side-len.ensures.few c.len_on_side-len.ensures.sided
           c.loop-start.invariant.read c.in_default-compare_piece.ensures.read;
       reads = c.in_default-compare_piece.ensures.counts.0 ∙ c.loop-start.invariant.reads;
@@ -41,5 +41,5 @@ loop-start-preserved g c =
 
 pub returns-clause-compared : goal.returns-clause-compared
 returns-clause-compared g c =
-    all_read (g.W.ByteOut.held c.args.to.now) (g.W.ByteOut.held c.loop-start.to) (g.R.ByteIn.ahead c.args.from.now) (g.R.ByteIn.ahead c.loop-start.from) c.args.access
+    all_read (g.W.ByteOut.held c.args.to.now) (g.W.ByteOut.held c.loop-start.to) (g.R.ByteIn.ahead c.args.from.now) (g.R.ByteIn.ahead c.loop-start.from) c.args.limits.now c.args.access
     c.args.content.now c.args.marks.now c.loop-start.done c.loop-start.invariant.within c.in_default.ensures c.loop-start.invariant.read

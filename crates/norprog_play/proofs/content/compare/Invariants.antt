@@ -7,7 +7,8 @@ use Rattle.norprog_play.proofs.content.compare.Given as goal
 abbrev pub invariant-loop-start : goal.invariant-loop-start
 invariant-loop-start g l = record {
   within : l.done ≤ length l.content;
-  read : HasComparedTo (g.W.ByteOut.held l.fn.to) (g.W.ByteOut.held l.to) (g.R.ByteIn.ahead l.fn.from) (g.R.ByteIn.ahead l.from) l.access l.content (IsMarked l.marks) l.done;
+  read : HasComparedTo (g.W.ByteOut.held l.fn.to) (g.W.ByteOut.held l.to) (g.R.ByteIn.ahead l.fn.from) (g.R.ByteIn.ahead l.from)
+      l.limits l.access l.content (IsMarked l.marks) l.done;
   reads : g.R.ByteIn.count l.from ≡ g.R.ByteIn.count l.fn.from;
   writes : g.W.ByteOut.count l.to ≡ g.W.ByteOut.count l.fn.to;
 }

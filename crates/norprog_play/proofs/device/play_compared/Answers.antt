@@ -71,7 +71,8 @@ returns-in-Err-compare_unless_trusted-clause-ends g c =
       ends = same_end c.args.port.now.chip.setting c.args.port.now.chip.chip c.requires.steps.0.well.0 c.follow_steps.new.port.chip.chip c.args.steps.now c.requires.steps.0.well.1 ends;
       wary = c.in-Err-compare_unless_trusted.ensures.compared.0;
       why = c.in-Err-compare_unless_trusted.why;
-      unlike = unlike_since c.args.access c.content.result.now c.args.cells.now c.mark_wraps.new.marks reached after c.in-Err-compare_unless_trusted.why c.mark_wraps.ensures
+      unlike = unlike_since c.args.port.now.limits c.follow_steps.new.port.limits c.args.access c.content.result.now c.args.cells.now c.mark_wraps.new.marks reached after
+          c.in-Err-compare_unless_trusted.why (c.in_default-follow_steps.ensures.failures.2 ∙ c.in_default.ensures.kept.1) c.mark_wraps.ensures
           c.content.ensures cells c.in-Err-compare_unless_trusted.ensures.compared.1;
       failure = c.failure_by.ensures;
     })
@@ -98,7 +99,8 @@ returns-in-Ok-clause-ends g c =
         does = done_bounds c.args.port.now.limits c.begin.new.port.limits c.args.port.now.turns c.begin.new.port.turns between reached c.args.steps.now
             c.in_default.ensures.kept.1 c.in_default.ensures.kept.2 c.in_default-follow_steps.ensures.done;
       };
-      back = compares_since c.args.expected.trusted c.args.access c.content.result.now c.args.cells.now c.mark_wraps.new.marks reached after c.mark_wraps.ensures c.content.ensures cells
+      back = compares_since c.args.port.now.limits c.follow_steps.new.port.limits c.args.expected.trusted c.args.access c.content.result.now c.args.cells.now
+          c.mark_wraps.new.marks reached after (c.in_default-follow_steps.ensures.failures.2 ∙ c.in_default.ensures.kept.1) c.mark_wraps.ensures c.content.ensures cells
           c.in-Ok.ensures.compared;
       says = c.requires.content.2;
     }

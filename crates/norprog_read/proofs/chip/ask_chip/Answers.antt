@@ -32,8 +32,10 @@ returns-clause-read g c = record {
   tables = c.in_ok-tables.ensures.tables;
   alike = c.in_ok-tables.ensures.alike;
   means = subst (λ bytes. HasChip (chip_task c.args.ask.now bytes) c.in_ok-meaning.meaning) c.as_slice.ensures.value c.in_ok-meaning.ensures.means;
-  content = subst (λ (start : Start). GivesContent (g.W.ByteOut.held c.ask_tables.new.to) (g.W.ByteOut.held c.ask_content.new.to) (g.R.ByteIn.ahead c.ask_tables.new.from)
-      (g.R.ByteIn.ahead c.ask_content.new.from) c.in_ok-meaning.meaning start c.args.ask.now.content c.in_ok-content.content.items) c.in_ok-meaning.ensures.start c.in_ok-content.ensures.content;
+  content = subst (λ (start : Start). GivesContent c.args.limits.now.asked (g.W.ByteOut.held c.ask_tables.new.to)
+      (g.W.ByteOut.held c.ask_content.new.to)
+      (g.R.ByteIn.ahead c.ask_tables.new.from) (g.R.ByteIn.ahead c.ask_content.new.from) c.in_ok-meaning.meaning start c.args.ask.now.content
+      c.in_ok-content.content.items) c.in_ok-meaning.ensures.start c.in_ok-content.ensures.content;
   again = subst (λ (id : List ℕ). Identifies (g.W.ByteOut.held c.ask_content.new.to) (g.W.ByteOut.held c.ask_id-2.new.to) (g.R.ByteIn.ahead c.ask_content.new.from)
       (g.R.ByteIn.ahead c.ask_id-2.new.from) (Ok id)) (c.is_same.ensures.same c.if-not-is_same.false) c.in_ok-again.ensures.id;
   shown = read_as (ShowsLine c.args.ask.now c.in_ok-id.id) c.as_slice-2.ensures.value c.as_slice-3.ensures.value
@@ -48,7 +50,7 @@ returns-in_err-again-clause-stops g c =
     let a = g.R.ByteIn.ahead c.args.from.now in
     let b = g.R.ByteIn.ahead c.ask_content.new.from in
     let d = g.R.ByteIn.ahead c.ask_id-2.new.from in
-    let held : IsHeld h i a b c.args.ask.now c.in_ok-id.id = record {
+    let held : IsHeld c.args.limits.now.asked h i a b c.args.ask.now c.in_ok-id.id = record {
       held = g.W.ByteOut.held c.ask_tables.new.to;
       ahead = g.R.ByteIn.ahead c.ask_tables.new.from;
       chip = c.in_ok-tables.tables.items;
@@ -68,10 +70,12 @@ returns-in_err-again-clause-stops g c =
         alike = c.in_ok-tables.ensures.alike;
       };
       means = subst (λ bytes. HasChip (chip_task c.args.ask.now bytes) c.in_ok-meaning.meaning) c.as_slice.ensures.value c.in_ok-meaning.ensures.means;
-      read = subst (λ (start : Start). GivesContent (g.W.ByteOut.held c.ask_tables.new.to) (g.W.ByteOut.held c.ask_content.new.to) (g.R.ByteIn.ahead c.ask_tables.new.from)
-          (g.R.ByteIn.ahead c.ask_content.new.from) c.in_ok-meaning.meaning start c.args.ask.now.content c.in_ok-content.content.items) c.in_ok-meaning.ensures.start c.in_ok-content.ensures.content;
+      read = subst (λ (start : Start). GivesContent c.args.limits.now.asked (g.W.ByteOut.held c.ask_tables.new.to)
+          (g.W.ByteOut.held c.ask_content.new.to)
+          (g.R.ByteIn.ahead c.ask_tables.new.from) (g.R.ByteIn.ahead c.ask_content.new.from) c.in_ok-meaning.meaning start c.args.ask.now.content
+          c.in_ok-content.content.items) c.in_ok-meaning.ensures.start c.in_ok-content.ensures.content;
     } in
-    handed_on (StopsChip h j a d c.args.ask.now) _ c.in_err-again.field-0.0 c.from_residual-in_err-again.ensures.1
+    handed_on (StopsChip c.args.limits.now.asked h j a d c.args.ask.now) _ c.in_err-again.field-0.0 c.from_residual-in_err-again.ensures.1
     (inr (inr (inr (inr (inr (inl (record { id = c.in_ok-id.id; held = i; ahead = b; is_held = held; stop = inl c.in_err-again.ensures.stops })))))))
 
 pub returns-then-not-is_same-clause-stops : goal.returns-then-not-is_same-clause-stops
@@ -80,7 +84,7 @@ returns-then-not-is_same-clause-stops g c =
     let i = g.W.ByteOut.held c.ask_content.new.to in
     let a = g.R.ByteIn.ahead c.args.from.now in
     let b = g.R.ByteIn.ahead c.ask_content.new.from in
-    let held : IsHeld h i a b c.args.ask.now c.in_ok-id.id = record {
+    let held : IsHeld c.args.limits.now.asked h i a b c.args.ask.now c.in_ok-id.id = record {
       held = g.W.ByteOut.held c.ask_tables.new.to;
       ahead = g.R.ByteIn.ahead c.ask_tables.new.from;
       chip = c.in_ok-tables.tables.items;
@@ -100,8 +104,10 @@ returns-then-not-is_same-clause-stops g c =
         alike = c.in_ok-tables.ensures.alike;
       };
       means = subst (λ bytes. HasChip (chip_task c.args.ask.now bytes) c.in_ok-meaning.meaning) c.as_slice.ensures.value c.in_ok-meaning.ensures.means;
-      read = subst (λ (start : Start). GivesContent (g.W.ByteOut.held c.ask_tables.new.to) (g.W.ByteOut.held c.ask_content.new.to) (g.R.ByteIn.ahead c.ask_tables.new.from)
-          (g.R.ByteIn.ahead c.ask_content.new.from) c.in_ok-meaning.meaning start c.args.ask.now.content c.in_ok-content.content.items) c.in_ok-meaning.ensures.start c.in_ok-content.ensures.content;
+      read = subst (λ (start : Start). GivesContent c.args.limits.now.asked (g.W.ByteOut.held c.ask_tables.new.to)
+          (g.W.ByteOut.held c.ask_content.new.to)
+          (g.R.ByteIn.ahead c.ask_tables.new.from) (g.R.ByteIn.ahead c.ask_content.new.from) c.in_ok-meaning.meaning start c.args.ask.now.content
+          c.in_ok-content.content.items) c.in_ok-meaning.ensures.start c.in_ok-content.ensures.content;
     } in
     inr (inr (inr (inr (inr (inl (record {
       id = c.in_ok-id.id;
@@ -117,7 +123,7 @@ returns-then-hides_line-clause-stops g c =
     let i = g.W.ByteOut.held c.ask_content.new.to in
     let a = g.R.ByteIn.ahead c.args.from.now in
     let b = g.R.ByteIn.ahead c.ask_content.new.from in
-    let held : IsHeld h i a b c.args.ask.now c.in_ok-id.id = record {
+    let held : IsHeld c.args.limits.now.asked h i a b c.args.ask.now c.in_ok-id.id = record {
       held = g.W.ByteOut.held c.ask_tables.new.to;
       ahead = g.R.ByteIn.ahead c.ask_tables.new.from;
       chip = c.in_ok-tables.tables.items;
@@ -137,8 +143,10 @@ returns-then-hides_line-clause-stops g c =
         alike = c.in_ok-tables.ensures.alike;
       };
       means = subst (λ bytes. HasChip (chip_task c.args.ask.now bytes) c.in_ok-meaning.meaning) c.as_slice.ensures.value c.in_ok-meaning.ensures.means;
-      read = subst (λ (start : Start). GivesContent (g.W.ByteOut.held c.ask_tables.new.to) (g.W.ByteOut.held c.ask_content.new.to) (g.R.ByteIn.ahead c.ask_tables.new.from)
-          (g.R.ByteIn.ahead c.ask_content.new.from) c.in_ok-meaning.meaning start c.args.ask.now.content c.in_ok-content.content.items) c.in_ok-meaning.ensures.start c.in_ok-content.ensures.content;
+      read = subst (λ (start : Start). GivesContent c.args.limits.now.asked (g.W.ByteOut.held c.ask_tables.new.to)
+          (g.W.ByteOut.held c.ask_content.new.to)
+          (g.R.ByteIn.ahead c.ask_tables.new.from) (g.R.ByteIn.ahead c.ask_content.new.from) c.in_ok-meaning.meaning start c.args.ask.now.content
+          c.in_ok-content.content.items) c.in_ok-meaning.ensures.start c.in_ok-content.ensures.content;
     } in
     inr (inr (inr (inr (inr (inr (record {
       id = c.in_ok-id.id;

@@ -10,6 +10,7 @@ use Rattle.norprog_read.proofs.content.read_whole.Goals as goal
 
 pub returns-in-Ok-clause-whole : goal.returns-in-Ok-clause-whole
 returns-in-Ok-clause-whole g c =
+    let most = c.args.limits.now.asked in
     let new = c.read_content.new.content in
     let m = c.args.meaning.now in
     let start = c.args.start in
@@ -22,13 +23,13 @@ returns-in-Ok-clause-whole g c =
     let readable : is_readable m start ≡ true = sym c.is_readable.ensures ∙ c.if-not-is_readable.false in
     let by = c.first_by-by.ensures in
     let again = c.second_by-again.ensures in
-    let twice : ReadTwice h i a b (first_by m start) (second_by m start) new =
-    subst (λ (x : ReadBy). ReadTwice h i a b x (second_by m start) new) by
-    (subst (λ (x : ReadBy). ReadTwice h i a b c.first_by-by.result x new) again c.in-Ok.ensures.twice) in
-    subst (λ bytes. HoldsWhole h i a b m start bytes) (sym (written new c.in_ok-content.content.items c.in_ok-content.content.len long))
+    let twice : ReadTwice most h i a b (first_by m start) (second_by m start) new =
+    subst (λ (x : ReadBy). ReadTwice most h i a b x (second_by m start) new) by
+    (subst (λ (x : ReadBy). ReadTwice most h i a b c.first_by-by.result x new) again c.in-Ok.ensures.twice) in
+    subst (λ bytes. HoldsWhole most h i a b m start bytes) (sym (written new c.in_ok-content.content.items c.in_ok-content.content.len long))
     (record {
       whole = whole;
-      known = λ quad. c.twice_knows.ensures h i a b m (record start { quad = quad }) (first_by m start) (second_by m start) new
+      known = λ quad. c.twice_knows.ensures most h i a b m (record start { quad = quad }) (first_by m start) (second_by m start) new
           (omega (arith, c.size_in.ensures.is, c.size_in.ensures.few)) whole (first_gives m (record start { quad = quad }) readable)
           (second_gives m (record start { quad = quad }) readable) twice;
       twice = twice;
