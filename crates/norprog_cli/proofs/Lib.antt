@@ -1,1 +1,2 @@
 pub mod GatheredLemmas
+mod DetailsLemmas

@@ -1,5 +1,5 @@
 -- What the program answers (this project's).
-use Rattle.std.specs.Prelude.{◌≡◌, ◌≢◌, ◌⊎◌, ◌<◌, ◌≤◌, ◌+◌, ◌-◌, ◌^◌, ℕ, zero, suc, min, List, [], Option, Some, None, Result, Ok, Err, IfErr}
+use Rattle.std.specs.Prelude.{◌≡◌, ◌≢◌, ◌⊎◌, ◌<◌, ◌≤◌, ◌+◌, ◌-◌, ◌^◌, ℕ, zero, suc, min, nat_eq, if◌then◌else◌, List, [], Option, Some, None, Result, Ok, Err, IfErr}
 use Rattle.std.specs.Io.KnownBytes.{Keeps, append_known}
 use Rattle.nor_base.specs.Device.{Ahead}
 use Rattle.nor_job.specs.declared.fault.BuildFault.TheVariants.{Memory, Write}
@@ -86,14 +86,18 @@ AddsDetails count held files None status before after = after ≡ before
 AddsDetails count held files (Some typed) zero before after = after ≡ before
 AddsDetails count held files (Some typed) (suc status) before after = AddsLines count held files typed before after
 
--- a command line has its command's answer, and then more of a refusal
+-- the details that are wanted, where what is written to hasn't failed meanwhile
+abbrev pub kept_details : ℕ → ℕ → Option TypedLine → Option TypedLine
+kept_details before after details = if nat_eq after before then details else None
+
+-- a command line has its command's answer, and then more of a refusal, unless what is written to failed in that answer
 pub record AnswersLine (E : Type 0) (count : E → ℕ) (held : E → Option (List ℕ)) (files : FileFacts) (Failed : Ahead → Type 0)
     (Made : List Change → Type 0) (Unprinted : Type 0) (before after : Option (List ℕ)) (err_before err_after : E) (status : ℕ)
     (shown : ProgressShown) (line : Line) : Type 0 where
   pub answered : E
   pub answers : AnswersTo files Failed Made Unprinted line.asked before after (answered ≡ err_before) (count answered ≡ count err_before)
       (held err_before) (held answered) status shown
-  pub details : AddsDetails count held files line.details status answered err_after
+  pub details : AddsDetails count held files (kept_details (count err_before) (count answered) line.details) status answered err_after
 
 -- to the command line that the words are its answer; to words that are refused, why
 abbrev pub AnswersTyped : {E : Type 0} → (E → ℕ) → (E → Option (List ℕ)) → FileFacts → (Ahead → Type 0) → (List Change → Type 0) → Type 0

@@ -1,5 +1,5 @@
 -- Which files the program opens to be read, in which order (this project's).
-use Rattle.std.specs.Prelude.{◌≡◌, ℕ, zero, suc, List, [], ◌++◌, Option, Some, None, Result, Ok, Err, option_map, option_to_list}
+use Rattle.std.specs.Prelude.{◌≡◌, ◌⊎◌, ℕ, zero, suc, List, [], ◌++◌, Option, Some, None, Result, Ok, Err, option_map, option_to_list}
 use Rattle.norprog_common.specs.FileStore.{Adds, OpensAt}
 use Rattle.norprog_common.specs.Served as job
 use Rattle.norprog_common.specs.declared.faults.Refusal.{Refusal}
@@ -52,7 +52,7 @@ OpensDetails before after (Some typed) (suc status) = OpensLines before after ty
 pub record OpensLine (before after : Option (List (List ℕ))) (status : ℕ) (line : Line) : Type 0 where
   pub mid : Option (List (List ℕ))
   pub opened : OpensAt before mid (files_of line.asked) status
-  pub details : OpensDetails mid after line.details status
+  pub details : Adds mid after [] ⊎ OpensDetails mid after line.details status
 
 -- of the command line that the words are; none where they are refused
 abbrev pub OpensTyped : Option (List (List ℕ)) → Option (List (List ℕ)) → List (List ℕ) → ℕ → Result Line Refusal → Type 0

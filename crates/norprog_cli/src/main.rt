@@ -20,6 +20,7 @@ ghost use Rattle.norprog_common.specs.declared.faults.Refusal.TheVariants.{Build
 ghost use Rattle.norprog_common.specs.FileStore.{Adds, OpensAt};
 ghost use Rattle.norprog_common.specs.Reading.{HasFailed};
 ghost use Rattle.norprog_cli.specs.Answers.{AnswersTo, AnswersWords, AddsDetails, AddsLines};
+ghost use Rattle.norprog_cli.specs.Answers.{kept_details};
 ghost use Rattle.norprog_cli.specs.Answers.{EndsCommand, EndsGathered, EndsGiven, EndsProgram};
 ghost use Rattle.norprog_cli.specs.Answers.{IsWordless, one_more, texts_in};
 ghost use Rattle.norprog_cli.specs.Opened.{files_of, OpensDetails, OpensEnd, OpensGiven};
@@ -320,12 +321,22 @@ fn command<S: FileStore, O: ByteOut, E: ByteOut + Drop, P: ByteOut>(
     match asked_by(alloc, words.as_slice()) {
         Ok(line) => {
             let Line { asked, details } = line;
+            let failures = err.failures();
             let status = answer_to(alloc, store, journal, ledger, asked, out, err, progress);
+            let details = kept_details(details, failures, err.failures());
             add_details(alloc, store, ledger, details, status, err);
             status
         }
         Err(refusal) => refuse(&refusal, err),
     }
+}
+
+/// The details that are wanted, where standard error hasn't failed meanwhile: after its line was
+/// cut they would be of another refusal.
+fn kept_details(details: Option<TypedLine<'_>>, before: u64, after: u64) -> Option<TypedLine<'_>>
+    ensures { result ≡ kept_details before after details.entry }
+{
+    if after == before { details } else { None }
 }
 
 /// Writes more of a refusal, where a command line wants that.

@@ -2,6 +2,7 @@
 use Rattle.std.proofs.Common.{Ok, Err, map, refl, string_bytes, subst}
 use Rattle.norprog_common.proofs.JournalLemmas.{adds_none}
 use Rattle.norprog_options.specs.Spelled.{Refuses, Spells}
+use Rattle.norprog_cli.proofs.DetailsLemmas.{adds_kept, asks_kept, opens_kept}
 use Rattle.norprog_cli.proofs.command.Goals as goal
 
 pub returns-in-Ok-clause-answer : goal.returns-in-Ok-clause-answer
@@ -9,7 +10,13 @@ returns-in-Ok-clause-answer g c = (
   Ok c.in-Ok.line,
   (
     subst (λ words. Spells (map string_bytes words) c.in-Ok.line) c.as_slice.ensures.value c.in-Ok.ensures.line,
-    record { answered = c.answer_to-status.new.err; answers = c.answer_to-status.ensures.answer; details = c.add_details.ensures.added },
+    record {
+      answered = c.answer_to-status.new.err;
+      answers = c.answer_to-status.ensures.answer;
+      details = adds_kept _ _ _ _ _ c.failures-failures.result c.failures.result c.in-Ok.line.details c.kept_details-details.result c.answer_to-status.result
+          c.answer_to-status.new.err c.add_details.new.err c.kept_details-details.ensures c.failures-failures.ensures c.failures.ensures
+          c.add_details.ensures.added;
+    },
   ),
 )
 
@@ -32,6 +39,8 @@ answer_to-status-requires-clause-read g c =
 
 pub add_details-requires : goal.add_details-requires
 add_details-requires g c =
+    asks_kept c.failures-failures.result c.failures.result (g.S.FileStore.facts c.args.store.now) c.in-Ok.line.details c.kept_details-details.result
+    c.kept_details-details.ensures
     (c.requires.read c.in-Ok.line (subst (λ words. Spells (map string_bytes words) c.in-Ok.line) c.as_slice.ensures.value c.in-Ok.ensures.line)).1
 
 -- the files of the command, and then what more is said of a refusal
@@ -40,7 +49,12 @@ returns-in-Ok-clause-opened g c = (
   Ok c.in-Ok.line,
   (
     subst (λ words. Spells (map string_bytes words) c.in-Ok.line) c.as_slice.ensures.value c.in-Ok.ensures.line,
-    record { mid = _; opened = c.answer_to-status.ensures.opened; details = c.add_details.ensures.opened },
+    record {
+      mid = _;
+      opened = c.answer_to-status.ensures.opened;
+      details = opens_kept c.failures-failures.result c.failures.result c.in-Ok.line.details c.kept_details-details.result _ _ c.answer_to-status.result
+          c.kept_details-details.ensures c.add_details.ensures.opened;
+    },
   ),
 )
 
