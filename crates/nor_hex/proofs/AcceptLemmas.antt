@@ -108,7 +108,7 @@ no_fault text records (Conflict n) accepted at = no_line_fault text records (Con
 no_fault text records (AfterEnd n) accepted at = no_line_fault text records (AfterEnd n) accepted at
 no_fault text records Memory accepted at = no_line_fault text records Memory accepted at
 
--- so an accepted text is refused for want of memory alone
+-- so an accepted text is refused only by out of memory
 pub only_memory : (text : List ℕ) (records : List Record) (fault : HexFault) → IsAccepted text records → (fault ≢ Memory → IsFault text fault) → fault ≡ Memory
 only_memory text records (NoEnd n) accepted real = absurd (no_fault text records (NoEnd n) accepted (real (λ e. cc)))
 only_memory text records (NoColon n) accepted real = absurd (no_fault text records (NoColon n) accepted (real (λ e. cc)))

@@ -1,4 +1,4 @@
--- A lower crate's fault as one of a build: want of memory is one of the build itself.
+-- A lower crate's fault as one of a build: out of memory is one of the build itself.
 use Rattle.nor_hex.specs.declared.fault.HexFault.{HexFault}
 use Rattle.nor_hex.specs.declared.fault.HexFault.TheVariants as hex
 use Rattle.nor_layout.specs.declared.fault.LayoutFault.{LayoutFault}

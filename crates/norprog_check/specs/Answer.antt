@@ -73,7 +73,7 @@ abbrev pub RefusesAsked : Bool → (FileName → Type 0) → Type 0 → (Job →
 RefusesAsked strict Lacked Broke Asked IsText Failed =
     RefusesFor Lacked Broke (OrEmpty strict Asked (IsCheckFault (Filled strict Asked) IsText Failed)) ((found : Finding) × IsCheckFinding (Filled strict Asked) IsText found)
 
--- a check's stop as a refusal: want of memory is the program's own
+-- a check's stop as a refusal: out of memory is the program's own
 abbrev pub stop_refusal : CheckStop → Refusal
 stop_refusal (stop.Build why) = Build why
 stop_refusal (stop.Script why) = script_refusal why

@@ -1,4 +1,4 @@
--- A script's fault as one of a check: want of memory is that of a build.
+-- A script's fault as one of a check: out of memory is that of a build.
 use Rattle.nor_job.specs.declared.fault.BuildFault.TheVariants as fault
 use Rattle.nor_script.specs.declared.fault.ScriptFault.{ScriptFault}
 use Rattle.nor_script.specs.declared.fault.ScriptFault.TheVariants as script

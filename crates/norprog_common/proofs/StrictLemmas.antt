@@ -61,7 +61,7 @@ by_empty strict Lacked Broke Asked Fault Done j (Log line) asked is = absurd is
 pub none_empty : (found : Option ℕ) (index : ℕ) → found ≡ None → found ≡ Some index → ⊥
 none_empty found index none is = cc
 
--- inputs that are refused, but not for want of memory, aren't accepted
+-- inputs refused by anything except out of memory aren't accepted
 pub not_accepted : {T : Type 0} (strict : Bool) (t : Task) (len : ℕ) (why : BuildFault) (r : Result T Refusal)
     → ((image : Pairs) (regions : List Region) (m : Parameters) → AreAccepted t len image regions m → why ≡ fault.Memory) → IfOk r (λ _. why ≢ fault.Memory)
     → IfOk r (λ _. strict ≡ true → HasNoneEmpty t len)

@@ -5,17 +5,17 @@ use Rattle.norprog_common.specs.declared.faults.FileName.{FileName}
 use Rattle.norprog_common.specs.declared.faults.Refusal.{Refusal}
 use Rattle.norprog_common.specs.declared.faults.Refusal.TheVariants.{File, Build}
 
--- a file of which this is so is told, or want of memory
+-- a file of which this is so is reported, or out of memory
 abbrev pub TellsFile : (FileName → Type 0) → Refusal → Type 0
 TellsFile Lacked (File told) = Lacked told
 TellsFile Lacked (Build Memory) = ⊤
 TellsFile Lacked other = ⊥
 
--- this file is told, or want of memory
+-- this file is reported, or out of memory
 abbrev pub RefusesFile : FileName → Refusal → Type 0
 RefusesFile name = TellsFile (λ told. told ≡ name)
 
--- some file is told, or want of memory
+-- some file is reported, or out of memory
 abbrev pub IsOfFiles : Refusal → Type 0
 IsOfFiles = TellsFile (λ told. ⊤)
 

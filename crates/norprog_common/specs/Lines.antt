@@ -141,7 +141,7 @@ status_after (Steps number) = 1
 status_after (EmptyRegion index) = 1
 status_after (Log line) = 1
 
--- a script's fault as a refusal: want of memory is the program's own
+-- a script's fault as a refusal: out of memory is the program's own
 abbrev pub script_refusal : ScriptFault → Refusal
 script_refusal script.Memory = Build build.Memory
 script_refusal fault = Script fault

@@ -1,6 +1,7 @@
 //! The files of the system as a store.
 
-ghost use Rattle.std.specs.Io.Buffered.{writer_buffer};
+ghost use Rattle.std.specs.Io.Buffered.{writer_buffer, writer_contents};
+ghost use Rattle.std.specs.Io.KnownBytes.{Keeps};
 ghost use Rattle.std.specs.Prelude.{◌≡◌, ◌&&◌, [], is_ok, nat_eq, IfOk};
 ghost use Rattle.norprog_common.specs.FileStore.{DoNotFail, IsSameScript};
 
@@ -161,7 +162,9 @@ impl<'a, R: Files> FileStore for SystemFiles<'a, R> {
 /// Has all go out that a file took, to the disk where it is a regular one. What has no disk, as a
 /// pipe, can't be synced.
 fn write_out<F: OpenFile + Write + Drop>(file: &mut BufWriter<F>) -> io::Result<()>
-    ensures { IfOk result (λ _. writer_buffer file.new ≡ []) }
+    ensures gone { IfOk result (λ _. writer_buffer file.new ≡ []) }
+    ensures kept { Keeps (writer_contents F.contents file.old)
+        (writer_contents F.contents file.new) }
 {
     file.flush()?;
     if file.get_ref().metadata()?.is_file() {

@@ -438,7 +438,7 @@ told_wider files Failed given Nothing D E broken why (inl is) =
     (refusal_wider L L D E Asked Asked Spoken Spoken Failed Lost Lost Gone (λ name lacks. lacks) broken (λ t of. of) (λ text of. of) (λ failed. failed) why) is)
 told_wider files Failed given Nothing D E broken why (inr memory) = inr memory
 
--- texts that ask for nothing, and want of memory
+-- texts that ask for nothing, and out of memory
 pub given_refused : (files : FileFacts) (Failed : Ahead → Type 0) (given : RunArgs) (Nothing Broke : Type 0) (why : Refusal) → RefusesGiven given why
     → RefusesToRun files Failed given Nothing Broke why
 given_refused files Failed given Nothing Broke Usage refused = inl (rw refused refl)

@@ -90,7 +90,7 @@ abbrev pub CutsVerdict : (PlayTask → Type 0) → (List ℕ → Type 0) → (Op
 CutsVerdict Asked Script Sent before after =
     (after ≡ before) ⊎ ((verdict : Verdict) × IsPlayVerdict Asked Script Sent verdict × Cuts before after (verdict_line verdict))
 
--- why what the texts of a command line ask for isn't run: usage where they ask for nothing, else a refusal of the work; or want of
+-- why what the texts of a command line ask for isn't run: usage where they ask for nothing, else a refusal of the work; or out of
 -- memory, which the busy times may meet while they are read; `Nothing`: nothing was made
 abbrev pub RefusesToRun : FileFacts → (Ahead → Type 0) → RunArgs → Type 0 → Type 0 → Refusal → Type 0
 RefusesToRun files Failed given Nothing Broke why =
