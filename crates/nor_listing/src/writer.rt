@@ -11,11 +11,9 @@ use itoa::Buffer;
 use nor_base::{ByteOut, Failed, Meaning, Start, Step, put_parts};
 
 /// Writes the listing of steps: the chip and its first address mode, a line for each step, and `end
-/// N` with their number. The mode is that of the start until an Enter (B7h) or Leave (E9h) that is
-/// sent. The steps may also be such as no script has. It takes no memory.
-///
-/// At `Failed` a proper prefix was taken; it comes only from the writer, whose count of failures
-/// rose by one.
+/// N` with their number. The mode is the start's until an Enter (B7h) or Leave (E9h) is sent. The
+/// steps may be such as no script has. Takes no memory. `Failed` comes only from the writer, which
+/// took a proper prefix.
 pub fn write_listing<W: ByteOut>(
     meaning: &Meaning,
     start: &Start,

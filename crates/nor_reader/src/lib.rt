@@ -19,4 +19,5 @@ pub use by::ReadBy;
 pub use id::read_id;
 pub use laws::twice_knows;
 pub use pass::{read_again, read_content};
+pub use switch::{ENTER, LEAVE, switch_mode};
 pub use tables::{TablesFault, read_tables};

@@ -9,18 +9,21 @@ ghost use Rattle.nor_reader.specs.Switched.{Operates};
 use nor_base::{ByteIn, ByteOut, Switch};
 use nor_serprog::{Fault, operate};
 
-/// Enter and exit four-byte address mode.
-pub(crate) const ENTER: u8 = 0xB7;
+/// Enter four-byte address mode.
+pub const ENTER: u8 = 0xB7;
 
-pub(crate) const LEAVE: u8 = 0xE9;
+/// Exit four-byte address mode.
+pub const LEAVE: u8 = 0xE9;
 
 /// Write enable and write disable.
 const ENABLE: u8 = 0x06;
 
 const DISABLE: u8 = 0x04;
 
-/// Has the device enter or leave four-byte mode.
-pub(crate) fn switch_mode<R: ByteIn, W: ByteOut>(
+/// Has the device send [`ENTER`] or [`LEAVE`] as the chip wants it: between a write enable and a
+/// write disable, or without them; nothing where it has no such switch. `Err` is the fault of the
+/// first exchange that ended early.
+pub fn switch_mode<R: ByteIn, W: ByteOut>(
     from: &mut R,
     to: &mut W,
     switch: Switch,

@@ -121,10 +121,8 @@ fn first_other(
     ensures before { IfErr found (λ _. result ≡ found) }
     ensures first { IfOk found (λ _. Compares got.now want.now start result) }
 {
-    match found {
-        Ok(()) => difference(got, want, start),
-        Err(why) => Err(why),
-    }
+    found?;
+    difference(got, want, start)
 }
 
 /// Whether bytes are those that are wanted, or the first that is another, its place counted from a

@@ -44,7 +44,7 @@ abbrev pub outputs_line : List Typed → List ℕ
 outputs_line typed =
     if are_same (value_of typed (codes "tables")) (value_of typed (codes "out")) then text.ONE_FILE.now else []
 
--- the rules on options that are broken, each with its text: of these pairs a command line has one at most
+-- the rules on options that are broken, each with its text
 abbrev pub rule_lines : CommandLine → List ℕ
 rule_lines line =
     concat (pair_line line.typed.now (codes "sfdp") (codes "uniform") text.CHIPS.now

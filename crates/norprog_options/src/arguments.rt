@@ -185,8 +185,8 @@ const LIMIT: Choice = Choice {
     name: "limit",
     takes: Takes::Value("N"),
     required: false,
-    help: "The most status reads of one poll, and of play and flash before the first step: a \
-        decimal number from 1 [default: 1000000]",
+    help: "The most status reads of one poll, and of play, read and flash until the chip is idle \
+        at first: a decimal number from 1 [default: 1000000]",
 };
 
 const PAGE: Choice = Choice {

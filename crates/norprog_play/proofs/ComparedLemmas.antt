@@ -7,11 +7,12 @@ use Rattle.std.proofs.lemmas.Grind.{flat_map-append}
 use Rattle.nor_base.specs.Device.{Ahead}
 use Rattle.nor_probe.specs.declared.difference.Mismatch.{Mismatch}
 use Rattle.nor_serprog.specs.declared.limits.Limits.{Limits}
+use Rattle.nor_loop.specs.Log.{HasLogged}
+use Rattle.nor_loop.proofs.DeviceLemmas.{logged_none, logged_both}
 use Rattle.norprog_play.specs.declared.access.Access.{Access}
 use Rattle.norprog_play.specs.Access.{read_ops}
-use Rattle.norprog_play.specs.Compared.{Range, LiesIn, LiesInOne, AreInOrder, IsOneSided, IsOneSidedPiece, range_ops, HasOperated, HasComparedTo, HasCompared, ReadsRange, StopsComparing}
+use Rattle.norprog_play.specs.Compared.{Range, LiesIn, LiesInOne, AreInOrder, IsOneSided, IsOneSidedPiece, range_ops, HasComparedTo, HasCompared, ReadsRange, StopsComparing}
 use Rattle.nor_cells.specs.Marks.{IsMarked, IsNextMarked, AreMarkedFrom}
-use Rattle.norprog_play.proofs.PieceLemmas.{none_operated, operated_then}
 
 -- one range more
 in_one_more : (rs : List Range) (r : Range) (a : ℕ) → LiesInOne (rs ++ r ∷ []) a → LiesInOne rs a ⊎ LiesIn r a
@@ -45,7 +46,7 @@ none_read held a limits access content Wanted = record {
   ranges = [];
   in_order = omega arith;
   just = λ k. ((λ h. absurd h), (λ h. absurd (omega (arith, h.0))));
-  read = none_operated held a;
+  read = logged_none held a;
 }
 
 -- where no address up to a higher one is wanted
@@ -68,7 +69,7 @@ reaches held held' a b limits access content Wanted high higher more none so_far
 pub reads_more : (held held' held'' : Option (List ℕ)) (a b c : Ahead) (limits : Limits) (access : Access) (content : List ℕ) (Wanted : ℕ → Type 0) (r : Range) → 0 < r.len → r.len ≤ limits.asked
     → IsOneSided r
     → ((k : ℕ) → r.start ≤ k → k < r.start + r.len → Wanted k) → HasComparedTo held held' a b limits access content Wanted r.start
-    → HasOperated held' held'' b c (range_ops access content r) → HasComparedTo held held'' a c limits access content Wanted (r.start + r.len)
+    → HasLogged held' held'' b c (range_ops access content r) → HasComparedTo held held'' a c limits access content Wanted (r.start + r.len)
 reads_more held held' held'' a b c limits access content Wanted r some few sided wanted so_far read =
     let ops : flat_map (range_ops access content) (so_far.ranges ++ r ∷ []) ≡ flat_map (range_ops access content) so_far.ranges ++ range_ops access content r =
     flat_map-append (range_ops access content) so_far.ranges (r ∷ []) ∙ ap (λ l. flat_map (range_ops access content) so_far.ranges ++ l) (append-nil (range_ops access content r)) in
@@ -85,7 +86,7 @@ reads_more held held' held'' a b c limits access content Wanted r some few sided
           | inr past ↦ in_one_last so_far.ranges r k (past, h.0)
         ]),
       );
-      read = subst (HasOperated held held'' a c) (sym ops) (operated_then held held' held'' a b c _ _ so_far.read read);
+      read = subst (HasLogged held held'' a c) (sym ops) (logged_both held held' held'' a b c _ _ so_far.read read);
     }
 
 abbrev piece_of : ℕ → ℕ → Range
@@ -94,13 +95,13 @@ piece_of start len = record { start = start; len = len }
 -- the next piece of marked addresses
 pub piece_more : (held held' held'' : Option (List ℕ)) (a b c : Ahead) (limits : Limits) (access : Access) (content piece : List ℕ) (marks : List Bool) (done start upto len : ℕ)
     → start + len ≤ length content → piece ≡ slice_range content start (start + len) → IsNextMarked marks done start → AreMarkedFrom marks start limits.asked upto → 0 < len → len ≤ upto
-    → IsOneSidedPiece start len → HasComparedTo held held' a b limits access content (IsMarked marks) done → HasOperated held' held'' b c (read_ops access start piece)
+    → IsOneSidedPiece start len → HasComparedTo held held' a b limits access content (IsMarked marks) done → HasLogged held' held'' b c (read_ops access start piece)
     → HasComparedTo held held'' a c limits access content (IsMarked marks) (start + len)
 piece_more held held' held'' a b c limits access content piece marks done start upto len within is next from some few sided so_far read =
     reads_more held held' held'' a b c limits access content (IsMarked marks) (piece_of start len) some (omega (arith, few, from.few)) sided
     (λ k past below. from.each k past (omega (arith, below, few)))
     (reaches held held' a b limits access content (IsMarked marks) done start next.past next.none_before so_far)
-    (subst (λ (l : List ℕ). HasOperated held' held'' b c (read_ops access start l)) is read)
+    (subst (λ (l : List ℕ). HasLogged held' held'' b c (read_ops access start l)) is read)
 
 -- its read ended so
 pub piece_stopped : (held held' held'' : Option (List ℕ)) (a b c : Ahead) (limits : Limits) (access : Access) (content piece : List ℕ) (marks : List Bool) (done start upto len : ℕ) (why : Mismatch)

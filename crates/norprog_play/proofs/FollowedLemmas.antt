@@ -1,17 +1,15 @@
 -- Steps done one after the other.
-use Rattle.std.proofs.Common.{◌≡◌, ℕ, ◌+◌, ◌<◌, ◌≤◌, List, [], ◌∷◌, ◌++◌, take, drop, length, get_or, Ok, refl, sym, ◌∙◌, ap, subst}
-use Rattle.std.proofs.lemmas.List.{drop_all, take_all}
+use Rattle.std.proofs.Common.{◌≡◌, ℕ, ◌+◌, ◌<◌, ◌≤◌, List, [], ◌∷◌, ◌++◌, drop, length, get_or, Ok, refl, sym, ◌∙◌, ap, subst}
+use Rattle.std.proofs.lemmas.List.{drop_all}
 use Rattle.nor_base.specs.declared.step.Step.{Step}
-use Rattle.nor_base.specs.Chip.{Setting, Chip}
-use Rattle.nor_base.specs.Effect.{effect}
+use Rattle.nor_base.specs.Chip.{Chip}
 use Rattle.nor_base.specs.Port.{Shown}
 use Rattle.nor_base.specs.Run.{played}
 use Rattle.nor_serprog.specs.declared.limits.Limits.{Limits}
 use Rattle.norprog_play.specs.Moment.{Moment, IsTaken, Does, DoesAll}
 use Rattle.norprog_play.proofs.TakenLemmas.{goes_on, nothing_more}
-use Rattle.nor_base.proofs.ListLaws.{one_taken, first_left}
+use Rattle.nor_base.proofs.ListLaws.{first_left}
 use Rattle.nor_base.specs.Step.{step_clocks}
-use Rattle.nor_base.proofs.OutcomeLaws.{ok_is}
 
 -- one step more
 pub does_more : (limits : Limits) (turns : ℕ) (a b c : Moment) (xs : List Step) (x : Step) → DoesAll limits turns a xs b → Does limits turns b (step_clocks x) c
@@ -23,11 +21,6 @@ does_more limits turns a b c (y ∷ ys) x all one = (all.0, all.1, does_more lim
 pub bounded : (limits limits' : Limits) (turns turns' : ℕ) (b c : Moment) (clocks : List ℕ) → limits' ≡ limits → turns' ≡ turns → Does limits' turns' b clocks c → Does limits turns b clocks c
 bounded limits limits' turns turns' b c clocks same as_many one =
     subst (λ (l : Limits). Does l turns b clocks c) same (subst (λ n. Does limits' n b clocks c) as_many one)
-
-pub does_next : (limits : Limits) (turns : ℕ) (a b c : Moment) (steps : List Step) (at : ℕ) (x : Step) → at < length steps → x ≡ get_or steps at x
-    → DoesAll limits turns a (take at steps) b → Does limits turns b (step_clocks x) c → DoesAll limits turns a (take (at + 1) steps) c
-does_next limits turns a b c steps at x within is all one =
-    subst (λ (l : List Step). DoesAll limits turns a l c) (sym (one_taken steps at x within is)) (does_more limits turns a b c (take at steps) x all one)
 
 -- what is left of a run that goes well goes well from here
 abbrev pub GoesOn : Shown → List Step → Shown → List Step → Type 0
@@ -43,17 +36,6 @@ takes_next before now steps at x within is goes on =
     (subst (λ (l : List Step). played now.setting 1 now.chip l ≡ Ok goes.0) (first_left steps at x is within) (on goes.0 goes.1)) in
     (next.0, next.1.0, next.1.1)
 
--- after a step what is left goes well
-pub goes_next : (limits : Limits) (turns : ℕ) (before : Shown) (b c : Moment) (steps : List Step) (at : ℕ) (x : Step) → at < length steps → x ≡ get_or steps at x
-    → GoesOn before steps b.shown (drop at steps) → Does limits turns b (step_clocks x) c → GoesOn before steps c.shown (drop (at + 1) steps)
-goes_next limits turns before b c steps at x within is on one d goes =
-    let next = goes_on b.shown.setting b.shown.chip d x (drop (at + 1) steps)
-    (subst (λ (l : List Step). played b.shown.setting 1 b.shown.chip l ≡ Ok d) (first_left steps at x is within) (on d goes)) in
-    let same : (next.0, next.1.0) ≡ (c.shown.chip, one.given) = ok_is (next.0, next.1.0) (c.shown.chip, one.given) (effect b.shown.setting b.shown.chip (step_clocks x)) next.1.1 one.chip.0 in
-    let chip : next.0 ≡ c.shown.chip = ap (λ (p : Chip × List ℕ). p.0) same in
-    subst (λ (s : Setting). played s 1 c.shown.chip (drop (at + 1) steps) ≡ Ok d) (sym one.chip.1)
-    (subst (λ (e : Chip). played b.shown.setting 1 e (drop (at + 1) steps) ≡ Ok d) chip next.2)
-
 -- at the end nothing is left
 pub goes_to_end : (before now : Shown) (steps : List Step) (at : ℕ) → length steps ≤ at → Goes before steps → GoesOn before steps now (drop at steps)
     → played before.setting 1 before.chip steps ≡ Ok now.chip
@@ -61,6 +43,3 @@ goes_to_end before now steps at all goes on =
     let last = nothing_more now.setting now.chip goes.0
     (subst (λ (l : List Step). played now.setting 1 now.chip l ≡ Ok goes.0) (drop_all at steps all) (on goes.0 goes.1)) in
     goes.1 ∙ ap (λ (c : Chip). Ok c) (sym last)
-
-pub does_to_end : (limits : Limits) (turns : ℕ) (a b : Moment) (steps : List Step) (at : ℕ) → length steps ≤ at → DoesAll limits turns a (take at steps) b → DoesAll limits turns a steps b
-does_to_end limits turns a b steps at all does = subst (λ (l : List Step). DoesAll limits turns a l b) (take_all at steps all) does

@@ -102,11 +102,6 @@ unlike_since limits later access content old new reached after why same marked i
 pub as_cells : (P : ℕ → Type 0) (marks : List Bool) (long size : ℕ) → AreMarks P (size / 256) marks → long ≡ size → size % 4096 ≡ 0 → long ≡ 256 * length marks
 as_cells P marks long size are same whole = omega (arith, are.as_many, same, whole)
 
--- a comparison leaves the chip in memory as it was
-pub compares_keep : (limits : Limits) (trusted : Bool) (access : Access) (Wanted : ℕ → Type 0) (before after : Moment) → Compares limits trusted access Wanted before after → after.shown ≡ before.shown
-compares_keep limits true access Wanted before after same = ap (λ (m : Moment). m.shown) same
-compares_keep limits false access Wanted before after like = like.shown
-
 -- what was asked before it too
 identified_keep : (x : Expectation) (limits : Limits) (turns : ℕ) (before after : Moment) → IsIdentified x limits turns before after → after.shown ≡ before.shown
 identified_keep x limits turns before after is = is.tables.shown ∙ is.suited.asked.shown

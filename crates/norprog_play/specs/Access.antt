@@ -1,13 +1,13 @@
 -- By which instructions a chip is read (W25Q256JV datasheet: Read Data 03h, Read Data with 4-Byte Address 13h, Enter and Exit 4-Byte
 -- Address Mode B7h and E9h).
-use Rattle.std.specs.Prelude.{ℕ, Bool, false, ◌/◌, ◌%◌, ◌^◌, ◌&&◌, nat_lt, if◌then◌else◌, List, [], ◌∷◌, ◌++◌, length}
+use Rattle.std.specs.Prelude.{ℕ, Bool, false, ◌^◌, ◌&&◌, nat_lt, if◌then◌else◌, List, [], ◌∷◌, ◌++◌}
 use Rattle.nor_base.specs.declared.meaning.Start.{Start}
-use Rattle.nor_base.specs.declared.meaning.Switch.{Switch}
-use Rattle.nor_base.specs.declared.meaning.Switch.TheVariants.{Absent, Plain, Latched}
 use Rattle.nor_base.specs.Chip.{begins4}
+use Rattle.nor_base.specs.Clocks.{address_bytes}
 use Rattle.nor_base.specs.Instructions.{is_there}
 use Rattle.nor_base.specs.Parameters.{Parameters}
-use Rattle.nor_serprog.specs.Protocol.{request, answer}
+use Rattle.nor_loop.specs.Log.{Operation}
+use Rattle.nor_loop.specs.Reads.{switch_ops}
 use Rattle.norprog_play.specs.declared.access.Access.{Access}
 use Rattle.norprog_play.specs.declared.access.Access.TheVariants.{Four, Dedicated, Entered, Near}
 
@@ -17,34 +17,12 @@ access_of m start =
     if begins4 m start then Four
     else (if m.read4 then Dedicated else (if is_there m.enter && is_there m.leave then Entered m.enter m.leave else Near))
 
--- one operation of a device: the bytes that it sends to its chip, and those that the chip gives
-pub record Operation : Type 0 where
-  pub sent : List ℕ
-  pub got : List ℕ
-
--- its request, and the device's answer to it
-abbrev pub asked : Operation → List ℕ
-asked o = request o.sent (length o.got)
-
-abbrev pub given : Operation → List ℕ
-given o = answer o.got
-
--- an opcode without more
-abbrev pub bare : ℕ → Operation
-bare op = record { sent = op ∷ []; got = [] }
-
--- how four-byte mode is entered or left: where the chip asks for a write enable one is sent before, and the latch is cleared after it
-abbrev pub switch_ops : Switch → ℕ → List Operation
-switch_ops Absent op = []
-switch_ops Plain op = bare op ∷ []
-switch_ops Latched op = bare 0x06 ∷ bare op ∷ bare 0x04 ∷ []
-
 -- an opcode and an address in three bytes, and in four
 abbrev pub three_bytes : ℕ → ℕ → List ℕ
-three_bytes opcode address = opcode ∷ address / 65536 % 256 ∷ address / 256 % 256 ∷ address % 256 ∷ []
+three_bytes opcode address = opcode ∷ address_bytes 3 address
 
 abbrev pub four_bytes : ℕ → ℕ → List ℕ
-four_bytes opcode address = opcode ∷ address / 16777216 % 256 ∷ address / 65536 % 256 ∷ address / 256 % 256 ∷ address % 256 ∷ []
+four_bytes opcode address = opcode ∷ address_bytes 4 address
 
 -- such a read of bytes
 abbrev pub reading : List ℕ → List ℕ → Operation

@@ -7,16 +7,17 @@ use Rattle.nor_probe.specs.declared.difference.Mismatch.{Mismatch}
 use Rattle.nor_probe.specs.declared.difference.Mismatch.TheVariants.{Exchange, Differs}
 use Rattle.nor_serprog.specs.declared.fault.Fault.{Fault}
 use Rattle.nor_serprog.specs.declared.limits.Limits.{Limits}
-use Rattle.nor_serprog.specs.Exchange.{Talked, Answers, Asks, IsOther}
+use Rattle.nor_serprog.specs.Exchange.{Answers, Asks, IsOther}
+use Rattle.nor_serprog.specs.Protocol.{request}
+use Rattle.nor_loop.specs.Log.{Operation, HasLogged}
 use Rattle.norprog_play.specs.declared.access.Access.{Access}
-use Rattle.norprog_play.specs.Access.{Operation, asked, given, reading, read_ops}
+use Rattle.norprog_play.specs.Access.{reading, read_ops}
 
--- the device was asked for these operations, one after the other, and did them
-abbrev pub HasOperated : Option (List ℕ) → Option (List ℕ) → Ahead → Ahead → List Operation → Type 0
-HasOperated held_before held_after ahead_before ahead_after ops =
-    Talked held_before held_after ahead_before ahead_after (flat_map asked ops) (flat_map given ops)
+-- the request of an operation
+abbrev pub asked : Operation → List ℕ
+asked o = request o.sent (length o.got)
 
--- of these it was asked for some, each with as many bytes, and did them, and the next ended so in its exchange
+-- of these operations the device was asked for some, each with as many bytes, and did them, and the next ended so in its exchange
 pub record StopsOperating (held_before held_after : Option (List ℕ)) (ahead_before ahead_after : Ahead) (ops : List Operation) (why : Fault) : Type 0 where
   pub front : List Operation
   pub last : Operation
@@ -24,15 +25,10 @@ pub record StopsOperating (held_before held_after : Option (List ℕ)) (ahead_be
   pub those : flat_map asked ops ≡ flat_map asked (front ++ last ∷ rest)
   pub held : Option (List ℕ)
   pub ahead : Ahead
-  pub done : HasOperated held_before held ahead_before ahead front
+  pub done : HasLogged held_before held ahead_before ahead front
   pub got : List ℕ
   pub as_many : length got ≡ length last.got
   pub stop : Asks held held_after ahead ahead_after (Err why) (asked last) (Answers ahead ahead_after (Err why) got)
-
--- what such operations say
-abbrev pub Operates : Option (List ℕ) → Option (List ℕ) → Ahead → Ahead → Result (Unit {0}) Fault → List Operation → Type 0
-Operates held_before held_after ahead_before ahead_after (Ok u) ops = HasOperated held_before held_after ahead_before ahead_after ops
-Operates held_before held_after ahead_before ahead_after (Err why) ops = StopsOperating held_before held_after ahead_before ahead_after ops why
 
 -- so many addresses from one on
 pub record Range : Type 0 where
@@ -70,7 +66,7 @@ range_ops access content r = read_ops access r.start (bytes_in content r)
 -- the device was asked for just these ranges, one after the other, and gave just what the content has there
 abbrev pub HasRead : Option (List ℕ) → Option (List ℕ) → Ahead → Ahead → Access → List ℕ → List Range → Type 0
 HasRead held_before held_after ahead_before ahead_after access content ranges =
-    HasOperated held_before held_after ahead_before ahead_after (flat_map (range_ops access content) ranges)
+    HasLogged held_before held_after ahead_before ahead_after (flat_map (range_ops access content) ranges)
 
 -- these ranges hold just the addresses below one that were to be compared, each no more than the device gives at once
 pub record HasComparedTo (held_before held_after : Option (List ℕ)) (ahead_before ahead_after : Ahead) (limits : Limits) (access : Access)
@@ -96,11 +92,11 @@ pub record IsFirstOther (got want : List ℕ) (start : ℕ) (d : Difference) : T
 -- what operations say of bytes that are wanted, by the operations that would read other bytes: they were done, and gave these; or gave
 -- others; or one ended in its exchange
 abbrev pub ReadsOps : Option (List ℕ) → Option (List ℕ) → Ahead → Ahead → Result (Unit {0}) Mismatch → (List ℕ → List Operation) → ℕ → List ℕ → Type 0
-ReadsOps held_before held_after ahead_before ahead_after (Ok u) ops start want = HasOperated held_before held_after ahead_before ahead_after (ops want)
+ReadsOps held_before held_after ahead_before ahead_after (Ok u) ops start want = HasLogged held_before held_after ahead_before ahead_after (ops want)
 ReadsOps held_before held_after ahead_before ahead_after (Err (Exchange why)) ops start want =
     StopsOperating held_before held_after ahead_before ahead_after (ops want) why
 ReadsOps held_before held_after ahead_before ahead_after (Err (Differs d)) ops start want =
-    (got : List ℕ) × HasOperated held_before held_after ahead_before ahead_after (ops got) × IsFirstOther got want start d
+    (got : List ℕ) × HasLogged held_before held_after ahead_before ahead_after (ops got) × IsFirstOther got want start d
 
 -- of a read by an opcode and an address
 abbrev pub ReadsBy : Option (List ℕ) → Option (List ℕ) → Ahead → Ahead → Result (Unit {0}) Mismatch → List ℕ → ℕ → List ℕ → Type 0

@@ -33,8 +33,8 @@ use std::alloc::Global;
 
 /// Does what the texts of a command line of `play` ask for (docs/FORMATS.md, section 14): on the
 /// chip in memory, then on that of the device. The ending's line goes to `out`; a refusal, and what
-/// to do with the chip, to `err`; how far it is to `progress`. Returns 0 where all was done, 1
-/// where not, 2 for usage.
+/// to do with the chip, to `err`; the progress to `progress`. Returns 0 where all was done, 1 where
+/// not, 2 for usage.
 pub fn play<S: FileStore, O: ByteOut, E: ByteOut, P: ByteOut>(
     alloc: Global,
     store: &S,

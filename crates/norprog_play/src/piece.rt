@@ -1,18 +1,18 @@
 //! One piece of what the chip behind a device holds, compared with bytes.
 
-ghost use Rattle.std.specs.Prelude.{◌≡◌, ◌<◌, ◌+◌, ◌-◌, ◌^◌, ◌∷◌, [], length};
+ghost use Rattle.std.specs.Prelude.{◌≡◌, ◌<◌, ◌+◌, ◌-◌, ◌^◌, length};
 ghost use Rattle.nor_base.specs.Device.{HaveRoom};
 ghost use Rattle.nor_probe.specs.Compared.{CountsMismatch};
 ghost use Rattle.nor_serprog.specs.declared.fault.Fault.TheVariants.{Read, Write};
-ghost use Rattle.nor_serprog.specs.Exchange.{CountsReads, CountsWrites};
-ghost use Rattle.norprog_play.specs.Access.{bare, far_ops, four_bytes, is_near, switch_ops};
-ghost use Rattle.norprog_play.specs.Compared.{Operates, ReadsBy, ReadsOps, ReadsRange};
+ghost use Rattle.norprog_play.specs.Access.{far_ops, four_bytes, is_near};
+ghost use Rattle.norprog_play.specs.Compared.{ReadsBy, ReadsOps, ReadsRange};
 ghost use Rattle.norprog_play.specs.declared.access.Access.TheVariants.{Entered};
 
 use crate::access::Access;
 use nor_base::{ByteIn, ByteOut, Switch};
 use nor_probe::{Difference, Mismatch};
-use nor_serprog::{Fault, Reason, operate, operate_with};
+use nor_reader::{ENTER, LEAVE, switch_mode};
+use nor_serprog::{Reason, operate_with};
 
 /// The first address that three bytes don't reach.
 pub(crate) const FAR: u32 = 1 << 24;
@@ -22,16 +22,6 @@ const READ: u8 = 0x03;
 
 /// Read data with four address bytes.
 const READ4: u8 = 0x13;
-
-/// Enter and exit four-byte address mode.
-const ENTER: u8 = 0xB7;
-
-const LEAVE: u8 = 0xE9;
-
-/// Write enable and write disable.
-const ENABLE: u8 = 0x06;
-
-const DISABLE: u8 = 0x04;
 
 /// Has the device read as many bytes as a piece has, from an address on, and compares them with it.
 pub(crate) fn compare_piece<R: ByteIn, W: ByteOut>(
@@ -181,39 +171,4 @@ fn read_by<R: ByteIn, W: ByteOut>(
         })),
         Err(Reason::Busy) | Err(Reason::Carried) => unreachable!("nothing is waited for"),
     }
-}
-
-/// Has the device enter or leave four-byte mode.
-fn switch_mode<R: ByteIn, W: ByteOut>(
-    from: &mut R,
-    to: &mut W,
-    switch: Switch,
-    opcode: u8,
-) -> Result<(), Fault>
-    requires room { HaveRoom (R.count from.old) (W.count to.old) }
-    ensures switches { Operates (W.held to.old) (W.held to.new) (R.ahead from.old)
-        (R.ahead from.new) result (switch_ops switch opcode) }
-    ensures counts { CountsReads (R.count from.old) (R.count from.new) result
-        × CountsWrites (W.count to.old) (W.count to.new) result }
-{
-    match switch {
-        Switch::Absent => Ok(()),
-        Switch::Plain => send(from, to, opcode),
-        Switch::Latched => {
-            send(from, to, ENABLE)?;
-            send(from, to, opcode)?;
-            send(from, to, DISABLE)
-        }
-    }
-}
-
-/// Has the device send an opcode and nothing else.
-fn send<R: ByteIn, W: ByteOut>(from: &mut R, to: &mut W, opcode: u8) -> Result<(), Fault>
-    requires room { HaveRoom (R.count from.old) (W.count to.old) }
-    ensures sends { Operates (W.held to.old) (W.held to.new) (R.ahead from.old) (R.ahead from.new)
-        result (bare opcode ∷ []) }
-    ensures counts { CountsReads (R.count from.old) (R.count from.new) result
-        × CountsWrites (W.count to.old) (W.count to.new) result }
-{
-    operate(from, to, &[opcode], &mut [])
 }

@@ -277,10 +277,10 @@ fn check_file(ask: &Ask<'_>) -> Result<(), Unread>
 {
     match ask.known {
         Known::Own | Known::Uniform(_) => Ok(()),
-        Known::Tables(file) => match meaning_of(ask, file) {
-            Ok(_) => Ok(()),
-            Err(why) => Err(why),
-        },
+        Known::Tables(file) => {
+            meaning_of(ask, file)?;
+            Ok(())
+        }
     }
 }
 

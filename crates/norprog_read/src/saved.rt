@@ -8,11 +8,11 @@ use nor_base::put_all;
 use norprog_common::{FileName, FileStore, Refusal};
 use std::alloc::Global;
 
-/// Makes a file where none of that name is there, and writes bytes to it and has them go out. No
-/// other file is made or emptied.
+/// Makes a new file, writes bytes to it and has them go out. No other file is made or emptied.
 ///
-/// `File` of `name` where there is one, or where it can't be made; `WRITE` only where the file
-/// failed, or where some of the bytes may not have gone out; `Memory` where a growth is refused.
+/// `File` of `name` where one of that path is there, or where it can't be made; `WRITE` only where
+/// the file failed, or where some of the bytes may not have gone out; `Memory` where a growth is
+/// refused.
 pub fn save<S: FileStore>(
     alloc: Global,
     store: &S,

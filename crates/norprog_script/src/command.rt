@@ -23,10 +23,10 @@ use norprog_common::{
 };
 use std::alloc::Global;
 
-/// Writes the script of the log on a command line into the file that it names, which is made as
-/// none of those that are read. The log is a listing where something is said of a chip. It prints
-/// to `out` how many steps there are, and how many were left out; or a refusal to `err`
-/// (docs/FORMATS.md, section 9). It returns the status: 0 done, 1 refused, 2 usage.
+/// Writes the script of a command line's log into the file that it names, which is none of those
+/// that are read. The log is a listing where something is said of a chip. Prints to `out` how many
+/// steps there are and were left out, a refusal to `err` (docs/FORMATS.md, section 9). Returns 0
+/// done, 1 refused, 2 usage.
 pub fn script<S: FileStore, O: ByteOut, E: ByteOut>(
     alloc: Global,
     store: &S,

@@ -15,12 +15,10 @@ use norprog_common::Refusal;
 use std::alloc::Global;
 
 /// Writes the script of a log's lines, in order, and returns how many steps it has.
-/// `without_identity` leaves out reads of an identification or a register. Memory is taken for the
-/// steps.
+/// `without_identity` leaves out reads of an identification or a register.
 ///
-/// `Log` has the number of the first line that is none of a log's; `Write` where `out` fails, which
-/// has taken a proper prefix of the script then. `Memory` comes where a growth is refused. All but
-/// `Write` leave `out` as it was.
+/// `Log` has the number of the first line that is none of a log's; `Write` comes where `out` fails,
+/// which took a proper prefix of the script; `Memory` where a growth is refused.
 pub fn script_log<W: ByteOut>(
     alloc: Global,
     text: &[u8],

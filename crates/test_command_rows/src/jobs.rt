@@ -30,16 +30,15 @@ struct Words<'a> {
     chip: &'a str,
     /// Of the image and where it goes: `run` doesn't have them.
     image: &'a str,
-    /// Of how the script is written: `build` and `plan` alone have them.
+    /// Of how the script is written: only `build` and `plan` have them.
     script: &'a str,
 }
 
-/// Does a job, whose image is the lines that are handed over and the end record. Its words are of
-/// the chip; behind `|` of the image; and behind another `|` of the script.
+/// Does a job, whose image is the lines handed over and the end record. Its words are of the chip,
+/// `|`, of the image, `|`, of the script.
 ///
-/// Found is the report in one line; the script in short; what `check` says of the script, and of
-/// one that does nothing; and how often `run` played the script well, with what each time has
-/// changed in the content. What `plan` prints is found too where its report is another one.
+/// Found is the report; the script; what `check` says of it, and of one that does nothing; how
+/// often `run` played it well, and what changed; another report of `plan`.
 pub(crate) fn job(
     rt: &HostRuntime,
     words: &str,

@@ -4,12 +4,11 @@ use crate::commands::command;
 use std::alloc::AllocError;
 use std::io;
 
-/// Does a command with each set of causes, of which the first is to be told: the words are its line
-/// without these causes.
+/// Does a command, whose words have no cause, with each set of causes: it reports the first.
 ///
-/// Each line that is handed over is a cause, in the order of looking, in three parts with `|`
-/// between them: the refusal that tells it, the words that are given without it, and those with it.
-/// Found is for how many sets that is reported, and what is answered in another's place.
+/// Each line that is handed over is a cause, in the order of looking: its refusal `|` the words
+/// without it `|` those with it. Found is for how many sets it is reported, and what comes in place
+/// of others.
 pub(crate) fn order(
     rt: &HostRuntime,
     words: &str,

@@ -1,16 +1,15 @@
-//! Scripts in short: their bytes as hexadecimal digits.
+//! Scripts in short. A step is the bytes that are sent, as hexadecimal digits, or `.`, a poll of
+//! the status; `HEAD/DATA` has the data on four lanes; `HEAD?BYTES` is a read that expects these
+//! bytes, and `HEAD!BYTES` one on four lanes after eight dummy clocks. Any other line stands in
+//! brackets as it is; ` cut` says that no line feed ends the text.
 
 use std::alloc::AllocError;
 
 /// The clocks of a poll of the status.
 const POLL: &str = "p 00000101........";
 
-/// Pushes a script as one line: `script`, then each step, and the end line.
-///
-/// A step is the bytes that are sent, or `.`, a poll of the status; `HEAD/DATA` has the data on
-/// four lanes; `HEAD?BYTES` is a read that expects these bytes, and `HEAD!BYTES` one on four lanes
-/// after eight dummy clocks. Any other line stands in brackets as it is; ` cut` says that no line
-/// feed ends the text. Of an empty text nothing is pushed.
+/// Pushes a script as one line: `script`, then each step, and the end line; of an empty text
+/// nothing.
 pub(crate) fn script_line(text: &str, found: &mut String) -> Result<(), AllocError> {
     if text.is_empty() {
         return Ok(());

@@ -97,9 +97,9 @@ pub(crate) const TOPICS: &[Topic] = &[
         "plan 2",
         "The byte at this address must change, but norprog can't reach past the chip's\n\
          first 16 MiB: the tables name neither four-byte opcodes nor a way to enter and\n\
-         leave four-byte mode. If the chip is in that mode already, give --mode4: so\n\
-         norprog serves an MX25L25635F that flashrom left in four-byte mode. Else choose\n\
-         regions below 16 MiB. The output holds no script.",
+         leave four-byte mode. If the chip is in that mode already, give --mode4: so a\n\
+         script, though not flash, serves an MX25L25635F that flashrom left in four-byte\n\
+         mode. Else choose regions below 16 MiB. The output holds no script.",
     ),
     (
         "plan",
