@@ -1,12 +1,13 @@
 //! Checks where memory is refused.
 
-use crate::ports::{BLANK, PLAIN};
+use crate::ports::PLAIN;
 use crate::same::holds;
 use nor_base::Step;
 use nor_check::{CheckFault, StepChecker, Verdict, check};
 use nor_script::read;
 use std::alloc::Global;
 use std::process::Abort;
+use test_devices::BLANK;
 use test_samples::small_chip;
 use test_samples::texts::ONE_BYTE;
 

@@ -8,6 +8,7 @@ use nor_chip::{Chip, Port};
 use std::alloc::{AllocError, Global};
 use std::process::Abort;
 use std::test::Fail;
+use test_devices::BLANK;
 use test_samples::small_chip;
 
 /// In three-byte mode, without the quad setting.
@@ -15,9 +16,6 @@ pub(crate) const PLAIN: Start = Start {
     mode4: false,
     quad: false,
 };
-
-/// What an empty chip of 8 KiB holds.
-pub(crate) static BLANK: [u8; 8192] = [0xFF; 8192];
 
 /// A port over a chip that is unplugged after so many transactions.
 #[derive(Drop)]

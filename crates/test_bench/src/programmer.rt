@@ -3,7 +3,7 @@
 
 ghost use Rattle.std.specs.Prelude.{◌<◌, ◌≤◌, length, IfOk};
 
-use crate::serprog::memory::Memory;
+use crate::memory::Memory;
 use std::alloc::{AllocError, Global};
 use std::cell::Cell;
 use std::io;

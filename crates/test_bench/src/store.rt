@@ -3,12 +3,12 @@
 ghost use Rattle.std.specs.Prelude.{◌≤◌, ◌^◌, length, IfOk, IfErr};
 ghost use Rattle.norprog_common.specs.Files.{RefusesFile, IsOfFiles};
 
-use crate::serprog::canned::{Canned, End};
 use nor_base::{Failed, FromRead, IntoWrite};
 use norprog_common::{FileId, FileName, FileStore, Refusal, ScriptFile, Unlisted, Unrecorded};
 use std::alloc::Global;
 use std::cell::Cell;
 use std::io;
+use test_devices::{Canned, End};
 
 /// A file of more bytes isn't read whole.
 const MOST_BYTES: u64 = 1 << 36;

@@ -1,10 +1,9 @@
 //! Terminals that don't hand on each byte as it comes.
 
+use crate::line::{ANSWERS, joined};
 use crate::same::{holds, same};
-use crate::serprog::canned::{End, Held};
-use crate::serprog::line::{ANSWERS, joined};
-use crate::serprog::scripts::{GREETING, MANY};
-use crate::serprog::store::Store;
+use crate::scripts::{GREETING, MANY};
+use crate::store::Store;
 use nor_base::IntoWrite;
 use norprog_common::{ChipArgs, ReadArgs, Unlisted, Unrecorded};
 use norprog_read::read;
@@ -12,6 +11,7 @@ use std::alloc::{AllocError, Global};
 use std::cell::Cell;
 use std::process::Abort;
 use std::test::Fail;
+use test_devices::{End, Held};
 
 /// The first bytes of a chip of 8 KiB, and FFh after them in its low half.
 const FRONT: &[u8] = b"\r\n";

@@ -1,11 +1,11 @@
 //! Operations, and which clocks are one.
 
 use crate::same::{holds, same};
-use crate::serprog::canned::{Canned, End, Held};
 use nor_base::{FromRead, IntoWrite};
 use nor_serprog::{Limits, is_carried, operate};
 use std::alloc::Global;
 use std::process::Abort;
+use test_devices::{Canned, End, Held};
 
 /// Ten bytes out and two in at most.
 const LIMITS: Limits = Limits {

@@ -1,10 +1,8 @@
 //! The command that goes on with work that stopped, as a shell reads it.
 
-use crate::ports::BLANK;
+use crate::flashes::stopped_answers;
 use crate::same::{holds, same};
-use crate::serprog::canned::{End, Held};
-use crate::serprog::flashes::stopped_answers;
-use crate::serprog::store::Store;
+use crate::store::Store;
 use nor_base::{Bytes, IntoWrite};
 use norprog_common::{ChipArgs, Unlisted, Unrecorded};
 use norprog_flash::{FlashArgs, flash};
@@ -12,6 +10,7 @@ use std::alloc::{AllocError, Global};
 use std::cell::Cell;
 use std::process::Abort;
 use std::test::Fail;
+use test_devices::{BLANK, End, Held};
 use test_samples::texts::IMAGE;
 
 /// A layout with a region whose name has to be quoted, and one whose name hasn't.

@@ -1,12 +1,12 @@
 //! The test of the line to a device in memory.
 
 use crate::same::{holds, same};
-use crate::serprog::canned::{Canned, End, Held};
 use nor_base::{FromRead, IntoWrite};
 use nor_serprog::{Fault, Limits, test_line};
 use std::alloc::{AllocError, Global};
 use std::process::Abort;
 use std::test::Fail;
+use test_devices::{Canned, End, Held};
 
 /// The values from 00h to 7Fh.
 const LOW: &[u8] = b"\x00\x01\x02\x03\x04\x05\x06\x07\x08\x09\x0a\x0b\x0c\x0d\x0e\x0f\

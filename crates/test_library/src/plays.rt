@@ -1,8 +1,6 @@
 //! Scripts played on devices in memory.
 
-use crate::ports::BLANK;
 use crate::same::{holds, same};
-use crate::serprog::canned::{Canned, End, Held};
 use nor_base::{FromRead, IntoWrite, PortFault, Start, Step, Width, Wrong};
 use nor_chip::{Chip, Port};
 use nor_play::{PlayFault, play};
@@ -11,6 +9,7 @@ use nor_serprog::{Fault, Limits, Reason, Shadowed};
 use std::alloc::Global;
 use std::process::Abort;
 use std::test::Fail;
+use test_devices::{BLANK, Canned, End, Held};
 use test_samples::small_chip;
 use test_samples::texts::ONE_BYTE;
 

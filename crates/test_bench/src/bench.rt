@@ -2,15 +2,15 @@
 
 ghost use Rattle.std.specs.Prelude.{◌≡◌, true};
 
-use crate::serprog::canned::{End, Held};
-use crate::serprog::memory::Memory;
-use crate::serprog::programmer::{Fault, FromProgrammer, Programmer, ToProgrammer};
-use crate::serprog::store::Store;
+use crate::memory::Memory;
+use crate::programmer::{Fault, FromProgrammer, Programmer, ToProgrammer};
+use crate::store::Store;
 use nor_base::{FromRead, IntoWrite};
 use norprog_common::{ChipArgs, Unrecorded};
 use norprog_flash::{Ending, FlashArgs, Job, Unflashed, flash_opened};
 use std::alloc::{AllocError, Global};
 use std::cell::Cell;
+use test_devices::{End, Held};
 
 /// What is left of a job: how it ended, the device, what was saved, and what was printed of the
 /// plan.

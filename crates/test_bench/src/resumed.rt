@@ -2,11 +2,11 @@
 
 ghost use Rattle.std.specs.Prelude.{◌≡◌, true};
 
+use crate::bench::{Bench, flashed, no_texts};
+use crate::memory::Memory;
+use crate::programmer::{Fault, Slip, Trouble};
 use crate::same::{holds, same};
-use crate::serprog::bench::{Bench, flashed, no_texts};
-use crate::serprog::memory::Memory;
-use crate::serprog::programmer::{Fault, Slip, Trouble};
-use crate::serprog::strategies::held;
+use crate::strategies::held;
 use nor_base::Part;
 use norprog_flash::{Ending, FlashArgs, Job, Unflashed};
 use norprog_read::{Ask, Known};

@@ -1,11 +1,13 @@
 //! Devices in memory.
 
+ghost use Rattle.std.specs.Prelude.{◌≡◌, []};
+
 use std::alloc::Global;
 use std::io;
 
 /// How a device ends.
 #[derive(Clone, Copy)]
-pub(crate) enum End {
+pub enum End {
     /// It is silent.
     Silent,
     /// It fails.
@@ -15,10 +17,13 @@ pub(crate) enum End {
 /// A device that gives these bytes, one at a call, after some calls that it is silent at, and then
 /// ends.
 #[derive(Drop)]
-pub(crate) struct Canned<'a> {
-    pub(crate) answers: &'a [u8],
-    pub(crate) silent: u32,
-    pub(crate) end: End,
+pub struct Canned<'a> {
+    /// What it has still to give.
+    pub answers: &'a [u8],
+    /// At how many calls it is silent before that.
+    pub silent: u32,
+    /// How it ends.
+    pub end: End,
 }
 
 impl<'a> io::Read for Canned<'a> {
@@ -42,13 +47,19 @@ impl<'a> io::Read for Canned<'a> {
 
 /// A device that takes so many bytes, one at a call, and then fails.
 #[derive(Drop)]
-pub(crate) struct Held {
-    pub(crate) bytes: Vec<u8>,
-    pub(crate) room: usize,
+pub struct Held {
+    /// What it took.
+    pub bytes: Vec<u8>,
+    /// How many bytes it takes in all.
+    pub room: usize,
 }
 
 impl Held {
-    pub(crate) fn new(alloc: Global, room: usize) -> Held {
+    /// One that has taken nothing yet, and takes so many bytes.
+    pub fn new(alloc: Global, room: usize) -> Held
+        ensures bytes { result.bytes.items ≡ [] }
+        ensures room { result.room ≡ room }
+    {
         Held {
             bytes: Vec::new(alloc),
             room,

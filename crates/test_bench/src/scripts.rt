@@ -1,10 +1,8 @@
 //! Whole plays on devices in memory: what goes out, what is printed, and what is reported.
 
-use crate::ports::BLANK;
+use crate::line::{ANSWERS, PUT, joined};
 use crate::same::{holds, same};
-use crate::serprog::canned::{End, Held};
-use crate::serprog::line::{ANSWERS, PUT, joined};
-use crate::serprog::store::Store;
+use crate::store::Store;
 use nor_base::IntoWrite;
 use norprog_common::{ChipArgs, PlayArgs, SetupArgs, Unlisted, Unrecorded};
 use norprog_play::play;
@@ -12,6 +10,7 @@ use std::alloc::{AllocError, Global};
 use std::cell::Cell;
 use std::process::Abort;
 use std::test::Fail;
+use test_devices::{BLANK, End, Held};
 use test_samples::sfdp::SMALL;
 use test_samples::texts::ONE_BYTE;
 

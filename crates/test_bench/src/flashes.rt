@@ -3,13 +3,11 @@
 
 ghost use Rattle.std.specs.Prelude.{◌≡◌, true};
 
-use crate::ports::BLANK;
+use crate::bench::{WAY, no_texts};
+use crate::line::{ANSWERS, PUT, joined};
 use crate::same::{holds, same};
-use crate::serprog::bench::{WAY, no_texts};
-use crate::serprog::canned::{End, Held};
-use crate::serprog::line::{ANSWERS, PUT, joined};
-use crate::serprog::scripts::{CELL, DONE, GREETED, GREETING, MANY, REST, STATUS, STEPS};
-use crate::serprog::store::{FromLine, Store, ToLine};
+use crate::scripts::{CELL, DONE, GREETED, GREETING, MANY, REST, STATUS, STEPS};
+use crate::store::{FromLine, Store, ToLine};
 use nor_base::{FromRead, IntoWrite, Part, put_parts};
 use nor_script::hex_pair;
 use norprog_common::{FileStore, Unrecorded, refuse};
@@ -20,6 +18,7 @@ use std::alloc::{AllocError, Global};
 use std::cell::Cell;
 use std::process::Abort;
 use std::test::Fail;
+use test_devices::{BLANK, End, Held};
 use test_samples::texts::IMAGE;
 
 /// 01h at 0, and 126 times 00h from 0 on.

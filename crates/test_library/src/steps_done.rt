@@ -1,7 +1,6 @@
 //! Steps that a device does, and where it stops.
 
 use crate::same::{holds, same};
-use crate::serprog::canned::{Canned, End, Held};
 use nor_base::{FromRead, IntoWrite, Step};
 use nor_flasher::{Halt, are_doable, do_steps};
 use nor_script::read;
@@ -9,6 +8,7 @@ use nor_serprog::{Fault, Limits, Reason, carried, do_step, is_doable};
 use std::alloc::Global;
 use std::process::Abort;
 use std::test::Fail;
+use test_devices::{Canned, End, Held};
 
 /// A program of 00h at 0, and a read of it.
 const SCRIPT: &str =

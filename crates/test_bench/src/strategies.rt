@@ -2,11 +2,11 @@
 
 ghost use Rattle.std.specs.Prelude.{◌≡◌, true};
 
+use crate::bench::{Bench, WAY, flashed, no_texts};
+use crate::flashes::line_of;
+use crate::line::joined;
+use crate::memory::Memory;
 use crate::same::{holds, same};
-use crate::serprog::bench::{Bench, WAY, flashed, no_texts};
-use crate::serprog::flashes::line_of;
-use crate::serprog::line::joined;
-use crate::serprog::memory::Memory;
 use nor_base::Part;
 use norprog_flash::{FlashArgs, Job};
 use norprog_read::{Ask, Known};
