@@ -169,7 +169,8 @@ fn id_of(metadata: &Metadata) -> FileId {
     }
 }
 
-/// Makes an output file, or empties the one that is there, unless it is one of the inputs.
+/// Makes an output file, or empties the one that is there, unless it is one of the inputs or the
+/// regular file that standard output goes to, whose lines would be written over it.
 ///
 /// Where it is, and where it can't be made, `File` of `name`; `Memory` where the system says that
 /// it lacks that.
@@ -182,10 +183,22 @@ pub(crate) fn create_output<R: Files>(
     ensures refused { IfErr result (RefusesFile name) }
     ensures files { IfErr result IsOfFiles }
 {
-    only_apart(place_of(rt, path), inputs, name)?;
+    let found = place_of(rt, path);
+    only_apart(found, inputs, name)?;
+    if let Some(printed) = printed_file(rt) {
+        only_apart(found, &[printed], name)?;
+    }
     match fs::create(rt, path) {
         Ok(file) => Ok(file),
         Err(error) => Err(refusal_of(&error, name)),
+    }
+}
+
+/// Which regular file standard output goes to, where it goes to one.
+fn printed_file<R: Files>(rt: &R) -> Option<FileId> {
+    match fs::metadata(rt, "/dev/stdout") {
+        Ok(metadata) if metadata.is_file() => Some(id_of(&metadata)),
+        Ok(_) | Err(_) => None,
     }
 }
 

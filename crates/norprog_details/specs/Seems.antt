@@ -19,13 +19,19 @@ abbrev pub is_s_record : List ℕ → Bool
 is_s_record (letter ∷ digit ∷ more) = letter == 0x53 && nat_le 0x30 digit && nat_le digit 0x39
 is_s_record other = false
 
+-- a byte order mark comes first, of UTF-8 or UTF-16 (The Unicode Standard, 23.8): it is a text of another encoding
+abbrev pub is_marked : List ℕ → Bool
+is_marked text =
+    starts_with nat_eq text (0xEF ∷ 0xBB ∷ 0xBF ∷ []) || starts_with nat_eq text (0xFF ∷ 0xFE ∷ [])
+    || starts_with nat_eq text (0xFE ∷ 0xFF ∷ [])
+
 -- what a file seems to be, by its first bytes: the magic numbers of ELF and of a flash map, S-records, bytes that are in no text
 abbrev pub seems : List ℕ → Kind
 seems text =
     if starts_with nat_eq text (0x7F ∷ codes "ELF") then Elf
     else if starts_with nat_eq text (codes "__FMAP__") then Fmap
     else if is_s_record text then SRecords
-    else if is_raw (take 80 text) then Raw else Text
+    else if is_raw (take 80 text) && not (is_marked text) then Raw else Text
 
 -- the command that makes Intel HEX of a file of each kind
 abbrev pub for_hex : List ℕ → Kind → List ℕ

@@ -2,8 +2,8 @@
 
 ghost use Rattle.std.specs.Prelude.{◌≡◌, ◌<◌, ◌-◌, ◌^◌};
 ghost use Rattle.nor_base.specs.Device.{Writes, Counts};
-ghost use Rattle.norprog_details.specs.Seems.{seems, is_raw, is_odd, is_s_record, for_hex};
-ghost use Rattle.norprog_details.specs.Seems.{for_layout, advice_line};
+ghost use Rattle.norprog_details.specs.Seems.{seems, is_marked, is_raw, is_odd, is_s_record};
+ghost use Rattle.norprog_details.specs.Seems.{for_hex, for_layout, advice_line};
 
 use crate::passage::front;
 use nor_base::{ByteOut, Failed, put_all, put_parts};
@@ -42,7 +42,7 @@ pub(crate) fn seems(text: &[u8]) -> Kind
         Kind::Fmap
     } else if is_s_record(text) {
         Kind::SRecords
-    } else if is_raw(front(text, 80)) {
+    } else if is_raw(front(text, 80)) && !is_marked(text) {
         Kind::Raw
     } else {
         Kind::Text
@@ -57,6 +57,15 @@ fn is_s_record(text: &[u8]) -> bool
         [b'S', digit, ..] => b'0' <= *digit && *digit <= b'9',
         _ => false,
     }
+}
+
+/// Whether a text begins with a byte order mark.
+fn is_marked(text: &[u8]) -> bool
+    ensures { result ≡ is_marked text.now }
+{
+    text.starts_with(b"\xEF\xBB\xBF")
+        || text.starts_with(b"\xFF\xFE")
+        || text.starts_with(b"\xFE\xFF")
 }
 
 /// Whether some byte is in no text.

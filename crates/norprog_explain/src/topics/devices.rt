@@ -71,7 +71,8 @@ pub(crate) const TOPICS: &[Topic] = &[
          to 5 are block protection. Six digits are bits 23 to 0, as --status takes them:\n\
          14 and 18 protect too, 15 says suspended, and 16 and 9 must be the address mode\n\
          and the quad setting that the options say. No step was sent. Unprotect the\n\
-         chip, clear its latch (04), or give its --status, and build anew.",
+         chip, clear its latch (04), or give its --status where the command has that,\n\
+         and build anew.",
     ),
     (
         "unlike tables",
@@ -84,7 +85,9 @@ pub(crate) const TOPICS: &[Topic] = &[
         "unlike at",
         "The byte of this address, of the tables or of the content, came otherwise the\n\
          second time. The clip sits badly, the wires are too long, or the clock is too\n\
-         fast. No file was made. Seat the clip anew, and read again.",
+         fast. No file was made. Seat the clip anew, and read again. Or the chip isn't in\n\
+         the address mode that the options say: --mode4 is for one in four-byte mode, and\n\
+         power off and on takes it out of that.",
     ),
     (
         "unlike id",
@@ -111,8 +114,9 @@ pub(crate) const TOPICS: &[Topic] = &[
         "unlike differs",
         "At this address the chip holds another byte than the dump, the content file;\n\
          without an address the device answered by a byte that serprog hasn't there. It\n\
-         is another chip, or it was written after the dump was read. No step was sent.\n\
-         Read the chip again, whole, and build anew from that dump.",
+         is another chip, it was written after the dump was read, or it isn't in the\n\
+         address mode that the options say. No step was sent. Read the chip again, whole,\n\
+         and build anew from that dump.",
     ),
     (
         "unlike",

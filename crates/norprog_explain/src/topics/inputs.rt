@@ -46,14 +46,15 @@ pub(crate) const TOPICS: &[Topic] = &[
     ),
     (
         "file out",
-        "norprog can't make or write the output, or the output is a folder or one of the\n\
-         inputs, by whatever name (a link counts). Name another file. The inputs are as\n\
-         they were.",
+        "norprog can't make or write the output, or the output is a folder, one of the\n\
+         inputs, or the file that standard output goes to, by whatever name (a link\n\
+         counts). Name another file. The inputs are as they were.",
     ),
     (
         "file map",
-        "norprog can't make or write the picture of the plan, or that file is a folder\n\
-         or one of the inputs, by whatever name (a link counts). Name another file.",
+        "norprog can't make or write the picture of the plan, or that file is a folder,\n\
+         one of the inputs, or the one that standard output goes to, by whatever name (a\n\
+         link counts). Name another file.",
     ),
     (
         "file device",
@@ -82,10 +83,12 @@ pub(crate) const TOPICS: &[Topic] = &[
         "file before",
         "A file of the name that --before says is there, or can't be made or written.\n\
          None is written over, since it may be the only copy of what a chip held. This\n\
-         time the chip isn't changed. If an earlier try with that file ended before its\n\
-         last line, as by Ctrl-C, a closed terminal or a power cut, the chip may be half\n\
-         done: give that file as --resume, and another as --before. Else what it held is\n\
-         lost. If there was no such try, name another file.",
+         time the chip isn't changed. Where the command has --resume, leave that as it\n\
+         is, and give another name as --before: only the file of the first try has what\n\
+         the chip held. Else, if an earlier try with that file ended before its last\n\
+         line, as by Ctrl-C, a closed terminal or a power cut, the chip may be half done:\n\
+         give that file as --resume, and another as --before. Else what it held is lost.\n\
+         If there was no such try, name another file.",
     ),
     (
         "file resume",
@@ -153,8 +156,10 @@ pub(crate) const TOPICS: &[Topic] = &[
     ),
     (
         "content size",
-        "The length of the content file isn't the size of the chip. Read the whole\n\
-         chip again, from its first byte to its last one, or correct the size.",
+        "The length of the content file, or of that of --resume, isn't the size of the\n\
+         chip. Correct the size, or read the whole chip again, from its first byte to\n\
+         its last one. But what a chip holds that is half done is no file for --resume:\n\
+         give the one that the first try saved.",
     ),
     (
         "bin size",
@@ -199,7 +204,9 @@ pub(crate) const TOPICS: &[Topic] = &[
     (
         "write",
         "Writing a file or standard output failed, or its last flush did. Make room on\n\
-         the disk, and delete the output: it may be cut, or whole.",
+         the disk, and delete the output: it may be cut, or whole. But of `flash` keep\n\
+         the file of --before: the chip may be done, half done, or as it was. Do what\n\
+         the lines before this one say; where there are none, read the chip.",
     ),
     (
         "memory",

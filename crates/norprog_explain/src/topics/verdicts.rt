@@ -68,8 +68,8 @@ pub(crate) const TOPICS: &[Topic] = &[
     (
         "wrong 6",
         "PollNever: the chip was busy at each turn of one poll, as many as --limit\n\
-         allows. Give a greater limit, or shorter busy times. On a device the chip is\n\
-         half done then: ask for `the chip`.",
+         allows: give a greater limit, or shorter busy times. Or a device said idle, and\n\
+         then busy again. On a device the chip is half done then: ask for `the chip`.",
     ),
     (
         "wrong 7",
