@@ -18,7 +18,7 @@ slice_long bytes start len within =
     ap (λ n. length (take n (drop start bytes))) long
     ∙ length-take-le len (drop start bytes) (let left = length-drop start bytes in omega (arith, left, within))
 
-take_on : (bytes : List ℕ) (done len : ℕ) → take (done + len) bytes ≡ take done bytes ++ slice_range bytes done (done + len)
+pub take_on : (bytes : List ℕ) (done len : ℕ) → take (done + len) bytes ≡ take done bytes ++ slice_range bytes done (done + len)
 take_on bytes done len =
     let count : done + len - done ≡ len = omega arith in
     take-add done len bytes ∙ ap (λ n. take done bytes ++ take n (drop done bytes)) (sym count)
@@ -35,7 +35,7 @@ again_more most h i j a b c by bytes done len within some few read more =
     (omega (arith, long, few)) (ap (λ n. take (done + n) bytes) long ∙ take_on bytes done len) read more)
 
 -- a read of so many bytes, which are no more than the most, ended so
-misses_within : (len most : ℕ) (h i : Option (List ℕ)) (a b : Ahead) (by : ReadBy) (at : ℕ) (want : List ℕ) (why : Mismatch) → len ≤ most
+pub misses_within : (len most : ℕ) (h i : Option (List ℕ)) (a b : Ahead) (by : ReadBy) (at : ℕ) (want : List ℕ) (why : Mismatch) → len ≤ most
     → MissesPiece len h i a b by at want why → MissesPiece most h i a b by at want why
 misses_within len most h i a b by at want (Exchange why) few miss = (miss.0, miss.1, stops_within len most h i a b by at miss.0 why few miss.2)
 misses_within len most h i a b by at want (Differs d) few miss = record {

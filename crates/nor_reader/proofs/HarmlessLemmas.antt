@@ -33,6 +33,7 @@ use Rattle.nor_reader.specs.declared.tables.TablesFault.TheVariants.{Memory, NoS
 use Rattle.nor_reader.specs.Again.{MissesOn, MissesPiece}
 use Rattle.nor_reader.specs.Harmless.{is_harmless, requests, HasSentHarmless, IsHarmless, SendsHarmless}
 use Rattle.nor_reader.specs.Id.{Identifies}
+use Rattle.nor_reader.specs.Past.{ReadsPast, with_past}
 use Rattle.nor_reader.specs.Reads.{sent_by, read_op, ops_from, HasReadOn, ReadsBy, StopsOn, StopsPiece}
 use Rattle.nor_reader.specs.Switched.{enter_of, enter_ops, leave_of, leave_ops, StopsAmong}
 use Rattle.nor_reader.specs.Tables.{HasReadTables, StopsTables}
@@ -269,6 +270,17 @@ twice_sends most h i a b by again bytes (Exchange why) (inr p) =
     (missed_sends most p.held i p.ahead b again bytes (Exchange why) p.missed)
 twice_sends most h i a b by again bytes (Differs d) p =
     then_sends h p.held i (whole_read most h p.held a p.ahead by bytes p.read) (missed_sends most p.held i p.ahead b again bytes (Differs d) p.missed)
+
+-- bytes past the end
+pub past_sent : (most : ℕ) (h i : Option (List ℕ)) (a b : Ahead) (by : ReadBy) (content : List ℕ) → ReadsPast most h i a b (Ok tt) by content
+    → HasSentHarmless h i
+past_sent most h i a b by content p = read_sent most h i a b by content (with_past content) p
+
+pub past_sends : (most : ℕ) (h i : Option (List ℕ)) (a b : Ahead) (by : ReadBy) (content : List ℕ) (why : Mismatch)
+    → ReadsPast most h i a b (Err why) by content → SendsHarmless h i
+past_sends most h i a b by content why p =
+    then_sends h p.held i (read_sent most h p.held a p.ahead by content (content ++ take p.at content) p.alike)
+    (piece_misses most p.held i p.ahead b by (length content + p.at) (slice_range content p.at (p.at + p.len)) why p.stop)
 
 -- tables
 pub tables_sent : (most : ℕ) (h i : Option (List ℕ)) (a b : Ahead) (bytes : List ℕ) → HasReadTables most h i a b bytes → HasSentHarmless h i

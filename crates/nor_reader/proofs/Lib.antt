@@ -1,6 +1,7 @@
 mod PassLemmas
 mod SwitchLemmas
 mod AgainLemmas
+mod PastLemmas
 mod TwiceLemmas
 mod LawLemmas
 mod TablesLemmas

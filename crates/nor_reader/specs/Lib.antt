@@ -1,6 +1,7 @@
 pub mod Switched
 pub mod Reads
 pub mod Again
+pub mod Past
 pub mod Twice
 pub mod Id
 pub mod Tables

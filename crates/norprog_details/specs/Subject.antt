@@ -12,7 +12,7 @@ words_for name =
     else if bytes_eq name (codes "layout") then Some (codes "norprog: layout ")
     else if bytes_eq name (codes "sfdp") || bytes_eq name (codes "uniform") then Some (codes "norprog: sfdp ")
     else if bytes_eq name (codes "bin") then Some (codes "norprog: bin ")
-    else if bytes_eq name (codes "content") then Some (codes "norprog: content ")
+    else if bytes_eq name (codes "content") || bytes_eq name (codes "resume") then Some (codes "norprog: content ")
     else if bytes_eq name (codes "script") then Some (codes "norprog: script ")
     else if bytes_eq name (codes "log") then Some (codes "norprog: log ")
     else if bytes_eq name (codes "status") then Some (codes "norprog: status ")

@@ -43,7 +43,7 @@ fn words_for(name: &str) -> Option<&'static str>
         "layout" => Some("norprog: layout "),
         "sfdp" | "uniform" => Some("norprog: sfdp "),
         "bin" => Some("norprog: bin "),
-        "content" => Some("norprog: content "),
+        "content" | "resume" => Some("norprog: content "),
         "script" => Some("norprog: script "),
         "log" => Some("norprog: log "),
         "status" => Some("norprog: status "),

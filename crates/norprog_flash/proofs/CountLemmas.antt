@@ -4,6 +4,7 @@ use Rattle.nor_base.specs.Device.{Ahead}
 use Rattle.nor_base.specs.declared.meaning.Part.{Part}
 use Rattle.nor_job.specs.declared.fault.BuildFault.{BuildFault}
 use Rattle.nor_job.specs.declared.fault.BuildFault.TheVariants as fault
+use Rattle.nor_reader.specs.declared.by.ReadBy.{ReadBy}
 use Rattle.norprog_common.specs.declared.faults.FileName.{FileName}
 use Rattle.norprog_common.specs.declared.faults.Refusal.{Refusal}
 use Rattle.norprog_common.specs.declared.faults.Refusal.TheVariants.{Build}
@@ -19,7 +20,7 @@ use Rattle.norprog_flash.specs.declared.job.Job.{Job}
 use Rattle.norprog_flash.specs.Answer.{ReportsEnding, ReportsUnflashed}
 use Rattle.norprog_flash.specs.Early.{RefusesEarly}
 use Rattle.norprog_flash.specs.Line.{closed_line}
-use Rattle.norprog_flash.specs.Stops.{of_reading, IsUnsuited, StopsBefore, TellsFailed}
+use Rattle.norprog_flash.specs.Stops.{of_reading, IsUnsuited, MissesEnd, StopsBefore, TellsFailed}
 use Rattle.norprog_read.specs.declared.asked.Ask.{Ask}
 use Rattle.norprog_read.specs.declared.asked.Reading.{Reading}
 use Rattle.norprog_read.specs.declared.fault.Unread.{Unread}
@@ -49,6 +50,13 @@ unsuited_told B job r (Device why) is = tt
 unsuited_told B job r (Unlike why) is = tt
 unsuited_told B job r (Closed bits) is = tt
 
+past_told : (most : ℕ) (B : Type 0) (h i : Option (List ℕ)) (a b : Ahead) (by : ReadBy) (content : List ℕ) (why : Unflashed)
+    → MissesEnd most h i a b by content why → TellsFailed B why
+past_told most B h i a b by content (Refused why) is = absurd is
+past_told most B h i a b by content (Device why) is = tt
+past_told most B h i a b by content (Unlike why) is = tt
+past_told most B h i a b by content (Closed bits) is = tt
+
 pub unread_told : (most : ℕ) (files : FileFacts) (n : ℕ) (h i : Option (List ℕ)) (a b : Ahead) (job : Job) (why : Unflashed)
     → StopsBefore most h i a b job why
     → Told files n n why
@@ -57,8 +65,10 @@ unread_told most files n h i a b job why (inl reading) = (
   omega arith,
   subst (TellsFailed (Breaks files n n)) (sym reading.is) (reading_told most (Breaks files n n) h i a b job.ask reading.stop reading.stops),
 )
-unread_told most files n h i a b job why (inr unsuited) =
+unread_told most files n h i a b job why (inr (inl unsuited)) =
     (omega arith, omega arith, unsuited_told (Breaks files n n) job unsuited.reading why unsuited.unsuited)
+unread_told most files n h i a b job why (inr (inr past)) =
+    (omega arith, omega arith, past_told most (Breaks files n n) past.held i past.ahead b past.by past.reading.content.items why past.stop)
 
 -- ---- its work wasn't planned or printed
 pub unplanned_told : (files : FileFacts) (m n : ℕ) (why : Refusal) → n ≡ m + of_writer why → Told files m n (Refused why)

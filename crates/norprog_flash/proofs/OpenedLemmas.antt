@@ -22,6 +22,7 @@ use Rattle.norprog_flash.specs.Blame.{fault_in, fault_of_ending, fault_of_stop}
 use Rattle.norprog_flash.specs.Early.{IsSoundEarly}
 use Rattle.norprog_flash.specs.Opened.{HasFlashedOpened, HasFlashedTested, IsFlashedOn}
 use Rattle.norprog_flash.specs.Stops.{StopsBegun, StopsOpened, StopsTested, StopsWork}
+use Rattle.norprog_read.specs.Blame.{CountsBoth}
 use Rattle.norprog_read.proofs.BlameLemmas.{blames_by}
 use Rattle.norprog_read.proofs.MadeLemmas.{unsaved_by}
 use Rattle.norprog_read.proofs.ReadLemmas.{goes_wider}
@@ -34,6 +35,15 @@ writes_low before after (Some Write) counts = omega (arith, counts)
 writes_low before after (Some Silent) counts = omega (arith, counts)
 writes_low before after (Some Nak) counts = omega (arith, counts)
 writes_low before after (Some Differs) counts = omega (arith, counts)
+
+-- a failure that was counted is blamed
+pub blames_counted : (a b c d : ℕ) (why : Option Fault) → CountsBoth a b c d why → Blames (a < b) (c < d) why
+blames_counted a b c d None counts = tt
+blames_counted a b c d (Some Read) counts = omega (arith, counts.0)
+blames_counted a b c d (Some Write) counts = omega (arith, counts.1)
+blames_counted a b c d (Some Silent) counts = tt
+blames_counted a b c d (Some Nak) counts = tt
+blames_counted a b c d (Some Differs) counts = tt
 
 pub opened_by : (B C : Type 0) (wider : B → C) (files : FileFacts) (job : Job) (h i j k : Option (List ℕ)) (a b c d : Ahead) (o p : Option (List ℕ)) (Shown : List Step → ℕ → Type 0)
     (limits : Limits) (r : Result Ending Unflashed) (pins : Bool) → Greeted h i a b (Ok limits)

@@ -7,7 +7,9 @@ use Rattle.nor_job.specs.declared.fault.BuildFault.TheVariants.{ContentSize}
 use Rattle.nor_job.specs.Status.{start_of}
 use Rattle.nor_job.specs.Task.{Task}
 use Rattle.nor_probe.specs.Status.{suits}
+use Rattle.nor_reader.specs.declared.by.ReadBy.{ReadBy}
 use Rattle.nor_reader.specs.Harmless.{HasSentHarmless, SendsHarmless}
+use Rattle.nor_reader.specs.Laws.{GivesBy}
 use Rattle.nor_reader.proofs.HarmlessLemmas.{whole_sent}
 use Rattle.norprog_common.specs.declared.faults.FileName.TheVariants as file
 use Rattle.norprog_common.specs.declared.faults.Refusal.{Refusal}
@@ -19,7 +21,7 @@ use Rattle.norprog_flash.specs.declared.ending.Unflashed.{Unflashed}
 use Rattle.norprog_flash.specs.declared.ending.Unflashed.TheVariants.{Refused, Unlike, Closed}
 use Rattle.norprog_flash.specs.declared.job.Job.{Job}
 use Rattle.norprog_flash.specs.Begun.{HasRead, start_at}
-use Rattle.norprog_flash.specs.Stops.{has_way, CantPlan, StopsBefore, StopsBegun}
+use Rattle.norprog_flash.specs.Stops.{has_way, CantPlan, MissesEnd, StopsBefore, StopsBegun}
 use Rattle.norprog_flash.specs.Task.{dump_of, flash_task}
 use Rattle.norprog_read.specs.declared.asked.Reading.{Reading}
 use Rattle.norprog_read.specs.declared.fault.Unlike.TheVariants.{Unreadable}
@@ -30,23 +32,36 @@ use Rattle.norprog_work.specs.Refused.{RefusesWork}
 pub closed : (most : ℕ) (h i : Option (List ℕ)) (a b : Ahead) (job : Job) (r : Reading) → HasReadChip most h i a b job.ask r
     → (start : Start) (fits : Bool) → start ≡ start_at job r.status → fits ≡ suits job.ask.part start r.status → fits ≡ false
     → StopsBefore most h i a b job (Closed r.status)
-closed most h i a b job r read start fits begins is unfit = inr (record {
+closed most h i a b job r read start fits begins is unfit = inr (inl (record {
   reading = r;
   read = read;
   unsuited = (refl, ap (λ (s : Start). suits job.ask.part s r.status) (sym begins) ∙ (sym is ∙ unfit));
-})
+}))
 
 pub wayless : (most : ℕ) (h i : Option (List ℕ)) (a b : Ahead) (job : Job) (r : Reading) → HasReadChip most h i a b job.ask r → (start : Start)
     → start ≡ start_of (flash_task job r.tables.items) → false ≡ has_way r.meaning start → StopsBefore most h i a b job (Unlike Unreadable)
-wayless most h i a b job r read start begins wants = inr (record {
+wayless most h i a b job r read start begins wants = inr (inl (record {
   reading = r;
   read = read;
   unsuited = ap (λ (s : Start). has_way r.meaning s) (sym begins) ∙ sym wants;
-})
+}))
 
 pub unfilled : (most : ℕ) (h i : Option (List ℕ)) (a b : Ahead) (job : Job) (r : Reading) → HasReadChip most h i a b job.ask r → (why : Refusal)
     → RefusesEmpty job.strict (flash_task job r.tables.items) (length r.content.items) why → StopsBefore most h i a b job (Refused why)
-unfilled most h i a b job r read why empty = inr (record { reading = r; read = read; unsuited = empty })
+unfilled most h i a b job r read why empty = inr (inl (record { reading = r; read = read; unsuited = empty }))
+
+pub goes_past : (most : ℕ) (h i j : Option (List ℕ)) (a b c : Ahead) (job : Job) (r : Reading) (by : ReadBy) (content : List ℕ) → content ≡ r.content.items
+    → HasReadChip most h i a b job.ask r → GivesBy r.meaning (start_of (flash_task job r.tables.items)) by → (why : Unflashed)
+    → MissesEnd most i j b c by content why → StopsBefore most h j a c job why
+goes_past most h i j a b c job r by content same read way why stop = inr (inr (record {
+  reading = r;
+  held = i;
+  ahead = b;
+  read = read;
+  by = by;
+  way = way;
+  stop = subst (λ (xs : List ℕ). MissesEnd most i j b c by xs why) same stop;
+}))
 
 pub unread : (most : ℕ) (files : FileFacts) (before : Option (List Change)) (h i : Option (List ℕ)) (a b : Ahead) (job : Job) (o : Option (List ℕ))
     (why : Unflashed) → StopsBefore most h i a b job why → SendsHarmless h i → StopsBegun most files (Adds before before) h i a b job o o why

@@ -6,7 +6,6 @@ use Rattle.nor_flasher.specs.Apart.{ClosesApart, BreaksApart}
 use Rattle.nor_job.specs.Status.{start_of}
 use Rattle.nor_reader.specs.declared.by.ReadBy.{ReadBy}
 use Rattle.nor_reader.specs.Laws.{GivesBy}
-use Rattle.nor_reader.specs.Twice.{ReadsWhole}
 use Rattle.nor_serprog.specs.declared.limits.Limits.{Limits}
 use Rattle.nor_serprog.specs.Steps.{IsFirstNotCarried}
 use Rattle.norprog_common.specs.FileStore.{FileFacts}
@@ -17,7 +16,7 @@ use Rattle.norprog_flash.specs.declared.ending.Ending.TheVariants.{Planned, Done
 use Rattle.norprog_flash.specs.declared.job.Job.{Job}
 use Rattle.norprog_flash.specs.Begun.{HasPlanned}
 use Rattle.norprog_flash.specs.Task.{dump_of, flash_task, goal_of}
-use Rattle.norprog_flash.specs.Worked.{HasFailedAt, HasMissed, HasWorked}
+use Rattle.norprog_flash.specs.Worked.{HasFailedAt, HasMissed, HasWorked, ReadsBack}
 use Rattle.norprog_read.specs.declared.asked.Reading.{Reading}
 
 -- a chip was read, saved and planned for, and the plan is to be carried out, from these bytes of the wire on
@@ -51,7 +50,8 @@ EveryChipKeeps {job = job} {held = held} {ahead = ahead} todo at row =
     BreaksApart read.h3 read.h4 read.a3 read.a4 held ahead todo.reading.meaning (start_of (flash_task job todo.reading.tables.items))
     todo.reading.content.items todo.goal todo.steps at row
 
--- all was done: each step, and then the chip gave just what it must hold, by reads of no more bytes than the device gives at once
+-- all was done: each step, and then the chip gave just what it must hold, and past its end what one that holds just this gives, by reads of
+-- no more bytes than the device gives at once
 pub record HasFlashed (files : FileFacts) (job : Job) (limits : Limits) (held_before held_after : Option (List ℕ))
     (ahead_before ahead_after : Ahead) (out_before out_after : Option (List ℕ)) (Shown : List Step → ℕ → Type 0) (transactions : ℕ)
     : Type 0 where
@@ -62,7 +62,7 @@ pub record HasFlashed (files : FileFacts) (job : Job) (limits : Limits) (held_be
   pub by : ReadBy
   pub way : GivesBy todo.reading.meaning (start_of (flash_task job todo.reading.tables.items)) by
   pub worked : HasWorked held held_after ahead ahead_after limits job.ask.turns by todo.steps todo.goal
-      (λ h i a b. ReadsWhole limits.asked h i a b (Ok tt) by todo.goal)
+      (λ h i a b. ReadsBack limits.asked h i a b (Ok tt) by todo.goal)
   pub every : EveryChipFlashes todo worked.held worked.ahead
   pub shown : Shown todo.steps transactions
 

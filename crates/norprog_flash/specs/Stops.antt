@@ -7,8 +7,13 @@ use Rattle.nor_base.specs.Parameters.{Parameters}
 use Rattle.nor_job.specs.declared.fault.BuildFault.{BuildFault}
 use Rattle.nor_job.specs.declared.fault.BuildFault.TheVariants.{ContentSize, Write}
 use Rattle.nor_job.specs.Status.{start_of}
+use Rattle.nor_probe.specs.declared.difference.Difference.{Difference}
+use Rattle.nor_probe.specs.declared.difference.Mismatch.TheVariants.{Exchange, Differs}
 use Rattle.nor_probe.specs.Status.{suits}
+use Rattle.nor_reader.specs.declared.by.ReadBy.{ReadBy}
 use Rattle.nor_reader.specs.Harmless.{SendsHarmless}
+use Rattle.nor_reader.specs.Laws.{GivesBy}
+use Rattle.nor_reader.specs.Past.{ReadsPast}
 use Rattle.nor_serprog.specs.declared.fault.Fault.{Fault}
 use Rattle.nor_serprog.specs.declared.fault.GreetFault.{GreetFault}
 use Rattle.nor_serprog.specs.declared.limits.Limits.{Limits}
@@ -32,7 +37,7 @@ use Rattle.norprog_flash.specs.Task.{dump_of, flash_task}
 use Rattle.norprog_flash.specs.Way.{way_text}
 use Rattle.norprog_read.specs.declared.asked.Ask.{Ask}
 use Rattle.norprog_read.specs.declared.asked.Reading.{Reading}
-use Rattle.norprog_read.specs.declared.fault.Unlike.TheVariants.{Unreadable}
+use Rattle.norprog_read.specs.declared.fault.Unlike.TheVariants.{Asking, At, Unreadable}
 use Rattle.norprog_read.specs.declared.fault.Unread.{Unread}
 use Rattle.norprog_read.specs.declared.fault.Unread.TheVariants as unread
 use Rattle.norprog_read.specs.Chip.{HasReadChip}
@@ -84,11 +89,31 @@ pub record StopsUnsuited (most : ℕ) (held_before held_after : Option (List ℕ
   pub read : HasReadChip most held_before held_after ahead_before ahead_after job.ask reading
   pub unsuited : IsUnsuited job reading why
 
--- it wasn't read, or that
+-- reading a chip of this content past its end stopped so: an exchange ended early, or the byte at an address is another
+abbrev pub MissesEnd : ℕ → Option (List ℕ) → Option (List ℕ) → Ahead → Ahead → ReadBy → List ℕ → Unflashed → Type 0
+MissesEnd most held_before held_after ahead_before ahead_after by content (Unlike (Asking why)) =
+    ReadsPast most held_before held_after ahead_before ahead_after (Err (Exchange why)) by content
+MissesEnd most held_before held_after ahead_before ahead_after by content (Unlike (At address)) =
+    (d : Difference) × (d.address ≡ address) × ReadsPast most held_before held_after ahead_before ahead_after (Err (Differs d)) by content
+MissesEnd most held_before held_after ahead_before ahead_after by content other = ⊥
+
+-- it was read, and then that
+pub record StopsPast (most : ℕ) (held_before held_after : Option (List ℕ)) (ahead_before ahead_after : Ahead) (job : Job)
+    (why : Unflashed) : Type 0 where
+  pub reading : Reading
+  pub held : Option (List ℕ)
+  pub ahead : Ahead
+  pub read : HasReadChip most held_before held ahead_before ahead job.ask reading
+  pub by : ReadBy
+  pub way : GivesBy reading.meaning (start_of (flash_task job reading.tables.items)) by
+  pub stop : MissesEnd most held held_after ahead ahead_after by reading.content.items why
+
+-- it wasn't read, or one of these
 abbrev pub StopsBefore : ℕ → Option (List ℕ) → Option (List ℕ) → Ahead → Ahead → Job → Unflashed → Type 0
 StopsBefore most held_before held_after ahead_before ahead_after job why =
     StopsReading most held_before held_after ahead_before ahead_after job.ask why
-    ⊎ StopsUnsuited most held_before held_after ahead_before ahead_after job why
+    ⊎ (StopsUnsuited most held_before held_after ahead_before ahead_after job why
+    ⊎ StopsPast most held_before held_after ahead_before ahead_after job why)
 
 -- it was read, and what it holds couldn't be saved in its file
 pub record StopsUnsaved (most : ℕ) (files : FileFacts) (Made : List Change → Type 0) (held_before held_after : Option (List ℕ))

@@ -1,5 +1,5 @@
 -- How work on a chip went (this project's).
-use Rattle.std.specs.Prelude.{◌≡◌, ◌⊎◌, ℕ, List, length, get_or, Option, Ok, Err}
+use Rattle.std.specs.Prelude.{◌≡◌, ◌⊎◌, ℕ, List, length, get_or, Option, Result, Ok, Err}
 use Rattle.nor_base.specs.declared.step.Step.{Step}
 use Rattle.nor_base.specs.Device.{Ahead}
 use Rattle.nor_base.specs.Parameters.{Parameters}
@@ -9,6 +9,7 @@ use Rattle.nor_progress.specs.Text.{Reports}
 use Rattle.nor_reader.specs.declared.by.ReadBy.{ReadBy}
 use Rattle.nor_job.specs.Status.{start_of}
 use Rattle.nor_reader.specs.Laws.{GivesBy}
+use Rattle.nor_reader.specs.Past.{ReadsPast}
 use Rattle.nor_reader.specs.Twice.{ReadsWhole}
 use Rattle.nor_serprog.specs.declared.halt.Halt.{Halt}
 use Rattle.nor_serprog.specs.declared.limits.Limits.{Limits}
@@ -28,6 +29,16 @@ use Rattle.norprog_read.specs.declared.asked.Reading.{Reading}
 abbrev pub IsFailureAt : Parameters → List Step → Halt → Failure → Type 0
 IsFailureAt m steps halt why =
     (at : Step) × (at ≡ get_or steps halt.step at) × FailsAs m (step_clocks at) (expected at) halt.why why
+
+-- the chip was read whole, and then past its end, and gave just these bytes; or one of the two readings ended so
+abbrev pub ReadsBack : ℕ → Option (List ℕ) → Option (List ℕ) → Ahead → Ahead → Result (Unit {0}) Mismatch → ReadBy → List ℕ → Type 0
+ReadsBack most held_before held_after ahead_before ahead_after (Ok u) by bytes =
+    (held : Option (List ℕ)) × (ahead : Ahead) × ReadsWhole most held_before held ahead_before ahead (Ok tt) by bytes
+    × ReadsPast most held held_after ahead ahead_after (Ok tt) by bytes
+ReadsBack most held_before held_after ahead_before ahead_after (Err why) by bytes =
+    ReadsWhole most held_before held_after ahead_before ahead_after (Err why) by bytes
+    ⊎ ((held : Option (List ℕ)) × (ahead : Ahead) × ReadsWhole most held_before held ahead_before ahead (Ok tt) by bytes
+    × ReadsPast most held held_after ahead ahead_after (Err why) by bytes)
 
 -- all steps were done, and then the chip was read so
 pub record HasWorked (held_before held_after : Option (List ℕ)) (ahead_before ahead_after : Ahead) (limits : Limits) (turns : ℕ) (by : ReadBy)
@@ -50,7 +61,7 @@ pub record HasMissed (held_before held_after : Option (List ℕ)) (ahead_before 
     (steps : List Step) (goal : List ℕ) (step : ℕ) (why : Failure) : Type 0 where
   pub mismatch : Mismatch
   pub worked : HasWorked held_before held_after ahead_before ahead_after limits turns by steps goal
-      (λ h i a b. ReadsWhole limits.asked h i a b (Err mismatch) by goal)
+      (λ h i a b. ReadsBack limits.asked h i a b (Err mismatch) by goal)
   pub at : step ≡ length steps
   pub failed : why ≡ failure_by mismatch
 
@@ -60,7 +71,7 @@ WorksOut held_before held_after ahead_before ahead_after limits turns m by steps
 WorksOut held_before held_after ahead_before ahead_after limits turns m by steps goal (Done transactions) =
     (transactions ≡ length steps)
     × HasWorked held_before held_after ahead_before ahead_after limits turns by steps goal
-    (λ h i a b. ReadsWhole limits.asked h i a b (Ok tt) by goal)
+    (λ h i a b. ReadsBack limits.asked h i a b (Ok tt) by goal)
 WorksOut held_before held_after ahead_before ahead_after limits turns m by steps goal (Failed step why) =
     HasFailedAt held_before held_after ahead_before ahead_after limits turns m steps step why
     ⊎ HasMissed held_before held_after ahead_before ahead_after limits turns by steps goal step why

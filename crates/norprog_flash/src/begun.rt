@@ -1,7 +1,7 @@
 //! A chip that is read, saved and planned for.
 
 ghost use Rattle.std.specs.Prelude.{◌≡◌, ◌<◌, ◌≤◌, ◌+◌, ◌-◌, ◌^◌, [], ◌∷◌, true, length, unwrap_or};
-ghost use Rattle.std.specs.Prelude.{IfOk, IfErr, MatchResult};
+ghost use Rattle.std.specs.Prelude.{IfOk, IfErr, MatchResult, Ok};
 ghost use Rattle.nor_base.specs.Device.{HaveRoom};
 ghost use Rattle.nor_probe.specs.Status.{suits};
 ghost use Rattle.nor_job.specs.Shares.{HasNoneEmpty};
@@ -15,8 +15,10 @@ ghost use Rattle.norprog_flash.specs.Task.{dump_of, flash_task};
 ghost use Rattle.norprog_work.specs.Work.{IsWork};
 ghost use Rattle.nor_reader.specs.Harmless.{HasSentHarmless, SendsHarmless};
 ghost use Rattle.nor_reader.specs.Laws.{GivesBy};
+ghost use Rattle.nor_reader.specs.Past.{ReadsPast};
 ghost use Rattle.norprog_read.specs.Blame.{CountsBoth};
-ghost use Rattle.norprog_flash.specs.Stops.{CantPlan, CountsOut, StopsBefore, StopsBegun};
+ghost use Rattle.norprog_flash.specs.Stops.{CantPlan, CountsOut, MissesEnd, StopsBefore};
+ghost use Rattle.norprog_flash.specs.Stops.{StopsBegun};
 
 use crate::back::way_of;
 use crate::ending::Unflashed;
@@ -24,8 +26,8 @@ use crate::job::{Job, inputs_for};
 use crate::way::print_way;
 use nor_base::{ByteIn, ByteOut, Start};
 use nor_job::BuildFault;
-use nor_probe::suits;
-use nor_reader::ReadBy;
+use nor_probe::{Mismatch, suits};
+use nor_reader::{ReadBy, read_past};
 use nor_serprog::Limits;
 use norprog_common::{FileName, FileStore, Refusal, refuse_empty};
 use norprog_read::{Reading, Unlike, read_chip, save};
@@ -146,7 +148,7 @@ fn older<'a>(job: &Job<'a>, content: &'a [u8]) -> &'a [u8]
 }
 
 /// Reads the chip, whose status has to show that it can take the work. Of a strict job the image
-/// has to give each chosen region a byte.
+/// has to give each chosen region a byte. Past its end the chip has to give its first bytes.
 fn read_suited<R: ByteIn, W: ByteOut>(
     alloc: Global,
     from: &mut R,
@@ -177,9 +179,37 @@ fn read_suited<R: ByteIn, W: ByteOut>(
     match way_of(&reading.meaning, said_start(job)) {
         Some(by) => {
             refuse_unfilled(alloc, job, &reading)?;
+            see_end(from, to, limits, by, reading.content.as_slice())?;
             Ok((reading, by))
         }
         None => Err(Unflashed::Unlike(Unlike::Unreadable)),
+    }
+}
+
+/// Reads a chip of this content past its end, and sees that it ends there.
+fn see_end<R: ByteIn, W: ByteOut>(
+    from: &mut R,
+    to: &mut W,
+    limits: &Limits,
+    by: ReadBy,
+    content: &[u8],
+) -> Result<(), Unflashed>
+    requires room { HaveRoom (R.count from.old) (W.count to.old) }
+    ensures past { IfOk result
+        (λ _. ReadsPast limits.now.asked (W.held to.old) (W.held to.new) (R.ahead from.old)
+        (R.ahead from.new) (Ok tt) by content.now) }
+    ensures stops { IfErr result
+        (MissesEnd limits.now.asked (W.held to.old) (W.held to.new) (R.ahead from.old)
+        (R.ahead from.new) by content.now) }
+    ensures harmless { MatchResult result (λ _. HasSentHarmless (W.held to.old) (W.held to.new))
+        (λ _. SendsHarmless (W.held to.old) (W.held to.new)) }
+    ensures counts { CountsBoth (R.count from.old) (R.count from.new) (W.count to.old)
+        (W.count to.new) (fault_before result) }
+{
+    match read_past(from, to, limits, by, content) {
+        Ok(()) => Ok(()),
+        Err(Mismatch::Exchange(why)) => Err(Unflashed::Unlike(Unlike::Asking(why))),
+        Err(Mismatch::Differs(d)) => Err(Unflashed::Unlike(Unlike::At(d.address))),
     }
 }
 

@@ -3,16 +3,20 @@
 ghost use Rattle.std.specs.Prelude.{◌≡◌, ◌<◌, ◌≤◌, ◌+◌, ◌-◌, ◌^◌, All, length};
 ghost use Rattle.nor_base.specs.Device.{HaveRoom};
 ghost use Rattle.nor_base.specs.Step.{expected};
+ghost use Rattle.nor_probe.specs.Compared.{CountsMismatch};
 ghost use Rattle.nor_serprog.specs.Done.{IsDoable};
+ghost use Rattle.nor_serprog.specs.declared.fault.Fault.TheVariants.{Read, Write};
 ghost use Rattle.norprog_flash.specs.Blame.{fault_of_ending};
-ghost use Rattle.norprog_flash.specs.Worked.{IsFailureAt, IsSoOfDone, Showing, WorksOut};
+ghost use Rattle.norprog_flash.specs.Worked.{IsFailureAt, IsSoOfDone, ReadsBack};
+ghost use Rattle.norprog_flash.specs.Worked.{Showing, WorksOut};
 ghost use Rattle.norprog_read.specs.Blame.{CountsBoth};
 ghost use Rattle.norprog_read.specs.Saved.{IsSaved};
 
 use crate::ending::Ending;
 use nor_base::{ByteIn, ByteOut, Meaning, Step};
 use nor_flasher::{Halt, do_steps};
-use nor_reader::{ReadBy, read_again};
+use nor_probe::Mismatch;
+use nor_reader::{ReadBy, read_again, read_past};
 use nor_serprog::Limits;
 use norprog_common::FileStore;
 use norprog_failure::{Failure, failure_by, failure_of};
@@ -32,8 +36,8 @@ pub(crate) struct Bench<'a, S: FileStore> {
     pub(crate) by: ReadBy,
 }
 
-/// Has the device do the steps, and then read the chip, which must give the goal's bytes. What it
-/// held must be saved first.
+/// Has the device do the steps, and then read the chip, which must give the goal's bytes, and end
+/// there. What it held must be saved first.
 pub(crate) fn do_work<S: FileStore, R: ByteIn, W: ByteOut, P: ByteOut>(
     bench: &Bench<'_, S>,
     from: &mut R,
@@ -67,13 +71,34 @@ pub(crate) fn do_work<S: FileStore, R: ByteIn, W: ByteOut, P: ByteOut>(
         };
     }
     let transactions = steps.len() as u64;
-    match read_again(from, to, limits, bench.by, goal) {
+    match read_back(from, to, limits, bench.by, goal) {
         Ok(()) => Ending::Done { transactions },
         Err(why) => Ending::Failed {
             step: transactions,
             why: failure_by(why),
         },
     }
+}
+
+/// Has the device read the chip, which must give these bytes, and past its end what one that holds
+/// just these gives there.
+fn read_back<R: ByteIn, W: ByteOut>(
+    from: &mut R,
+    to: &mut W,
+    limits: &Limits,
+    by: ReadBy,
+    bytes: &[u8],
+) -> Result<(), Mismatch>
+    requires size { length bytes.now ≤ 2 ^ 32 }
+    requires room { HaveRoom (R.count from.old) (W.count to.old) }
+    ensures back { ReadsBack limits.now.asked (W.held to.old) (W.held to.new) (R.ahead from.old)
+        (R.ahead from.new) result by bytes.now }
+    ensures counts { CountsMismatch Read (R.count from.old) (R.count from.new) result
+        × CountsMismatch Write (W.count to.old) (W.count to.new) result }
+{
+    read_again(from, to, limits, by, bytes)?;
+    read_past(from, to, limits, by, bytes)?;
+    Ok(())
 }
 
 /// Why the step isn't done at which a device halted.

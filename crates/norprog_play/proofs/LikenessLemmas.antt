@@ -1,7 +1,8 @@
 -- What was compared by marked cells was what was to be compared.
-use Rattle.std.proofs.Common.{◌≡◌, ◌∙◌, refl, ap, Bool, true, false, ℕ, ◌*◌, ◌/◌, ◌%◌, ◌<◌, inl, inr, List, [], ◌∷◌, length, subst, arith}
+use Rattle.std.proofs.Common.{◌≡◌, ◌∙◌, refl, ap, Bool, true, false, ℕ, ◌*◌, ◌/◌, ◌%◌, ◌<◌, inl, inr, List, [], ◌∷◌, length, Option, subst, arith}
 use Rattle.std.specs.Prelude.{◌↔◌, ◌⊎◌}
 use Rattle.nor_base.specs.declared.step.Step.{Step}
+use Rattle.nor_base.specs.Device.{Ahead}
 use Rattle.nor_base.specs.Port.{Shown}
 use Rattle.nor_base.specs.Step.{step_clocks}
 use Rattle.nor_laws.proofs.EffectLaws.{keeps_size}
@@ -16,6 +17,7 @@ use Rattle.norprog_failure.specs.declared.failure.Failure.TheVariants as failure
 use Rattle.norprog_play.specs.declared.ending.Unlike.{Unlike as Unlikeness}
 use Rattle.norprog_play.specs.declared.ending.Unlike.TheVariants as unlike
 use Rattle.norprog_play.specs.Asked.{IsIdentified, BeginsWith, Begins, IsUnknown}
+use Rattle.norprog_play.specs.Compared.{HasCompared, StopsComparing}
 use Rattle.norprog_play.specs.Expected.{Expectation}
 use Rattle.norprog_play.specs.Ending.{HasDoneAll, StopsOnDevice, IsUnlikeAfter, EndsComparing}
 use Rattle.norprog_play.specs.Likeness.{IsUnlike, Compares}
@@ -43,34 +45,57 @@ marked_since P size old new marked cells k inside = (
 )
 
 -- where the same addresses were to be compared
+marked_as : (held held' : Option (List ℕ)) (a b : Ahead) (limits : Limits) (access : Access) (content : List ℕ) (V W : ℕ → Type 0)
+    → ((k : ℕ) → k < length content → (V k ↔ W k)) → HasCompared held held' a b limits access content V → HasCompared held held' a b limits access content W
+marked_as held held' a b limits access content V W alike compared =
+    wanted_alike held held' a b limits access content V W (length content) alike compared
+
+stopped_as : (held held' : Option (List ℕ)) (a b : Ahead) (limits : Limits) (access : Access) (content : List ℕ) (V W : ℕ → Type 0) (why : Mismatch)
+    → ((k : ℕ) → k < length content → (V k ↔ W k)) → StopsComparing held held' a b limits access content V why
+    → StopsComparing held held' a b limits access content W why
+stopped_as held held' a b limits access content V W why alike stop = record {
+  last = stop.last;
+  some = stop.some;
+  few = stop.few;
+  within = stop.within;
+  sided = stop.sided;
+  wanted = λ k h. (alike k (omega (arith, h.1, stop.within))).0 (stop.wanted k h);
+  held = stop.held;
+  ahead = stop.ahead;
+  before = wanted_alike held stop.held a stop.ahead limits access content V W stop.last.start
+      (λ k below. alike k (omega (arith, below, stop.within))) stop.before;
+  stop = stop.stop;
+}
+
 pub compares_alike : (limits : Limits) (trusted : Bool) (access : Access) (V W : ℕ → Type 0) (before after : Moment) → ((k : ℕ) → k < length before.shown.chip.array → (V k ↔ W k))
     → Compares limits trusted access V before after → Compares limits trusted access W before after
 compares_alike limits true access V W before after alike compared = compared
-compares_alike limits false access V W before after alike compared = record {
-  shown = compared.shown;
-  compared = wanted_alike before.held after.held before.ahead after.ahead limits access before.shown.chip.array V W (length before.shown.chip.array) alike compared.compared;
-}
+compares_alike limits false access V W before after alike compared =
+    let both = compared.compared in
+    record {
+      shown = compared.shown;
+      compared = record {
+        held = both.held;
+        ahead = both.ahead;
+        compared = marked_as before.held both.held before.ahead both.ahead limits access before.shown.chip.array V W alike both.compared;
+        past = both.past;
+      };
+    }
 
 pub unlike_alike : (limits : Limits) (access : Access) (V W : ℕ → Type 0) (before after : Moment) (why : Mismatch) → ((k : ℕ) → k < length before.shown.chip.array → (V k ↔ W k))
     → IsUnlike limits access V before after why → IsUnlike limits access W before after why
-unlike_alike limits access V W before after why alike unlike =
-    let stop = unlike.stopped in
-    record {
-      shown = unlike.shown;
-      stopped = record {
-        last = stop.last;
-        some = stop.some;
-        few = stop.few;
-        within = stop.within;
-        sided = stop.sided;
-        wanted = λ k h. (alike k (omega (arith, h.1, stop.within))).0 (stop.wanted k h);
-        held = stop.held;
-        ahead = stop.ahead;
-        before = wanted_alike before.held stop.held before.ahead stop.ahead limits access before.shown.chip.array V W stop.last.start
-            (λ k below. alike k (omega (arith, below, stop.within))) stop.before;
-        stop = stop.stop;
-      };
-    }
+unlike_alike limits access V W before after why alike unlike = record {
+  shown = unlike.shown;
+  stopped = elim unlike.stopped [
+    | inl stop ↦ inl (stopped_as before.held after.held before.ahead after.ahead limits access before.shown.chip.array V W why alike stop)
+    | inr late ↦ inr (record {
+      held = late.held;
+      ahead = late.ahead;
+      compared = marked_as before.held late.held before.ahead late.ahead limits access before.shown.chip.array V W alike late.compared;
+      past = late.past;
+    })
+  ];
+}
 
 -- marked addresses, and those by which a smaller chip shows in a content
 abbrev pub MarkedSince : List Bool → List ℕ → ℕ → Type 0

@@ -9,7 +9,7 @@ ghost use Rattle.norprog_play.specs.Moment.{moment};
 ghost use Rattle.norprog_play.specs.Likeness.{Compares, IsLike, IsUnlike};
 
 use crate::access::Access;
-use crate::content::compare;
+use crate::content::compare_whole;
 use nor_base::{ByteIn, ByteOut};
 use nor_probe::Mismatch;
 use nor_serprog::{Reason, Shadowed};
@@ -48,8 +48,8 @@ pub(crate) fn compare_unless_trusted<R: ByteIn + Drop, W: ByteOut + Drop>(
     compare_chip(port, access, marks)
 }
 
-/// Has the device read the marked cells of its chip, and compares them with the chip in memory. A
-/// port where that stops has failed.
+/// Has the device read the marked cells of its chip, and what it gives past its end, and compares
+/// them with the chip in memory. A port where that stops has failed.
 pub(crate) fn compare_chip<R: ByteIn + Drop, W: ByteOut + Drop>(
     port: &mut Shadowed<'_, R, W>,
     access: Access,
@@ -76,7 +76,7 @@ pub(crate) fn compare_chip<R: ByteIn + Drop, W: ByteOut + Drop>(
         (W.count port.old.to) (W.count port.new.to) (fault_by fault_of_mismatch result) }
 {
     let content = port.chip.content();
-    let compared = compare(
+    let compared = compare_whole(
         &mut port.from,
         &mut port.to,
         &port.limits,

@@ -6,7 +6,9 @@ ghost use Rattle.std.specs.Prelude.{◌≡◌, true};
 use crate::bench::{WAY, no_texts};
 use crate::line::{ANSWERS, PUT, joined};
 use crate::same::{holds, same};
-use crate::scripts::{CELL, DONE, GREETED, GREETING, MANY, REST, STATUS, STEPS};
+use crate::scripts::{
+    AT_END, BUT_ONE, CELL, DONE, GREETED, GREETING, MANY, PAST, REST, STATUS, STEPS,
+};
 use crate::store::{FromLine, Store, ToLine};
 use nor_base::{FromRead, IntoWrite, Part, put_parts};
 use nor_script::hex_pair;
@@ -84,11 +86,8 @@ const OLD: &[u8] = b"\x00\xff\xff\xff\xff\xa5";
 
 const NEW: &[u8] = b"\x01\xff\xff\xff\xff\xa5";
 
-/// FFh to the end of a page of which six bytes came, and of a half of which one, six and eight
-/// came.
+/// FFh to the end of a page of which six bytes came, and of a half of which six and eight came.
 const AFTER_SIX: &[u8] = &[0xFF; 250];
-
-const BUT_ONE: &[u8] = &[0xFF; 4095];
 
 const BUT_SIX: &[u8] = &[0xFF; 4090];
 
@@ -97,7 +96,7 @@ const BUT_EIGHT: &[u8] = &[0xFF; 4088];
 /// ACK.
 const ACK: &[u8] = b"\x06";
 
-/// What goes out to read the chip; what one gives that is idle and empty.
+/// What goes out to read the chip; what one gives, with its end, that is idle and empty.
 const READ: &[&[u8]] = &[STATUS, ID, WHOLE, WHOLE, ID];
 
 const EMPTY: &[&[u8]] = &[
@@ -112,6 +111,10 @@ const EMPTY: &[&[u8]] = &[
     ACK,
     MANY,
     IS,
+    ACK,
+    MANY,
+    ACK,
+    MANY,
 ];
 
 /// How far the work of one program comes.
@@ -168,8 +171,19 @@ const GOOD: Row = Row {
     opening: GREETING,
     tested: ANSWERS,
     empty: true,
-    put: &[STEPS, READ_ONE, WHOLE],
-    answers: &[DONE, b"\x06\x00", b"\x06\x00", BUT_ONE, ACK, MANY],
+    put: &[STEPS, READ_ONE, WHOLE, PAST],
+    answers: &[
+        DONE,
+        b"\x06\x00",
+        b"\x06\x00",
+        BUT_ONE,
+        ACK,
+        MANY,
+        b"\x06\x00",
+        BUT_ONE,
+        ACK,
+        MANY,
+    ],
     released: b"\x15\x00",
     released_so: ACK,
     end: End::Silent,
@@ -189,8 +203,8 @@ static DONES: [Row; 4] = [
         hex: ONE,
         empty: false,
         put: &[
-            STATUS, ID, WHOLE, WHOLE, ID, ENABLE, ERASE, STATUS, ENABLE, RESTORE, STATUS, PAGES,
-            WHOLE,
+            STATUS, ID, WHOLE, WHOLE, ID, PAST, ENABLE, ERASE, STATUS, ENABLE, RESTORE, STATUS,
+            PAGES, WHOLE, PAST,
         ],
         answers: &[
             b"\x06\x00",
@@ -206,6 +220,11 @@ static DONES: [Row; 4] = [
             ACK,
             MANY,
             IS,
+            ACK,
+            OLD,
+            BUT_SIX,
+            ACK,
+            MANY,
             DONE,
             DONE,
             ACK,
@@ -246,6 +265,11 @@ static DONES: [Row; 4] = [
             BUT_SIX,
             ACK,
             MANY,
+            ACK,
+            NEW,
+            BUT_SIX,
+            ACK,
+            MANY,
         ],
         saved: Some(OLD),
         plan: b"erase 00000000 00001000 20\nbecause 00000000 00000000\nprogram 00000000 6\n\
@@ -258,8 +282,10 @@ static DONES: [Row; 4] = [
     Row {
         hex: ONE,
         old: Some((OLD, 8186)),
-        put: &[ENABLE, RESTORE, STATUS, READ_SIX, WHOLE],
-        answers: &[DONE, ACK, NEW, ACK, NEW, BUT_SIX, ACK, MANY],
+        put: &[ENABLE, RESTORE, STATUS, READ_SIX, WHOLE, PAST],
+        answers: &[
+            DONE, ACK, NEW, ACK, NEW, BUT_SIX, ACK, MANY, ACK, NEW, BUT_SIX, ACK, MANY,
+        ],
         plan: b"program 00000000 6\nstrategy S2\nsteps 4\n\
             erases 0\nerased 0\nprograms 1\nignored 0\n",
         far: b"\rstep 4 of 4, 23 of 23 bytes\n",
@@ -268,7 +294,7 @@ static DONES: [Row; 4] = [
     // the chip holds it, and is still read back
     Row {
         empty: false,
-        put: &[STATUS, ID, WHOLE, WHOLE, ID, WHOLE],
+        put: &[STATUS, ID, WHOLE, WHOLE, ID, PAST, WHOLE, PAST],
         answers: &[
             b"\x06\x00",
             IS,
@@ -281,6 +307,14 @@ static DONES: [Row; 4] = [
             ACK,
             MANY,
             IS,
+            b"\x06\x00",
+            BUT_ONE,
+            ACK,
+            MANY,
+            b"\x06\x00",
+            BUT_ONE,
+            ACK,
+            MANY,
             b"\x06\x00",
             BUT_ONE,
             ACK,
@@ -348,7 +382,7 @@ const UNLIKE: Row = Row {
     ..KEPT
 };
 
-static UNLIKES: [Row; 14] = [
+static UNLIKES: [Row; 15] = [
     // block protection
     Row {
         put: READ,
@@ -409,6 +443,27 @@ static UNLIKES: [Row; 14] = [
             BUT_EIGHT,
         ],
         line: b"unlike at 00001005\n",
+        ..UNLIKE
+    },
+    // a larger chip, which gives another byte at 8 KiB than at 0
+    Row {
+        put: &[STATUS, ID, WHOLE, WHOLE, ID, AT_END],
+        answers: &[
+            b"\x06\x00",
+            IS,
+            ACK,
+            MANY,
+            ACK,
+            MANY,
+            ACK,
+            MANY,
+            ACK,
+            MANY,
+            IS,
+            b"\x06\x00",
+            BUT_ONE,
+        ],
+        line: b"unlike at 00002000\n",
         ..UNLIKE
     },
     // NAK, there and at the identification; silence in the first reading
@@ -497,9 +552,13 @@ static UNLIKES: [Row; 14] = [
 ];
 
 /// Work that stops after a step was sent.
-const HALF: Row = Row { far: b"", ..GOOD };
+const HALF: Row = Row {
+    put: &[STEPS, READ_ONE, WHOLE],
+    far: b"",
+    ..GOOD
+};
 
-static HALVES: [Row; 11] = [
+static HALVES: [Row; 12] = [
     // NAK at the write enable; silence at the program
     Row {
         put: &[ENABLE],
@@ -549,6 +608,23 @@ static HALVES: [Row; 11] = [
         ],
         far: FAR,
         line: b"failed at 4 differs at 00001000 chip 00 want ff\n",
+        ..HALF
+    },
+    // a larger one, which has no such byte at 8 KiB
+    Row {
+        put: &[STEPS, READ_ONE, WHOLE, AT_END],
+        answers: &[
+            DONE,
+            b"\x06\x00",
+            b"\x06\x00",
+            BUT_ONE,
+            ACK,
+            MANY,
+            ACK,
+            MANY,
+        ],
+        far: FAR,
+        line: b"failed at 4 differs at 00002000 chip ff want 00\n",
         ..HALF
     },
     // NAK, silence, and a byte that serprog hasn't, as the chip is read back
@@ -621,6 +697,7 @@ fn wanted(alloc: Global, row: &Row) -> Result<Vec<u8>, AllocError> {
     }
     if row.empty {
         all.extend_from_slice(joined(alloc, READ)?.as_slice())?;
+        all.extend_from_slice(PAST)?;
     }
     all.extend_from_slice(joined(alloc, row.put)?.as_slice())?;
     all.extend_from_slice(row.released)?;

@@ -64,8 +64,8 @@ impl Memory {
         match *opcode {
             0x9F => give(&ID, 0, asked, out),
             0x5A => give(&self.tables, address(rest, false).0, asked, out),
-            0x03 => give(&self.array, address(rest, self.mode4).0, asked, out),
-            0x13 => give(&self.array, address(rest, true).0, asked, out),
+            0x03 => give_round(&self.array, address(rest, self.mode4).0, asked, out),
+            0x13 => give_round(&self.array, address(rest, true).0, asked, out),
             other => {
                 self.change(other, rest);
                 Ok(())
@@ -171,6 +171,24 @@ fn give(bytes: &[u8], at: usize, asked: usize, out: &mut Vec<u8>) -> Result<(), 
     let want = out.len().saturating_add(asked);
     if let Some((_, from)) = bytes.split_at_checked(at) {
         out.extend_from_slice(from.get(..asked).unwrap_or(from))?;
+    }
+    out.resize(want, 0xFF)
+}
+
+/// The same of a content, which begins again after its last byte.
+fn give_round(
+    content: &[u8],
+    at: usize,
+    asked: usize,
+    out: &mut Vec<u8>,
+) -> Result<(), AllocError> {
+    let want = out.len().saturating_add(asked);
+    let at = at.checked_rem(content.len()).unwrap_or(0);
+    if let Some((front, back)) = content.split_at_checked(at) {
+        let last = back.get(..asked).unwrap_or(back);
+        out.extend_from_slice(last)?;
+        let left = asked.saturating_sub(last.len());
+        out.extend_from_slice(front.get(..left).unwrap_or(front))?;
     }
     out.resize(want, 0xFF)
 }

@@ -251,12 +251,13 @@ fn slips(rt: &impl Abort, alloc: Global, places: &[usize], slip: Slip) -> Result
 
 /// How the job stops at the bytes that come, where each is seen.
 const STOPPED: Counts = Counts {
-    // the handshake, the test of the line, the status, the identification and a reading, each twice
-    early: 51 + 8 + 2 + 2 * 4 + 2 * 4,
+    // the handshake, the test of the line, the status, the identification and a reading, each
+    // twice, and the end
+    early: 51 + 8 + 2 + 2 * 4 + 2 * 4 + 4,
     // an erase and two programs with their polls, sixteen pages, a byte
     middle: 3 * 8 + 16 * 4 + 2,
-    // the reading after them
-    late: 4,
+    // the reading after them, and the end
+    late: 4 + 4,
     // letting the pins go, which changes nothing
     done: 1,
 };

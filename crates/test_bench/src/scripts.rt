@@ -64,6 +64,13 @@ const BEFORE_IT: &[u8] = b"\x13\x04\x00\x00\x00\x01\x00\x03\x00\x0f\x00";
 
 const BOTH: &[u8] = b"\x13\x04\x00\x00\x00\x02\x00\x03\x00\x0f\x00";
 
+/// The 4 KiB after its end are read, where one of 8 KiB gives those at 0; and the next, where it
+/// gives its last.
+pub(crate) const AT_END: &[u8] = b"\x13\x04\x00\x00\x00\x10\x00\x03\x00\x20\x00";
+
+pub(crate) const PAST: &[u8] = b"\x13\x04\x00\x00\x00\x10\x00\x03\x00\x20\x00\
+    \x13\x04\x00\x00\x00\x10\x00\x03\x00\x30\x00";
+
 /// A write enable, the program of 00h at 0, and a status read.
 pub(crate) const STEPS: &[u8] = b"\x13\x01\x00\x00\x00\x00\x00\x06\
     \x13\x05\x00\x00\x00\x00\x00\x02\x00\x00\x00\x00\
@@ -105,8 +112,10 @@ const TWO_STEPS: &[u8] = b"\x13\x01\x00\x00\x00\x00\x00\x06\
 
 const TWO_DONE: &[u8] = b"\x06\x06\x06\x00\x06\x06\x06\x00";
 
-/// 4095 bytes of FFh, 3840, and 254.
+/// 4096 bytes of FFh, 4095, 3840, and 254.
 pub(crate) const MANY: &[u8] = &[0xFF; 4096];
+
+pub(crate) const BUT_ONE: &[u8] = &[0xFF; 4095];
 
 const AFTER_TWO: &[u8] = &[0xFF; 3840];
 
@@ -171,15 +180,23 @@ const GOOD: Row = Row {
     parts: 12,
     opening: GREETING,
     tested: ANSWERS,
-    put: &[STATUS, FIRST, STEPS, FIRST, MIDDLE],
+    put: &[STATUS, FIRST, PAST, STEPS, FIRST, MIDDLE, PAST],
     answers: &[
         b"\x06\x00\x06",
         CELL,
+        b"\x06",
+        MANY,
+        b"\x06",
+        MANY,
         DONE,
         b"\x06\x00",
         REST,
         b"\x06",
         CELL,
+        b"\x06\x00",
+        BUT_ONE,
+        b"\x06",
+        MANY,
     ],
     released: b"\x15\x00",
     released_so: b"\x06",
@@ -195,7 +212,7 @@ const UNLIKE: Row = Row { code: 1, ..GOOD };
 
 /// One that stops after steps were sent.
 const HALF: Row = Row {
-    put: &[STATUS, FIRST, STEPS, FIRST],
+    put: &[STATUS, FIRST, PAST, STEPS, FIRST],
     code: 1,
     told: &[STATE],
     ..GOOD
@@ -221,22 +238,34 @@ static DONES: [Row; 8] = [
     },
     // it is busy for two status reads, and its other bits are clear once it is idle
     Row {
-        put: &[STATUS, STATUS, STATUS, FIRST, STEPS, FIRST, MIDDLE],
+        put: &[
+            STATUS, STATUS, STATUS, FIRST, PAST, STEPS, FIRST, MIDDLE, PAST,
+        ],
         answers: &[
             b"\x06\x01\x06\x03\x06\x00\x06",
             CELL,
+            b"\x06",
+            MANY,
+            b"\x06",
+            MANY,
             DONE,
             b"\x06\x00",
             REST,
             b"\x06",
             CELL,
+            b"\x06\x00",
+            BUT_ONE,
+            b"\x06",
+            MANY,
         ],
         ..GOOD
     },
     // the last byte that isn't FFh is compared, though no step touches it, and the one 4 KiB below
     Row {
         last: 0x5A,
-        put: &[STATUS, FIRST, BEFORE_IT, LAST, STEPS, FIRST, BOTH, LAST],
+        put: &[
+            STATUS, FIRST, BEFORE_IT, LAST, PAST, STEPS, FIRST, BOTH, LAST, PAST,
+        ],
         answers: &[
             b"\x06\x00\x06",
             CELL,
@@ -244,6 +273,10 @@ static DONES: [Row; 8] = [
             CELL,
             b"\x06",
             REST,
+            b"\x5a\x06",
+            MANY,
+            b"\x06",
+            BUT_ONE,
             b"\x5a",
             DONE,
             b"\x06\x00",
@@ -253,6 +286,10 @@ static DONES: [Row; 8] = [
             CELL,
             b"\x06",
             REST,
+            b"\x5a\x06\x00",
+            BUT_ONE,
+            b"\x06",
+            BUT_ONE,
             b"\x5a",
         ],
         line: b"ok 3\n",
@@ -261,12 +298,16 @@ static DONES: [Row; 8] = [
     // cells side by side are read at once, as many bytes as the device gives
     Row {
         text: TWO,
-        put: &[STATUS, TWO_CELLS, TWO_STEPS, TWO_CELLS],
+        put: &[STATUS, TWO_CELLS, PAST, TWO_STEPS, TWO_CELLS, PAST],
         answers: &[
             b"\x06\x00\x06",
             MANY,
             b"\x06",
             CELL,
+            b"\x06",
+            MANY,
+            b"\x06",
+            MANY,
             TWO_DONE,
             b"\x06\x00",
             BETWEEN,
@@ -274,6 +315,12 @@ static DONES: [Row; 8] = [
             AFTER_TWO,
             b"\x06",
             CELL,
+            b"\x06",
+            AFTER_TWO,
+            b"\x00",
+            BETWEEN,
+            b"\x00\x06",
+            MANY,
         ],
         line: b"blank\nok 6\n",
         ..GOOD
@@ -281,17 +328,25 @@ static DONES: [Row; 8] = [
     // the chip has the tables of the file
     Row {
         tables: true,
-        put: &[STATUS, TABLES, FIRST, STEPS, FIRST, MIDDLE],
+        put: &[STATUS, TABLES, FIRST, PAST, STEPS, FIRST, MIDDLE, PAST],
         answers: &[
             b"\x06\x00\x06",
             &SMALL,
             b"\x06",
             CELL,
+            b"\x06",
+            MANY,
+            b"\x06",
+            MANY,
             DONE,
             b"\x06\x00",
             REST,
             b"\x06",
             CELL,
+            b"\x06\x00",
+            BUT_ONE,
+            b"\x06",
+            MANY,
         ],
         ..GOOD
     },
@@ -300,17 +355,25 @@ static DONES: [Row; 8] = [
         tables: true,
         part: Some("w25q256jv"),
         status: Some("000200"),
-        put: &[REGISTERS, TABLES, FIRST, STEPS, FIRST, MIDDLE],
+        put: &[REGISTERS, TABLES, FIRST, PAST, STEPS, FIRST, MIDDLE, PAST],
         answers: &[
             b"\x06\x00\x06\x02\x06\x00\x06",
             &SMALL,
             b"\x06",
             CELL,
+            b"\x06",
+            MANY,
+            b"\x06",
+            MANY,
             DONE,
             b"\x06\x00",
             REST,
             b"\x06",
             CELL,
+            b"\x06\x00",
+            BUT_ONE,
+            b"\x06",
+            MANY,
         ],
         ..GOOD
     },
@@ -325,7 +388,7 @@ static DONES: [Row; 8] = [
 ];
 
 /// Plays that aren't begun: nothing that changes the chip goes out.
-static UNLIKES: [Row; 15] = [
+static UNLIKES: [Row; 17] = [
     Row {
         put: &[STATUS, STATUS, STATUS],
         answers: &[b"\x06\x01\x06\x01\x06\x03"],
@@ -408,6 +471,31 @@ static UNLIKES: [Row; 15] = [
         line: b"unlike differs at 00001fff chip ff dump 5a\n",
         ..UNLIKE
     },
+    // it is larger: at 8 KiB it gives another byte than at 0, and in the other half
+    Row {
+        put: &[STATUS, FIRST, AT_END],
+        answers: &[b"\x06\x00\x06", CELL, b"\x06\x00", BUT_ONE],
+        line: b"unlike differs at 00002000 chip 00 dump ff\n",
+        ..UNLIKE
+    },
+    Row {
+        last: 0x5A,
+        put: &[STATUS, FIRST, BEFORE_IT, LAST, PAST],
+        answers: &[
+            b"\x06\x00\x06",
+            CELL,
+            b"\x06",
+            CELL,
+            b"\x06",
+            REST,
+            b"\x5a\x06",
+            MANY,
+            b"\x06",
+            MANY,
+        ],
+        line: b"unlike differs at 00003fff chip ff dump 5a\n",
+        ..UNLIKE
+    },
     // the device refuses, falls silent, fails, or answers none of serprog's bytes
     Row {
         put: &[STATUS],
@@ -439,13 +527,17 @@ static UNLIKES: [Row; 15] = [
 ];
 
 /// Plays that stop after steps were sent.
-static HALVES: [Row; 10] = [
+static HALVES: [Row; 11] = [
     // a chip of 4 KiB, whose addresses wrap: the byte that was programmed is at 1000h too
     Row {
-        put: &[STATUS, FIRST, STEPS, FIRST, MIDDLE],
+        put: &[STATUS, FIRST, PAST, STEPS, FIRST, MIDDLE],
         answers: &[
             b"\x06\x00\x06",
             CELL,
+            b"\x06",
+            MANY,
+            b"\x06",
+            MANY,
             DONE,
             b"\x06\x00",
             REST,
@@ -455,63 +547,156 @@ static HALVES: [Row; 10] = [
         line: b"failed at 3 differs at 00001000 chip 00 want ff\n",
         ..HALF
     },
+    // a larger one, which has no such byte at 8 KiB
+    Row {
+        put: &[STATUS, FIRST, PAST, STEPS, FIRST, MIDDLE, AT_END],
+        answers: &[
+            b"\x06\x00\x06",
+            CELL,
+            b"\x06",
+            MANY,
+            b"\x06",
+            MANY,
+            DONE,
+            b"\x06\x00",
+            REST,
+            b"\x06",
+            CELL,
+            b"\x06",
+            MANY,
+        ],
+        line: b"failed at 3 differs at 00002000 chip ff want 00\n",
+        ..HALF
+    },
     // a chip that takes no program, where the script doesn't read it back
     Row {
-        answers: &[b"\x06\x00\x06", CELL, DONE, b"\x06", CELL],
+        answers: &[
+            b"\x06\x00\x06",
+            CELL,
+            b"\x06",
+            MANY,
+            b"\x06",
+            MANY,
+            DONE,
+            b"\x06",
+            CELL,
+        ],
         line: b"failed at 3 differs at 00000000 chip ff want 00\n",
         ..HALF
     },
     // where it does, in its fourth step: the rest of the answer is taken
     Row {
         text: VERIFY,
-        put: &[STATUS, FIRST, STEPS, READ_TWO],
-        answers: &[b"\x06\x00\x06", CELL, DONE, b"\x06\x80\xff"],
+        put: &[STATUS, FIRST, PAST, STEPS, READ_TWO],
+        answers: &[
+            b"\x06\x00\x06",
+            CELL,
+            b"\x06",
+            MANY,
+            b"\x06",
+            MANY,
+            DONE,
+            b"\x06\x80\xff",
+        ],
         line: b"failed at 3 differs at 00000000 chip 80 want 00\n",
         ..HALF
     },
     // and a byte beside the program: nothing was to change there
     Row {
-        answers: &[b"\x06\x00\x06", CELL, DONE, b"\x06\x00\xf0", BETWEEN],
+        answers: &[
+            b"\x06\x00\x06",
+            CELL,
+            b"\x06",
+            MANY,
+            b"\x06",
+            MANY,
+            DONE,
+            b"\x06\x00\xf0",
+            BETWEEN,
+        ],
         line: b"failed at 3 differs at 00000001 chip f0 want ff\n",
         ..HALF
     },
     // no byte of the chip's content
     Row {
         text: READS_STATUS,
-        put: &[STATUS, STATUS_TWICE],
-        answers: &[b"\x06\x00\x06\x00\x80"],
+        put: &[STATUS, PAST, STATUS_TWICE],
+        answers: &[b"\x06\x00\x06", MANY, b"\x06", MANY, b"\x06\x00\x80"],
         line: b"failed at 0 differs chip 80 want 00\n",
         ..HALF
     },
     // a poll that never ends, a refusal, silence, and a byte that serprog hasn't
     Row {
         limit: "1",
-        put: &[STATUS, FIRST, STEPS],
-        answers: &[b"\x06\x00\x06", CELL, b"\x06\x06\x06\x01"],
+        put: &[STATUS, FIRST, PAST, STEPS],
+        answers: &[
+            b"\x06\x00\x06",
+            CELL,
+            b"\x06",
+            MANY,
+            b"\x06",
+            MANY,
+            b"\x06\x06\x06\x01",
+        ],
         line: b"wrong 6 at 2\n",
         ..HALF
     },
     Row {
-        put: &[STATUS, FIRST, STEPS],
-        answers: &[b"\x06\x00\x06", CELL, b"\x06\x06\x15"],
+        put: &[STATUS, FIRST, PAST, STEPS],
+        answers: &[
+            b"\x06\x00\x06",
+            CELL,
+            b"\x06",
+            MANY,
+            b"\x06",
+            MANY,
+            b"\x06\x06\x15",
+        ],
         line: b"failed at 2 nak\n",
         ..HALF
     },
     Row {
-        answers: &[b"\x06\x00\x06", CELL, DONE, b"\x06\x00"],
+        answers: &[
+            b"\x06\x00\x06",
+            CELL,
+            b"\x06",
+            MANY,
+            b"\x06",
+            MANY,
+            DONE,
+            b"\x06\x00",
+        ],
         released_so: b"",
         line: b"failed at 3 silent\n",
         ..HALF
     },
     Row {
-        put: &[STATUS, FIRST, STEPS],
-        answers: &[b"\x06\x00\x06", CELL, b"\x06\x06\x07"],
+        put: &[STATUS, FIRST, PAST, STEPS],
+        answers: &[
+            b"\x06\x00\x06",
+            CELL,
+            b"\x06",
+            MANY,
+            b"\x06",
+            MANY,
+            b"\x06\x06\x07",
+        ],
         line: b"failed at 2 differs\n",
         ..HALF
     },
     // standard output is full: that is reported after what to do
     Row {
-        answers: &[b"\x06\x00\x06", CELL, DONE, b"\x06", CELL],
+        answers: &[
+            b"\x06\x00\x06",
+            CELL,
+            b"\x06",
+            MANY,
+            b"\x06",
+            MANY,
+            DONE,
+            b"\x06",
+            CELL,
+        ],
         room: 8,
         line: b"failed a",
         told: &[STATE, b"norprog: write\n"],
@@ -558,8 +743,8 @@ static CUTS: [Row; 5] = [
     },
     // in the program, and as the chip is read back
     Row {
-        put: &[STATUS, FIRST, HALF_SENT],
-        answers: &[b"\x06\x00\x06", CELL, b"\x06"],
+        put: &[STATUS, FIRST, PAST, HALF_SENT],
+        answers: &[b"\x06\x00\x06", CELL, b"\x06", MANY, b"\x06", MANY, b"\x06"],
         released: b"",
         released_so: b"",
         cut: true,
@@ -567,8 +752,8 @@ static CUTS: [Row; 5] = [
         ..HALF
     },
     Row {
-        put: &[STATUS, FIRST, STEPS, b"\x13\x04\x00\x00\x00"],
-        answers: &[b"\x06\x00\x06", CELL, DONE],
+        put: &[STATUS, FIRST, PAST, STEPS, b"\x13\x04\x00\x00\x00"],
+        answers: &[b"\x06\x00\x06", CELL, b"\x06", MANY, b"\x06", MANY, DONE],
         released: b"",
         released_so: b"",
         cut: true,

@@ -87,13 +87,19 @@ pub(crate) const TOPICS: &[Topic] = &[
          second time. The clip sits badly, the wires are too long, or the clock is too\n\
          fast. No file was made. Seat the clip anew, and read again. Or the chip isn't in\n\
          the address mode that the options say: --mode4 is for one in four-byte mode, and\n\
-         power off and on takes it out of that.",
+         power off and on takes it out of that. At an address past the chip's end it is\n\
+         larger than --uniform says.",
     ),
     (
         "unlike id",
         "After the word comes the identification that the chip gave. ffffff and 000000 come\n\
          from a line without a chip; any other came only at the end: the clip moved, or\n\
          the chip lost its power. No file was made. Seat the clip anew, and read again.",
+    ),
+    (
+        "id",
+        "The chip's identification, in hexadecimal, as 9F gives it: the number of its\n\
+         maker, and two bytes of the maker's, of which the last often says its size.",
     ),
     (
         "unlike line",
@@ -115,8 +121,9 @@ pub(crate) const TOPICS: &[Topic] = &[
         "At this address the chip holds another byte than the dump, the content file;\n\
          without an address the device answered by a byte that serprog hasn't there. It\n\
          is another chip, it was written after the dump was read, or it isn't in the\n\
-         address mode that the options say. No step was sent. Read the chip again, whole,\n\
-         and build anew from that dump.",
+         address mode that the options say; at an address past the dump's end it is larger\n\
+         than --uniform says. No step was sent. Read the chip again, whole, and build anew\n\
+         from that dump.",
     ),
     (
         "unlike",
@@ -142,8 +149,8 @@ pub(crate) const TOPICS: &[Topic] = &[
          power the device off and on: it may wait for the rest of a request. Where the\n\
          number is that of all steps, all were sent, and then the chip was read back:\n\
          at the address it doesn't hold what it must. If no step touches that address,\n\
-         the chip is smaller than --uniform says, or an erase of it takes more than it\n\
-         should. Ask for `the chip`.",
+         the chip is smaller or larger than --uniform says, or an erase of it takes more\n\
+         than it should. Ask for `the chip`.",
     ),
     (
         "the chip",

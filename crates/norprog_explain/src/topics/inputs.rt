@@ -199,7 +199,8 @@ pub(crate) const TOPICS: &[Topic] = &[
         "read",
         "As a refusal: reading the content failed. Check the disk, and run the command\n\
          again. As a line of a listing: a read whose bytes are dropped; opcode, address\n\
-         and number of bytes.",
+         and number of bytes. As the last line of `read`: so many bytes came twice alike,\n\
+         and the file of --out has them.",
     ),
     (
         "write",

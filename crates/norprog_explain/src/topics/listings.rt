@@ -31,7 +31,8 @@ pub(crate) const TOPICS: &[Topic] = &[
         "status",
         "In a listing: one read of the status, whose bytes are dropped; opcode and\n\
          number of bytes. As a refusal: what the given status says; ask for the word\n\
-         with its number, 1 to 4.",
+         with its number, 1 to 4. As a line of `read`: the chip's status, in hexadecimal;\n\
+         `unlike status` says which bits close it.",
     ),
     (
         "enter",

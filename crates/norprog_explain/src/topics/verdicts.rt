@@ -34,7 +34,8 @@ pub(crate) const TOPICS: &[Topic] = &[
         "The script ran to its end, and nothing went wrong. The number counts the\n\
          transactions, each turn of a poll too. The file of --out has what the chip\n\
          holds then. Of `play`: each poll counts once. Without --trust play has read\n\
-         back what the steps touch, and the chip holds there what it must.",
+         back what the steps touch, and the chip holds there what it must. Of `flash`:\n\
+         each step was done, and then the whole chip held what it must.",
     ),
     (
         "wrong 1",

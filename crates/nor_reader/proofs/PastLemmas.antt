@@ -1,0 +1,69 @@
+-- Bytes that are read past the end.
+use Rattle.std.proofs.Common.{◌≡◌, ℕ, Bool, true, false, ◌+◌, ◌-◌, ◌%◌, ◌^◌, ◌<◌, ◌≤◌, List, [], ◌∷◌, ◌++◌, length, take, Option, sym, ◌∙◌, ap, subst, arith, append-nil, append_assoc, length-append}
+use Rattle.std.specs.Prelude.{if◌then◌else◌, min, nat_lt}
+use Rattle.std.specs.List.{slice_range}
+use Rattle.std.proofs.lemmas.List.{length-take-le}
+use Rattle.nor_base.specs.Device.{Ahead}
+use Rattle.nor_probe.specs.declared.difference.Mismatch.{Mismatch}
+use Rattle.nor_loop.specs.Log.{HasLogged}
+use Rattle.nor_reader.specs.declared.by.ReadBy.{ReadBy}
+use Rattle.nor_reader.specs.Again.{MissesPiece}
+use Rattle.nor_reader.specs.Past.{past_end, MissesPast}
+use Rattle.nor_reader.specs.Reads.{read_op, HasReadOn}
+use Rattle.nor_reader.proofs.AgainLemmas.{slice_long, take_on, misses_within}
+use Rattle.nor_reader.proofs.PassLemmas.{nothing_read, read_both, one_piece}
+
+-- no more than the chip has
+few_of : (is : Bool) (size other : ℕ) → (if is then min size other else 0) ≤ size
+few_of true size other = omega arith
+few_of false size other = omega arith
+
+pub past_few : (size : ℕ) → past_end size ≤ size
+past_few size = few_of (nat_lt size (2 ^ 24)) size ((65536 - size % 65536) % 65536)
+
+-- none was read yet
+pub none_past : (most : ℕ) (h : Option (List ℕ)) (a : Ahead) (by : ReadBy) (content : List ℕ) → HasReadOn most h h a a by content (content ++ take 0 content)
+none_past most h a by content = subst (λ (l : List ℕ). HasReadOn most h h a a by content l) (sym (append-nil content)) (nothing_read most h a by content)
+
+-- one piece more
+pub past_more : (most : ℕ) (h i j : Option (List ℕ)) (a b c : Ahead) (by : ReadBy) (content : List ℕ) (done len : ℕ) → done + len ≤ length content
+    → 0 < len → len ≤ most → HasReadOn most h i a b by content (content ++ take done content)
+    → HasLogged i j b c (read_op by (length content + done) (slice_range content done (done + len)) ∷ [])
+    → HasReadOn most h j a c by content (content ++ take (done + len) content)
+past_more most h i j a b c by content done len within some few read more =
+    let piece = slice_range content done (done + len) in
+    let long : length piece ≡ len = slice_long content done len within in
+    let first : length (take done content) ≡ done = length-take-le done content (omega (arith, within)) in
+    let mid = content ++ take done content in
+    let at : length content + done ≡ length mid = omega (arith, length-append content (take done content), first) in
+    let joined : mid ++ piece ≡ content ++ take (done + len) content =
+    append_assoc content (take done content) piece ∙ ap (λ (l : List ℕ). content ++ l) (sym (take_on content done len)) in
+    subst (λ (l : List ℕ). HasReadOn most h j a c by content l) joined
+    (read_both most h i j a b c by content mid (mid ++ piece) read
+    (one_piece most i j b c by mid piece (omega (arith, long, some)) (omega (arith, long, few))
+    (subst (λ n. HasLogged i j b c (read_op by n piece ∷ [])) at more)))
+
+-- or its read ended so
+pub past_not : (most : ℕ) (h i j : Option (List ℕ)) (a b c : Ahead) (by : ReadBy) (content : List ℕ) (done len : ℕ) (why : Mismatch)
+    → done + len ≤ length content → done + len ≤ past_end (length content) → 0 < len → len ≤ most
+    → HasReadOn most h i a b by content (content ++ take done content)
+    → MissesPiece (length (slice_range content done (done + len))) i j b c by (length content + done) (slice_range content done (done + len)) why
+    → MissesPast most h j a c by content why
+past_not most h i j a b c by content done len why within before some few read stop =
+    let piece = slice_range content done (done + len) in
+    let long : length piece ≡ len = slice_long content done len within in
+    record {
+      at = done;
+      len = len;
+      some = some;
+      within = before;
+      held = i;
+      ahead = b;
+      alike = read;
+      stop = misses_within (length piece) most i j b c by (length content + done) piece why (omega (arith, long, few)) stop;
+    }
+
+-- all was read
+pub past_all : (most : ℕ) (h i : Option (List ℕ)) (a b : Ahead) (by : ReadBy) (content : List ℕ) (done : ℕ) → done ≡ past_end (length content)
+    → HasReadOn most h i a b by content (content ++ take done content) → HasReadOn most h i a b by content (content ++ take (past_end (length content)) content)
+past_all most h i a b by content done is read = subst (λ n. HasReadOn most h i a b by content (content ++ take n content)) is read

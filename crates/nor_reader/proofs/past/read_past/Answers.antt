@@ -1,0 +1,62 @@
+-- Piece by piece.
+use Rattle.std.proofs.Common.{◌≡◌, ◌≤◌, ◌<◌, ◌+◌, length, refl, ◌∙◌, arith}
+use Rattle.nor_reader.specs.Past.{past_end}
+use Rattle.nor_reader.proofs.PastLemmas.{past_few, none_past, past_all, past_more, past_not}
+use Rattle.nor_reader.proofs.HarmlessLemmas.{past_sent, past_sends}
+use Rattle.nor_reader.proofs.past.read_past.Goals as goal
+
+pub loop-done-init : goal.loop-done-init
+loop-done-init g c = record {
+  within = omega arith;
+  alike = none_past c.args.limits.now.asked (g.W.ByteOut.held c.args.to.now) (g.R.ByteIn.ahead c.args.from.now) c.args.by c.args.content.now;
+  reads = refl;
+  writes = refl;
+}
+
+pub loop-done-preserved : goal.loop-done-preserved
+loop-done-preserved g c =
+    let content = c.args.content.now in
+    let past : c.past_end-past.result ≡ past_end (length content) = c.past_end-past.ensures in
+    let before : c.loop-done.done + c.min-len.result ≤ past_end (length content) = omega arith in
+    let within : c.loop-done.done + c.min-len.result ≤ length content = omega (arith, before, past_few (length content)) in
+    let some : 0 < c.min-len.result = omega (arith, c.args.limits.now.some_asked) in
+    let few : c.min-len.result ≤ c.args.limits.now.asked = omega arith in
+    let ok = c.in_default.ensures in
+    record {
+      within = before;
+      alike = past_more c.args.limits.now.asked (g.W.ByteOut.held c.args.to.now) (g.W.ByteOut.held c.loop-done.to)
+          (g.W.ByteOut.held c.compare_piece.new.to) (g.R.ByteIn.ahead c.args.from.now) (g.R.ByteIn.ahead c.loop-done.from)
+          (g.R.ByteIn.ahead c.compare_piece.new.from) c.args.by content
+          c.loop-done.done c.min-len.result within some few c.loop-done.invariant.alike ok.read;
+      reads = ok.counts.0 ∙ c.loop-done.invariant.reads;
+      writes = ok.counts.1 ∙ c.loop-done.invariant.writes;
+    }
+
+pub returns-in-Err-clause-past : goal.returns-in-Err-clause-past
+returns-in-Err-clause-past g c =
+    let content = c.args.content.now in
+    let before : c.loop-done.done + c.min-len.result ≤ past_end (length content) = omega arith in
+    let within : c.loop-done.done + c.min-len.result ≤ length content = omega (arith, before, past_few (length content)) in
+    let some : 0 < c.min-len.result = omega (arith, c.args.limits.now.some_asked) in
+    let few : c.min-len.result ≤ c.args.limits.now.asked = omega arith in
+    past_not c.args.limits.now.asked (g.W.ByteOut.held c.args.to.now) (g.W.ByteOut.held c.loop-done.to) (g.W.ByteOut.held c.compare_piece.new.to)
+    (g.R.ByteIn.ahead c.args.from.now) (g.R.ByteIn.ahead c.loop-done.from) (g.R.ByteIn.ahead c.compare_piece.new.from) c.args.by content
+    c.loop-done.done c.min-len.result c.in-Err.why within before some few c.loop-done.invariant.alike c.in-Err.ensures.read
+
+pub returns-in-Err-clause-harmless : goal.returns-in-Err-clause-harmless
+returns-in-Err-clause-harmless g c =
+    past_sends c.args.limits.now.asked (g.W.ByteOut.held c.args.to.now) (g.W.ByteOut.held c.compare_piece.new.to)
+    (g.R.ByteIn.ahead c.args.from.now) (g.R.ByteIn.ahead c.compare_piece.new.from) c.args.by c.args.content.now c.in-Err.why
+    (returns-in-Err-clause-past g c)
+
+pub returns-clause-past : goal.returns-clause-past
+returns-clause-past g c =
+    past_all c.args.limits.now.asked (g.W.ByteOut.held c.args.to.now) (g.W.ByteOut.held c.loop-done.to)
+    (g.R.ByteIn.ahead c.args.from.now) (g.R.ByteIn.ahead c.loop-done.from) c.args.by c.args.content.now c.loop-done.done
+    (omega (arith, c.past_end-past.ensures)) c.loop-done.invariant.alike
+
+pub returns-clause-harmless : goal.returns-clause-harmless
+returns-clause-harmless g c =
+    past_sent c.args.limits.now.asked (g.W.ByteOut.held c.args.to.now) (g.W.ByteOut.held c.loop-done.to)
+    (g.R.ByteIn.ahead c.args.from.now) (g.R.ByteIn.ahead c.loop-done.from) c.args.by c.args.content.now
+    (returns-clause-past g c)

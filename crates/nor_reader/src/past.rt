@@ -1,0 +1,68 @@
+//! What a chip gives past its end.
+
+ghost use Rattle.std.specs.Prelude.{◌≡◌, ◌≤◌, ◌<◌, ◌-◌, ◌^◌, length, MatchResult};
+ghost use Rattle.nor_base.specs.Device.{HaveRoom};
+ghost use Rattle.nor_probe.specs.Compared.{CountsMismatch};
+ghost use Rattle.nor_serprog.specs.declared.fault.Fault.TheVariants.{Read, Write};
+ghost use Rattle.nor_reader.specs.Harmless.{HasSentHarmless, SendsHarmless};
+ghost use Rattle.nor_reader.specs.Past.{past_end, ReadsPast};
+
+use crate::by::ReadBy;
+use crate::piece::compare_piece;
+use nor_base::{ByteIn, ByteOut};
+use nor_probe::Mismatch;
+use nor_serprog::Limits;
+
+/// The largest block of an erase that is looked for.
+const BLOCK: usize = 1 << 16;
+
+/// The first address that three bytes don't reach.
+const FAR: usize = 1 << 24;
+
+/// Has the device read its chip past the end, up to the next multiple of 64 KiB, and compares that
+/// with the content's first bytes, which a chip of just this content gives there. A larger one
+/// shows by other bytes. Nothing is read where the content ends at such a multiple, and from 16 MiB
+/// on. It takes no memory.
+///
+/// `Differs` names the lowest address whose byte is another. `Exchange` where an exchange ended
+/// early, after which nothing was sent.
+pub fn read_past<R: ByteIn, W: ByteOut>(
+    from: &mut R,
+    to: &mut W,
+    limits: &Limits,
+    by: ReadBy,
+    content: &[u8],
+) -> Result<(), Mismatch>
+    requires room { HaveRoom (R.count from.old) (W.count to.old) }
+    ensures past { ReadsPast limits.now.asked (W.held to.old) (W.held to.new) (R.ahead from.old)
+        (R.ahead from.new) result by content.now }
+    ensures harmless { MatchResult result (λ _. HasSentHarmless (W.held to.old) (W.held to.new))
+        (λ _. SendsHarmless (W.held to.old) (W.held to.new)) }
+    ensures counts { CountsMismatch Read (R.count from.old) (R.count from.new) result
+        × CountsMismatch Write (W.count to.old) (W.count to.new) result }
+{
+    let size = content.len();
+    let most = limits.asked as usize;
+    let past = past_end(size);
+    let mut done = 0;
+    while done < past {
+        let len = (past - done).min(most);
+        let at = (size + done) as u32;
+        if let Err(why) = compare_piece(from, to, by, at, &content[done..done + len]) {
+            return Err(why);
+        }
+        done += len;
+    }
+    Ok(())
+}
+
+/// At how many addresses past its end a chip of so many bytes is read.
+fn past_end(size: usize) -> usize
+    ensures { result ≡ past_end size }
+{
+    if size < FAR {
+        size.min((BLOCK - size % BLOCK) % BLOCK)
+    } else {
+        0
+    }
+}
