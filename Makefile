@@ -19,7 +19,8 @@ build:
 check:
 	rt all check --jobs $$(nproc)
 
-# the merge gate: that the documents say what is so and name what is there; then every proof, must-fail edit and test, from nothing
+# the merge gate: that the documents say what is so and name what is there; then every proof, must-fail edit and test, from nothing,
+# and the rows of tests/ by the program that was built
 test:
 	@tools/architecture
 	@tools/headline
@@ -29,6 +30,7 @@ test:
 	@tools/version
 	@tools/widths
 	rt ci
+	@tools/rows
 
 # has git run tools/hooks/pre-commit before each commit in this clone
 hooks:

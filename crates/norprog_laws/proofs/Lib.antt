@@ -1,3 +1,4 @@
+mod ReplayLemmas
 pub mod BuiltLemmas
 pub mod PlayLemmas
 mod ShownLemmas

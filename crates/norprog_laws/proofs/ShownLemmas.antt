@@ -17,7 +17,7 @@ use Rattle.nor_job.specs.Task.{Task}
 use Rattle.nor_job.specs.Wanted.{wanted}
 use Rattle.nor_laws.specs.Laws.{OneList}
 use Rattle.nor_play.specs.Play.{play}
-use Rattle.nor_replay.specs.Replay.{NoIsReplayed, ShowsSo}
+use Rattle.norprog_laws.specs.Replay.{NoIsReplayed, ShowsSo}
 use Rattle.norprog_check.specs.declared.finding.ShowingChip.{ShowingChip}
 use Rattle.norprog_check.specs.Checked.{IsShownOn, ShowsNo}
 use Rattle.norprog_run.specs.declared.request.ChipBehaviour.{ChipBehaviour}

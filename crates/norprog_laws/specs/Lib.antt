@@ -1,3 +1,4 @@
+pub mod Replay
 pub mod Checked
 pub mod Played
 pub mod Read

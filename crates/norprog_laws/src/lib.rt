@@ -6,10 +6,10 @@ pub mod worked;
 
 ghost use Rattle.norprog_laws.specs.Checked.{BuiltIsRight, BuiltIsChecked};
 ghost use Rattle.norprog_laws.specs.Played.{BuiltPlays};
+ghost use Rattle.norprog_laws.specs.Replay.{NoIsReplayed};
 ghost use Rattle.norprog_laws.specs.Shown.{NoIsRun};
 
-use nor_laws::script_texts;
-use nor_replay::replay;
+use nor_laws::{bounded_runs, script_texts};
 
 /// Of what a build wrote, a check says yes: whatever steps the text that it appended spells, the
 /// worst verdict on them, on the chips, content and target of the build, is Yes; and Yes is what a
@@ -39,4 +39,13 @@ pub fn noes_run()
 {
     script_texts();
     replay();
+}
+
+/// On the chip that shows a no a play of the steps, with any limit on polls above the chip's number
+/// of status reads, goes wrong at the verdict's step for its cause; or it ends well and leaves
+/// another byte than the target at the verdict's address.
+pub fn replay()
+    ensures { NoIsReplayed }
+{
+    bounded_runs();
 }

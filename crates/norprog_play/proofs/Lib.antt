@@ -1,13 +1,1 @@
-mod BlameLemmas
-mod TakenLemmas
-mod TogetherLemmas
-mod FollowedLemmas
-mod CarriedLemmas
-mod ProgressLemmas
-mod PieceLemmas
-mod ComparedLemmas
-mod LikenessLemmas
 mod ServedLemmas
-mod OpenedLemmas
-mod LineLemmas
-mod ReportLemmas

@@ -24,17 +24,17 @@ use Rattle.norprog_common.specs.Told.{TellsBroken}
 use Rattle.norprog_common.proofs.LackedLemmas.{lacks_named, lacks_same, may_same, tables_named}
 use Rattle.norprog_common.proofs.LedgerLemmas.{file_asked}
 use Rattle.norprog_common.proofs.ToldLemmas.{asked_wider, refuses_wider, by_fault, by_files, or_usage}
-use Rattle.norprog_play.specs.declared.ending.Ending.{Ending}
+use Rattle.norprog_player.specs.declared.ending.Ending.{Ending}
 use Rattle.norprog_play.specs.declared.request.PlayRequest.{PlayRequest}
-use Rattle.norprog_play.specs.declared.unplayed.Unplayed.{Unplayed}
-use Rattle.norprog_play.specs.declared.unplayed.Unplayed.TheVariants.{Refused, Device}
+use Rattle.norprog_player.specs.declared.unplayed.Unplayed.{Unplayed}
+use Rattle.norprog_player.specs.declared.unplayed.Unplayed.TheVariants.{Refused, Device}
 use Rattle.norprog_play.specs.Answer.{Blames, IsEndingOf, IsEnding, IsHaltOf, IsHalt, IsStopOf, IsPlayFault, RefusesPlay, IsUnplayed, RefusesToPlay}
-use Rattle.norprog_play.specs.Job.{IsReady, RefusesJob, of_script}
-use Rattle.norprog_play.specs.Played.{Ends, StopsPlay}
+use Rattle.norprog_player.specs.Job.{IsReady, RefusesJob, of_script}
+use Rattle.norprog_player.specs.Played.{Ends, StopsPlay}
 use Rattle.norprog_play.specs.Request.{is_well_formed, AsksFor}
 use Rattle.norprog_play.specs.Served.{PlayTask, IsTaskOf, Serves, expectation, files_asked, files_of, paths_asked, paths_of}
-use Rattle.norprog_play.specs.Expected.{Expectation}
-use Rattle.norprog_play.specs.Tables.{tables_of}
+use Rattle.norprog_player.specs.Expected.{Expectation}
+use Rattle.norprog_player.specs.Tables.{tables_of}
 
 -- a play of a request that the texts ask for is one that they ask for
 serves : (files : FileFacts) (given : PlayArgs) (request : PlayRequest) → AsksFor given request → (t : PlayTask) → IsTaskOf files request t → Serves files given t

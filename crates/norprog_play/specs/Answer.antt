@@ -15,15 +15,15 @@ use Rattle.norprog_common.specs.declared.faults.Refusal.TheVariants.{File, Build
 use Rattle.norprog_common.specs.declared.given.PlayArgs.{PlayArgs}
 use Rattle.norprog_common.specs.FileStore.{FileFacts, Change, Lacks}
 use Rattle.norprog_common.specs.Told.{ForAsked, RefusesFor, OrUsage, Tells, TellsOf}
-use Rattle.norprog_play.specs.declared.ending.Ending.{Ending}
-use Rattle.norprog_play.specs.declared.unplayed.Unplayed.{Unplayed}
-use Rattle.norprog_play.specs.declared.unplayed.Unplayed.TheVariants.{Refused, Device}
-use Rattle.norprog_play.specs.Job.{IsReady, RefusesJob}
-use Rattle.norprog_play.specs.Played.{Ends, StopsPlay}
-use Rattle.norprog_play.specs.Progress.{ReportsPlay}
+use Rattle.norprog_player.specs.declared.ending.Ending.{Ending}
+use Rattle.norprog_player.specs.declared.unplayed.Unplayed.{Unplayed}
+use Rattle.norprog_player.specs.declared.unplayed.Unplayed.TheVariants.{Refused, Device}
+use Rattle.norprog_player.specs.Job.{IsReady, RefusesJob}
+use Rattle.norprog_player.specs.Played.{Ends, StopsPlay}
+use Rattle.norprog_player.specs.Progress.{ReportsPlay}
 use Rattle.norprog_play.specs.Request.{is_well_formed}
 use Rattle.norprog_play.specs.Served.{PlayTask, Serves, expectation, paths_asked}
-use Rattle.norprog_play.specs.State.{ReportsEnding}
+use Rattle.norprog_player.specs.State.{ReportsEnding}
 
 -- the script's steps, on that chip with that content, ended so; `Made` says which changes were made, `Told` how far these steps came that
 -- ended so

@@ -3,8 +3,8 @@ use Rattle.std.specs.Prelude.{◌≡◌, ℕ, Bool, List, [], ◌∷◌, ◌++�
 use Rattle.nor_base.specs.Device.{Ahead}
 use Rattle.nor_job.specs.Status.{start_of}
 use Rattle.nor_job.specs.Task.{Task}
-use Rattle.norprog_play.specs.Expected.{Expectation}
-use Rattle.norprog_play.specs.Tables.{tables_of}
+use Rattle.norprog_player.specs.Expected.{Expectation}
+use Rattle.norprog_player.specs.Tables.{tables_of}
 use Rattle.norprog_common.specs.Chip.{origin_of}
 use Rattle.norprog_common.specs.declared.faults.FileName.{FileName}
 use Rattle.norprog_common.specs.declared.faults.FileName.TheVariants as file

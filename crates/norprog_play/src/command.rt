@@ -7,28 +7,24 @@ ghost use Rattle.nor_base.specs.Run.{trail};
 ghost use Rattle.norprog_common.specs.FileStore.{Adds, Breaks, MayRead, OpensAt, OpensIf};
 ghost use Rattle.norprog_common.specs.Reading.{HasFailed};
 ghost use Rattle.norprog_play.specs.Answer.{IsEnding, IsUnplayed, RefusesToPlay, AnswersPlay};
-ghost use Rattle.norprog_play.specs.Early.{MayPlay, chip_with};
-ghost use Rattle.norprog_play.specs.Expected.{expectation_of};
-ghost use Rattle.norprog_play.specs.Played.{Ends, EndsOnDevice, StopsPlay};
-ghost use Rattle.norprog_play.specs.Progress.{ReportsPlay};
+ghost use Rattle.norprog_player.specs.Early.{MayPlay, chip_with};
+ghost use Rattle.norprog_player.specs.Expected.{expectation_of};
+ghost use Rattle.norprog_player.specs.Played.{Ends, EndsOnDevice, StopsPlay};
+ghost use Rattle.norprog_player.specs.Progress.{ReportsPlay};
 ghost use Rattle.norprog_play.specs.Request.{is_well_formed};
 ghost use Rattle.norprog_play.specs.Served.{files_asked, files_of, paths_asked, paths_of};
 ghost use Rattle.norprog_play.specs.Served.{IsTaskOf, Serves};
 
-use crate::blame::fault_in;
-use crate::early::{Early, ends_early, widest};
-use crate::ending::Ending;
-use crate::expected::{Expected, known_tables};
-use crate::greeted::{greet_and_play, release_pins};
-use crate::job::{Job, job_of};
 use crate::request::{PlayRequest, request_of};
-use crate::state::report_ending;
-use crate::unplayed::Unplayed;
 use nor_base::{ByteOut, Meaning, Step};
 use nor_chip::Chip;
 use nor_serprog::Shadowed;
 use norprog_common::{FileName, FileStore, PlayArgs, Refusal, refuse, setup_inputs, tables_of};
 use norprog_device::{is_cut, refuse_device};
+use norprog_player::{
+    Early, Ending, Expected, Job, Unplayed, ends_early, fault_in, greet_and_play, job_of,
+    known_tables, release_pins, report_ending, widest,
+};
 use std::alloc::Global;
 
 /// Does what the texts of a command line of `play` ask for (docs/FORMATS.md, section 14): on the

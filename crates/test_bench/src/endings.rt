@@ -5,7 +5,7 @@ use nor_base::{IntoWrite, Wrong};
 use nor_check::Why;
 use nor_probe::{Difference, Mismatch};
 use nor_serprog::Fault;
-use norprog_play::{Ending, Failure, Unlike, write_ending};
+use norprog_player::{Ending, Failure, Unlike, write_ending};
 use test_devices::Held;
 
 /// At 1FEh the chip gives A5h, and 5Ah was wanted.

@@ -3,7 +3,6 @@
 
 ghost use Rattle.std.specs.Prelude.{◌≡◌, true};
 
-use crate::bench::{WAY, no_texts};
 use crate::line::{ANSWERS, PUT, joined};
 use crate::same::{holds, same};
 use crate::scripts::{
@@ -12,7 +11,7 @@ use crate::scripts::{
 use crate::store::{FromLine, Store, ToLine};
 use nor_base::{FromRead, IntoWrite, Part, put_parts};
 use nor_script::hex_pair;
-use norprog_common::{FileStore, Unrecorded, refuse};
+use norprog_common::{ChipArgs, FileStore, Unrecorded, refuse};
 use norprog_device::refuse_device;
 use norprog_flash::{Ending, FlashArgs, Job, Unflashed, flash_opened, write_ending};
 use norprog_read::{Ask, Known, write_unlike};
@@ -116,6 +115,10 @@ const EMPTY: &[&[u8]] = &[
     ACK,
     MANY,
 ];
+
+/// What is printed before the first step of a job of [`no_texts`].
+const WAY: &[u8] = b"if this stops on the way: switch the chip's power off and on, \
+    and go on with: norprog flash --resume=''\n";
 
 /// How far the work of one program comes.
 const FAR: &[u8] = b"\rstep 4 of 4, 13 of 13 bytes\n";
@@ -681,12 +684,6 @@ fn answers(alloc: Global, row: &Row) -> Result<Vec<u8>, AllocError> {
     Ok(all)
 }
 
-/// What a device answers in all that says NAK to the first step.
-pub(crate) fn stopped_answers(alloc: Global) -> Result<Vec<u8>, AllocError> {
-    let [row, ..] = &HALVES;
-    answers(alloc, row)
-}
-
 /// What goes out to it in all.
 fn wanted(alloc: Global, row: &Row) -> Result<Vec<u8>, AllocError> {
     let mut all = joined(alloc, &[row.opened])?;
@@ -717,7 +714,7 @@ fn old_in(alloc: Global, row: &Row) -> Result<Vec<u8>, AllocError> {
 
 /// The line of work that ended so: that of its ending, of its refusal, or of what was asked for and
 /// came otherwise.
-pub(crate) fn line_of(alloc: Global, ended: Result<Ending, Unflashed>) -> Vec<u8> {
+fn line_of(alloc: Global, ended: Result<Ending, Unflashed>) -> Vec<u8> {
     let mut line = IntoWrite::new(Held::new(alloc, 1000));
     let _ = match ended {
         Ok(ending) => write_ending(ending, &mut line).is_ok(),
@@ -788,6 +785,31 @@ fn has_saved(rt: &impl Abort, alloc: Global, found: Vec<u8>, row: &Row) -> Resul
         None => same(rt, "nothing is saved", found.len(), 0),
     }
     Ok(())
+}
+
+/// The texts of a command line without any.
+fn no_texts(alloc: Global) -> FlashArgs<'static> {
+    FlashArgs {
+        chip: ChipArgs {
+            sfdp: None,
+            uniform: None,
+            bits: None,
+            part: None,
+        },
+        mode4: false,
+        device: None,
+        limit: None,
+        hex: None,
+        layout: None,
+        base: None,
+        before: None,
+        resume: None,
+        erased_only: false,
+        strict: false,
+        dry_run: false,
+        raw: false,
+        regions: Vec::new(alloc),
+    }
 }
 
 /// The job of a row, on a chip of 8 KiB without tables.

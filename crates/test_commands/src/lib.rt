@@ -1,12 +1,13 @@
-//! Tests of the commands' libraries that no row of `test_command_rows` can say: devices that move
-//! few bytes at a call, end early or fail, refused growths, and lines of numbers that no job here
-//! reaches.
+//! Tests of the commands' libraries that no row of `tests/` can say: devices that move few bytes at
+//! a call, end early or fail, refused growths, and lines of numbers that no job here reaches.
 #![tactic(auto)]
 
 #[cfg(test)]
 mod builds;
 #[cfg(test)]
 mod checks;
+#[cfg(test)]
+mod details;
 #[cfg(test)]
 mod devices;
 #[cfg(test)]

@@ -5,8 +5,8 @@ use Rattle.norprog_common.specs.FileStore.{Adds}
 use Rattle.norprog_common.proofs.JournalLemmas.{adds_none}
 use Rattle.norprog_common.proofs.LedgerLemmas.{failed_opened, none_opened, opens_same}
 use Rattle.norprog_common.specs.Reading.{HasFailed}
-use Rattle.norprog_play.specs.declared.ending.Ending.{Ending}
-use Rattle.norprog_play.specs.Progress.{ReportsPlay}
+use Rattle.norprog_player.specs.declared.ending.Ending.{Ending}
+use Rattle.norprog_player.specs.Progress.{ReportsPlay}
 use Rattle.norprog_play.specs.Request.{is_well_formed, AsksFor}
 use Rattle.norprog_play.proofs.ServedLemmas.{endings_asked, files_are, may_by, refusals_asked}
 use Rattle.norprog_play.proofs.command.ending_of.Goals as goal

@@ -5,7 +5,7 @@ use Rattle.norprog_common.proofs.LedgerLemmas.{all_first}
 use Rattle.norprog_common.proofs.ToldLemmas.{refused_status}
 use Rattle.norprog_common.specs.Reading.{HasFailed}
 use Rattle.norprog_play.specs.Answer.{RefusesToPlay}
-use Rattle.norprog_play.proofs.ReportLemmas.{reports_wider}
+use Rattle.norprog_player.proofs.ReportLemmas.{reports_wider}
 use Rattle.norprog_play.proofs.command.play.Goals as goal
 
 pub returns-in-Err-Refused-clause-answer : goal.returns-in-Err-Refused-clause-answer

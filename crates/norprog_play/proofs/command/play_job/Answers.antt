@@ -2,10 +2,10 @@
 use Rattle.std.proofs.Common.{◌≡◌, List, subst}
 use Rattle.std.specs.Prelude.{MatchResult}
 use Rattle.nor_base.specs.declared.step.Step.{Step}
-use Rattle.norprog_play.specs.declared.ending.Ending.{Ending}
-use Rattle.norprog_play.specs.Early.{chip_with, EndsEarly}
-use Rattle.norprog_play.specs.Progress.{ReportsPlay}
-use Rattle.norprog_play.proofs.ProgressLemmas.{early_reported}
+use Rattle.norprog_player.specs.declared.ending.Ending.{Ending}
+use Rattle.norprog_player.specs.Early.{chip_with, EndsEarly}
+use Rattle.norprog_player.specs.Progress.{ReportsPlay}
+use Rattle.norprog_player.proofs.ProgressLemmas.{early_reported}
 use Rattle.norprog_play.proofs.command.play_job.Goals as goal
 
 pub returns-in-Ends-clause-told : goal.returns-in-Ends-clause-told

@@ -2,11 +2,11 @@
 -- request was cut.
 use Rattle.std.proofs.Common.{◌∙◌, ap, inl, refl}
 use Rattle.nor_serprog.specs.declared.limits.Limits.{Limits}
-use Rattle.norprog_play.specs.declared.unplayed.Unplayed.TheVariants.{Refused}
-use Rattle.norprog_play.specs.Blame.{fault_in}
-use Rattle.norprog_play.specs.Expected.{expectation_of}
-use Rattle.norprog_play.proofs.BlameLemmas.{blamed_so, rose_to}
-use Rattle.norprog_play.proofs.OpenedLemmas.{handed, known_ends, releases_wider, stands_so}
+use Rattle.norprog_player.specs.declared.unplayed.Unplayed.TheVariants.{Refused}
+use Rattle.norprog_player.specs.Blame.{fault_in}
+use Rattle.norprog_player.specs.Expected.{expectation_of}
+use Rattle.norprog_player.proofs.BlameLemmas.{blamed_so, rose_to}
+use Rattle.norprog_player.proofs.OpenedLemmas.{handed, known_ends, releases_wider, stands_so}
 use Rattle.norprog_play.proofs.command.play_known.Goals as goal
 
 pub returns-clause-ends : goal.returns-clause-ends

@@ -9,10 +9,10 @@ use Rattle.norprog_common.specs.Reading.{HasFailed}
 use Rattle.norprog_common.proofs.JournalLemmas.{adds_both, adds_none}
 use Rattle.norprog_common.proofs.LedgerLemmas.{all_first, all_opened, failed_opened, first_of_more, then_first}
 use Rattle.nor_base.proofs.FaultLaws.{handed_on}
-use Rattle.norprog_play.specs.declared.unplayed.Unplayed.TheVariants.{Refused}
+use Rattle.norprog_player.specs.declared.unplayed.Unplayed.TheVariants.{Refused}
 use Rattle.norprog_play.specs.Answer.{IsUnplayed}
-use Rattle.norprog_play.specs.declared.ending.Ending.{Ending}
-use Rattle.norprog_play.specs.Progress.{ReportsPlay}
+use Rattle.norprog_player.specs.declared.ending.Ending.{Ending}
+use Rattle.norprog_player.specs.Progress.{ReportsPlay}
 use Rattle.norprog_play.specs.Served.{IsTaskOf, paths_of}
 use Rattle.norprog_play.proofs.ServedLemmas.{blames, expected_so, is_ahead_in, lacked_refused, no_job, was_played, was_stopped}
 use Rattle.norprog_play.proofs.command.play_request.Goals as goal

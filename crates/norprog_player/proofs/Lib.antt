@@ -1,0 +1,12 @@
+pub mod BlameLemmas
+mod TakenLemmas
+mod TogetherLemmas
+mod FollowedLemmas
+mod CarriedLemmas
+pub mod ProgressLemmas
+mod PieceLemmas
+mod ComparedLemmas
+mod LikenessLemmas
+pub mod OpenedLemmas
+mod LineLemmas
+pub mod ReportLemmas

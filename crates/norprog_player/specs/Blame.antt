@@ -1,0 +1,51 @@
+-- Which exchange with a device ended a play on it (this project's).
+use Rattle.std.specs.Prelude.{Option, Some, None, Result, Ok, Err}
+use Rattle.nor_serprog.specs.declared.fault.Fault.{Fault}
+use Rattle.nor_serprog.specs.declared.fault.Reason.{Reason}
+use Rattle.nor_serprog.specs.declared.fault.Reason.TheVariants as reason
+use Rattle.norprog_device.specs.Blame.{fault_of_greeting, fault_of_mismatch}
+use Rattle.norprog_failure.specs.Blame.{fault_of_failure}
+use Rattle.norprog_player.specs.declared.ending.Ending.{Ending}
+use Rattle.norprog_player.specs.declared.ending.Ending.TheVariants.{Done, Wrong as GoesWrong, No, Unlike, Failed}
+use Rattle.norprog_player.specs.declared.ending.Unlike.{Unlike as Unlikeness}
+use Rattle.norprog_player.specs.declared.ending.Unlike.TheVariants as unlike
+use Rattle.norprog_player.specs.declared.unplayed.Unplayed.{Unplayed}
+use Rattle.norprog_player.specs.declared.unplayed.Unplayed.TheVariants.{Refused, Device}
+
+-- how the exchange ended early in which the chip was asked before the steps, or compared, if one did
+abbrev pub fault_of_unlike : Unlikeness → Option Fault
+fault_of_unlike unlike.Busy = None
+fault_of_unlike (unlike.Asking why) = Some why
+fault_of_unlike (unlike.Status status) = None
+fault_of_unlike (unlike.Registers status) = None
+fault_of_unlike (unlike.Tables why) = fault_of_mismatch why
+fault_of_unlike (unlike.Content why) = fault_of_mismatch why
+
+-- how the exchange did that ended the steps, if one did
+abbrev pub fault_of_ending : Ending → Option Fault
+fault_of_ending (Done transactions blank) = None
+fault_of_ending (GoesWrong step why) = None
+fault_of_ending (No step why) = None
+fault_of_ending (Unlike why) = fault_of_unlike why
+fault_of_ending (Failed step why) = fault_of_failure why
+
+-- so of what a play returns, where it has no ending too
+abbrev pub fault_in : Result Ending Unplayed → Option Fault
+fault_in (Ok ending) = fault_of_ending ending
+fault_in (Err (Device why)) = fault_of_greeting why
+fault_in (Err (Refused why)) = None
+
+-- so of work that ended early, by why it did
+abbrev pub fault_by : {T E : Type 0} → (E → Option Fault) → Result T E → Option Fault
+fault_by fault_of (Ok x) = None
+fault_by fault_of (Err why) = fault_of why
+
+-- so of work that has an ending, by its ending
+abbrev pub fault_when : {T E : Type 0} → (T → Option Fault) → Result T E → Option Fault
+fault_when fault_of (Ok ending) = fault_of ending
+fault_when fault_of (Err why) = None
+
+-- so of a port that failed, by why it did
+abbrev pub fault_of_reason : Reason → Option Fault
+fault_of_reason (reason.Exchange why) = Some why
+fault_of_reason other = None

@@ -1,0 +1,164 @@
+//! What the chip behind a device is asked before the steps.
+
+ghost use Rattle.std.specs.Prelude.{◌≡◌, ◌<◌, ◌≤◌, ◌+◌, ◌-◌, ◌*◌, ◌^◌, false, length, MatchResult};
+ghost use Rattle.std.specs.Prelude.{IfOk};
+ghost use Rattle.nor_probe.specs.Tables.{Compares as ComparesTables};
+ghost use Rattle.norprog_player.specs.Asked.{Begins, IsUnknown, IsIdentified, IsSuited};
+ghost use Rattle.norprog_player.specs.Asked.{StopsAsking};
+ghost use Rattle.norprog_device.specs.Blame.{CountsBoth, fault_of_mismatch};
+ghost use Rattle.norprog_player.specs.Blame.{fault_by, fault_of_unlike};
+ghost use Rattle.norprog_player.specs.Expected.{expectation_of};
+ghost use Rattle.nor_cells.specs.Marks.{IsMarked};
+ghost use Rattle.norprog_player.specs.Moment.{moment};
+
+use crate::access::Access;
+use crate::ending::Unlike;
+use crate::expected::Expected;
+use crate::likeness::{compare_chip, reason_of};
+use nor_base::{ByteIn, ByteOut, Part};
+use nor_probe::{Mismatch, chip_status, compare_tables, suits};
+use nor_serprog::{Reason, Shadowed};
+
+/// What comes before the steps: unless it is trusted, the chip behind the device is asked for its
+/// status until it is idle, its SFDP bytes are compared with those that it has to have, and its
+/// marked cells with the chip in memory.
+pub(crate) fn begin<R: ByteIn + Drop, W: ByteOut + Drop>(
+    port: &mut Shadowed<'_, R, W>,
+    expected: Expected<'_>,
+    access: Access,
+    marks: &[bool],
+) -> Result<(), Unlike>
+    requires marked { (length port.old.chip.chip.array < 2 ^ 32)
+        × (length port.old.chip.chip.array ≡ 256 * length marks.now) }
+    requires count { port.old.failed < 2 ^ 64 - 1 }
+    ensures begins { MatchResult result
+        (λ _. Begins (expectation_of expected.entry) port.old.limits port.old.turns access
+        (IsMarked marks.now)
+        (moment port.old.chip (W.held port.old.to) (R.ahead port.old.from))
+        (moment port.new.chip (W.held port.new.to) (R.ahead port.new.from)))
+        (λ why. (expected.entry.trusted ≡ false)
+        × IsUnknown (expectation_of expected.entry) port.old.limits port.old.turns access
+        (IsMarked marks.now)
+        (moment port.old.chip (W.held port.old.to) (R.ahead port.old.from))
+        (moment port.new.chip (W.held port.new.to) (R.ahead port.new.from))
+        why) }
+    ensures kept { (port.new.chip ≡ port.old.chip)
+        × (port.new.limits ≡ port.old.limits)
+        × (port.new.turns ≡ port.old.turns) }
+    ensures failures { IfOk result (λ _. port.new.reason ≡ port.old.reason)
+        × IfOk result (λ _. port.new.failed ≡ port.old.failed)
+        × (port.new.failed ≤ port.old.failed + 1) }
+    ensures blamed { CountsBoth (R.count port.old.from) (R.count port.new.from)
+        (W.count port.old.to) (W.count port.new.to) (fault_by fault_of_unlike result) }
+{
+    if expected.trusted {
+        return Ok(());
+    }
+    identify(port, expected)?;
+    match compare_chip(port, access, marks) {
+        Ok(()) => Ok(()),
+        Err(why) => Err(Unlike::Content(why)),
+    }
+}
+
+/// Asks the chip behind the device for its status until it is idle, and compares its SFDP bytes
+/// with those that it has to have.
+fn identify<R: ByteIn + Drop, W: ByteOut + Drop>(
+    port: &mut Shadowed<'_, R, W>,
+    expected: Expected<'_>,
+) -> Result<(), Unlike>
+    requires count { port.old.failed < 2 ^ 64 - 1 }
+    ensures identified { MatchResult result
+        (λ _. IsIdentified (expectation_of expected.entry) port.old.limits port.old.turns
+        (moment port.old.chip (W.held port.old.to) (R.ahead port.old.from))
+        (moment port.new.chip (W.held port.new.to) (R.ahead port.new.from)))
+        (StopsAsking (expectation_of expected.entry) port.old.limits port.old.turns
+        (moment port.old.chip (W.held port.old.to) (R.ahead port.old.from))
+        (moment port.new.chip (W.held port.new.to) (R.ahead port.new.from))) }
+    ensures kept { (port.new.chip ≡ port.old.chip)
+        × (port.new.limits ≡ port.old.limits)
+        × (port.new.turns ≡ port.old.turns) }
+    ensures failures { IfOk result (λ _. port.new.reason ≡ port.old.reason)
+        × IfOk result (λ _. port.new.failed ≡ port.old.failed)
+        × (port.new.failed ≤ port.old.failed + 1) }
+    ensures blamed { CountsBoth (R.count port.old.from) (R.count port.new.from)
+        (W.count port.old.to) (W.count port.new.to) (fault_by fault_of_unlike result) }
+{
+    ask_status(port, expected)?;
+    match ask_tables(port, expected.tables) {
+        Ok(()) => Ok(()),
+        Err(why) => Err(Unlike::Tables(why)),
+    }
+}
+
+/// Asks the chip behind the device for its status until it is idle. A port where that stops has
+/// failed.
+fn ask_status<R: ByteIn + Drop, W: ByteOut + Drop>(
+    port: &mut Shadowed<'_, R, W>,
+    expected: Expected<'_>,
+) -> Result<(), Unlike>
+    requires count { port.old.failed < 2 ^ 64 - 1 }
+    ensures suited { MatchResult result
+        (λ _. IsSuited (expectation_of expected.entry) port.old.turns
+        (moment port.old.chip (W.held port.old.to) (R.ahead port.old.from))
+        (moment port.new.chip (W.held port.new.to) (R.ahead port.new.from)))
+        (StopsAsking (expectation_of expected.entry) port.old.limits port.old.turns
+        (moment port.old.chip (W.held port.old.to) (R.ahead port.old.from))
+        (moment port.new.chip (W.held port.new.to) (R.ahead port.new.from))) }
+    ensures kept { (port.new.chip ≡ port.old.chip)
+        × (port.new.limits ≡ port.old.limits)
+        × (port.new.turns ≡ port.old.turns) }
+    ensures failures { IfOk result (λ _. port.new.reason ≡ port.old.reason)
+        × IfOk result (λ _. port.new.failed ≡ port.old.failed)
+        × (port.new.failed ≤ port.old.failed + 1) }
+    ensures blamed { CountsBoth (R.count port.old.from) (R.count port.new.from)
+        (W.count port.old.to) (W.count port.new.to) (fault_by fault_of_unlike result) }
+{
+    match chip_status(&mut port.from, &mut port.to, expected.part, port.turns) {
+        Ok(status) => {
+            if suits(expected.part, expected.start, status) {
+                return Ok(());
+            }
+            match expected.part {
+                Part::Generic => Err(Unlike::Status(status)),
+                Part::W25q256jv => Err(Unlike::Registers(status)),
+            }
+        }
+        Err(why) => {
+            port.failed += 1;
+            port.reason = Some(why);
+            match why {
+                Reason::Exchange(fault) => Err(Unlike::Asking(fault)),
+                Reason::Busy => Err(Unlike::Busy),
+                Reason::Differs { .. } | Reason::Carried => unreachable!("any byte is a status"),
+            }
+        }
+    }
+}
+
+/// Compares the SFDP bytes of the chip behind the device with those that it has to have. A port
+/// where that stops has failed.
+fn ask_tables<R: ByteIn + Drop, W: ByteOut + Drop>(
+    port: &mut Shadowed<'_, R, W>,
+    tables: &[u8],
+) -> Result<(), Mismatch>
+    requires few { length tables.now ≤ 2 ^ 24 }
+    requires count { port.old.failed < 2 ^ 64 - 1 }
+    ensures kept { (port.new.chip ≡ port.old.chip)
+        × (port.new.limits ≡ port.old.limits)
+        × (port.new.turns ≡ port.old.turns) }
+    ensures compared { ComparesTables (W.held port.old.to) (W.held port.new.to)
+        (R.ahead port.old.from) (R.ahead port.new.from) result port.old.limits tables.now }
+    ensures failures { IfOk result (λ _. port.new.reason ≡ port.old.reason)
+        × IfOk result (λ _. port.new.failed ≡ port.old.failed)
+        × (port.new.failed ≤ port.old.failed + 1) }
+    ensures blamed { CountsBoth (R.count port.old.from) (R.count port.new.from)
+        (W.count port.old.to) (W.count port.new.to) (fault_by fault_of_mismatch result) }
+{
+    let compared = compare_tables(&mut port.from, &mut port.to, &port.limits, tables);
+    if let Err(why) = compared {
+        port.failed += 1;
+        port.reason = Some(reason_of(why));
+    }
+    compared
+}

@@ -1,0 +1,107 @@
+//! What the chip behind a device holds, compared with a content.
+
+ghost use Rattle.std.specs.Prelude.{◌≡◌, ◌<◌, ◌≤◌, ◌+◌, ◌-◌, ◌*◌, ◌^◌, length, MatchResult};
+ghost use Rattle.nor_base.specs.Device.{HaveRoom};
+ghost use Rattle.nor_cells.specs.Marks.{IsMarked};
+ghost use Rattle.nor_probe.specs.Compared.{CountsMismatch};
+ghost use Rattle.nor_serprog.specs.declared.fault.Fault.TheVariants.{Read, Write};
+ghost use Rattle.norprog_player.specs.Compared.{HasCompared, IsOneSidedPiece, StopsComparing};
+ghost use Rattle.norprog_player.specs.Likeness.{HasComparedWhole, StopsWhole, past_by};
+
+use crate::access::Access;
+use crate::piece::{FAR, compare_piece};
+use nor_base::{ByteIn, ByteOut};
+use nor_cells::next_piece;
+use nor_probe::Mismatch;
+use nor_reader::{ReadBy, read_past};
+use nor_serprog::Limits;
+
+/// Has the device read the marked cells of its chip, from the lowest on, as many bytes at once as
+/// it can, and compares them with a content that begins at address 0; then what it gives past its
+/// end. It takes no memory.
+///
+/// `Exchange` where a read ended early; `Differs` with the lowest address of the cells, else past
+/// the end, whose byte is another, after which four-byte mode was left.
+pub(crate) fn compare_whole<R: ByteIn, W: ByteOut>(
+    from: &mut R,
+    to: &mut W,
+    limits: &Limits,
+    access: Access,
+    content: &[u8],
+    marks: &[bool],
+) -> Result<(), Mismatch>
+    requires size { length content.now < 2 ^ 32 }
+    requires cells { length content.now ≡ 256 * length marks.now }
+    requires room { HaveRoom (R.count from.old) (W.count to.old) }
+    ensures compared { MatchResult result
+        (λ _. HasComparedWhole (W.held to.old) (W.held to.new) (R.ahead from.old)
+        (R.ahead from.new) limits.now access content.now (IsMarked marks.now))
+        (StopsWhole (W.held to.old) (W.held to.new) (R.ahead from.old) (R.ahead from.new)
+        limits.now access content.now (IsMarked marks.now)) }
+    ensures counts { CountsMismatch Read (R.count from.old) (R.count from.new) result
+        × CountsMismatch Write (W.count to.old) (W.count to.new) result }
+{
+    compare(from, to, limits, access, content, marks)?;
+    read_past(from, to, limits, past_by(access), content)?;
+    Ok(())
+}
+
+/// By which instruction a chip is read past its end.
+fn past_by(access: Access) -> ReadBy
+    ensures { result ≡ past_by access }
+{
+    match access {
+        Access::Four => ReadBy::Content { mode4: true },
+        Access::Dedicated | Access::Entered { .. } | Access::Near => {
+            ReadBy::Content { mode4: false }
+        }
+    }
+}
+
+/// The marked cells.
+fn compare<R: ByteIn, W: ByteOut>(
+    from: &mut R,
+    to: &mut W,
+    limits: &Limits,
+    access: Access,
+    content: &[u8],
+    marks: &[bool],
+) -> Result<(), Mismatch>
+    requires size { length content.now < 2 ^ 32 }
+    requires cells { length content.now ≡ 256 * length marks.now }
+    requires room { HaveRoom (R.count from.old) (W.count to.old) }
+    ensures compared { MatchResult result
+        (λ _. HasCompared (W.held to.old) (W.held to.new) (R.ahead from.old) (R.ahead from.new)
+        limits.now access content.now (IsMarked marks.now))
+        (StopsComparing (W.held to.old) (W.held to.new) (R.ahead from.old) (R.ahead from.new)
+        limits.now access content.now (IsMarked marks.now)) }
+    ensures counts { CountsMismatch Read (R.count from.old) (R.count from.new) result
+        × CountsMismatch Write (W.count to.old) (W.count to.new) result }
+{
+    let mut done = 0;
+    while let Some((start, most)) = next_piece(marks, done, limits.asked as usize) {
+        let len = len_on_side(start, most);
+        let piece = &content[start..start + len];
+        if let Err(why) = compare_piece(from, to, access, start as u32, piece) {
+            return Err(why);
+        }
+        done = start + len;
+    }
+    Ok(())
+}
+
+/// How many of so many addresses from one on lie on the side of 2^24 on which the first does.
+fn len_on_side(start: usize, most: usize) -> usize
+    requires most { most < 2 ^ 24 }
+    requires start { start < 2 ^ 32 }
+    requires some { 0 < most }
+    ensures some { 0 < result }
+    ensures few { result ≤ most }
+    ensures sided { IsOneSidedPiece start result }
+{
+    if start < FAR as usize {
+        most.min(FAR as usize - start)
+    } else {
+        most
+    }
+}

@@ -1,0 +1,181 @@
+//! A script on a device, from its handshake on.
+
+ghost use Rattle.std.specs.Prelude.{◌≡◌, ◌<◌, ◌≤◌, ◌+◌, ◌-◌, ◌^◌, [], None, Ok, Err, false, length};
+ghost use Rattle.std.specs.Prelude.{◌&&◌, not, IfOk, MatchResult};
+ghost use Rattle.nor_base.specs.Chip.{chip_of};
+ghost use Rattle.nor_base.specs.Run.{trail};
+ghost use Rattle.nor_chip.specs.Ready.{ready_chip};
+ghost use Rattle.nor_serprog.specs.Greeting.{Greeted};
+ghost use Rattle.nor_serprog.specs.Line.{TestsLine};
+ghost use Rattle.norprog_player.specs.Early.{GoesWellInMemory};
+ghost use Rattle.norprog_player.specs.Expected.{expectation_of};
+ghost use Rattle.norprog_player.specs.Moment.{moment};
+ghost use Rattle.norprog_player.specs.Progress.{ReportsPlay};
+ghost use Rattle.norprog_device.specs.Blame.{CountsBoth, fault_of_greeting};
+ghost use Rattle.norprog_device.specs.Opened.{Opens};
+ghost use Rattle.norprog_player.specs.Blame.{fault_by, fault_in};
+ghost use Rattle.norprog_player.specs.Opened.{FailsTest, HasPlayed, Releases, StopsBefore};
+ghost use Rattle.norprog_player.specs.Opened.{StopsOpening};
+
+use crate::device::play_on_device;
+use crate::ending::Ending;
+use crate::expected::Expected;
+use crate::unplayed::Unplayed;
+use nor_base::{ByteIn, ByteOut, Meaning, Step};
+use nor_serprog::{Shadowed, greet, release, test_line};
+use norprog_device::DeviceFault;
+use std::alloc::Global;
+
+/// Begins with a device, and plays steps on it as [`play_on_device`] does, by the limits that the
+/// device says.
+///
+/// `Device` where the handshake or the test of the line ended early: nothing was sent to the chip
+/// except what it ignores. `Refused` for `Memory` where a growth is refused: then nothing else was
+/// done.
+pub fn greet_and_play<R: ByteIn + Drop, W: ByteOut + Drop, P: ByteOut>(
+    alloc: Global,
+    meaning: &Meaning,
+    expected: Expected<'_>,
+    steps: &[Step],
+    transactions: u128,
+    port: &mut Shadowed<'_, R, W>,
+    progress: &mut P,
+) -> Result<Ending, Unplayed>
+    requires ready { (port.old.reason ≡ None)
+        × (port.old.failed < 2 ^ 64 - 1)
+        × (P.count progress.old < 2 ^ 64 - 1) }
+    requires chip { (port.old.chip ≡ ready_chip (chip_of meaning.now expected.start [] false)
+        port.old.chip.chip.array)
+        × (length port.old.chip.chip.array ≡ meaning.now.size) }
+    requires well { GoesWellInMemory port.old.chip steps.now
+        × (transactions
+        ≡ length (trail port.old.chip.setting port.old.chip.chip steps.now)) }
+    ensures ends { MatchResult result
+        (λ ending. HasPlayed port.new.limits port.old.turns (expectation_of expected.entry)
+        meaning.now
+        (moment port.old.chip (W.held port.old.to) (R.ahead port.old.from))
+        steps.now ending
+        (moment port.new.chip (W.held port.new.to) (R.ahead port.new.from)))
+        (StopsBefore port.old.limits port.new.limits
+        (moment port.old.chip (W.held port.old.to) (R.ahead port.old.from))
+        (moment port.new.chip (W.held port.new.to) (R.ahead port.new.from))) }
+    ensures told { MatchResult result
+        (λ ending. ReportsPlay steps.now ending (P.held progress.old) (P.held progress.new)
+        (P.count progress.old)
+        (P.count progress.new))
+        (λ _. progress.new ≡ progress.old) }
+    ensures blamed { CountsBoth (R.count port.old.from) (R.count port.new.from)
+        (W.count port.old.to) (W.count port.new.to) (fault_in result)
+        × (port.new.failed ≤ port.old.failed + 1) }
+{
+    greet_and_test(port)?;
+    let ending = play_on_device(
+        alloc,
+        meaning,
+        expected,
+        steps,
+        transactions,
+        port,
+        progress,
+    )?;
+    Ok(ending)
+}
+
+/// Begins with the device of a port, whose limits are then those that it reports, and tests the
+/// line to it.
+fn greet_and_test<R: ByteIn + Drop, W: ByteOut + Drop>(
+    port: &mut Shadowed<'_, R, W>,
+) -> Result<(), DeviceFault>
+    requires count { port.old.failed < 2 ^ 64 - 1 }
+    ensures opened { MatchResult result
+        (λ _. Opens (W.held port.old.to) (W.held port.new.to)
+        (R.ahead port.old.from) (R.ahead port.new.from) (Ok port.new.limits))
+        (StopsOpening (W.held port.old.to) (W.held port.new.to)
+        (R.ahead port.old.from) (R.ahead port.new.from) port.old.limits port.new.limits) }
+    ensures chip { port.new.chip ≡ port.old.chip }
+    ensures turns { port.new.turns ≡ port.old.turns }
+    ensures fresh { port.new.reason ≡ port.old.reason }
+    ensures failures { IfOk result (λ _. port.new.failed ≡ port.old.failed)
+        × (port.new.failed ≤ port.old.failed + 1)
+        × CountsBoth (R.count port.old.from) (R.count port.new.from)
+        (W.count port.old.to) (W.count port.new.to) (fault_by fault_of_greeting result) }
+{
+    greet_port(port)?;
+    test_port(port)
+}
+
+/// Begins with the device of a port, whose limits are then those that it reports.
+fn greet_port<R: ByteIn + Drop, W: ByteOut + Drop>(
+    port: &mut Shadowed<'_, R, W>,
+) -> Result<(), DeviceFault>
+    requires count { port.old.failed < 2 ^ 64 - 1 }
+    ensures greeted { MatchResult result
+        (λ _. Greeted (W.held port.old.to) (W.held port.new.to)
+        (R.ahead port.old.from) (R.ahead port.new.from) (Ok port.new.limits))
+        (StopsOpening (W.held port.old.to) (W.held port.new.to)
+        (R.ahead port.old.from) (R.ahead port.new.from) port.old.limits port.new.limits) }
+    ensures chip { port.new.chip ≡ port.old.chip }
+    ensures turns { port.new.turns ≡ port.old.turns }
+    ensures fresh { port.new.reason ≡ port.old.reason }
+    ensures failures { IfOk result (λ _. port.new.failed ≡ port.old.failed)
+        × (port.new.failed ≤ port.old.failed + 1)
+        × CountsBoth (R.count port.old.from) (R.count port.new.from)
+        (W.count port.old.to) (W.count port.new.to) (fault_by fault_of_greeting result) }
+{
+    match greet(&mut port.from, &mut port.to) {
+        Ok(limits) => {
+            port.limits = limits;
+            Ok(())
+        }
+        Err(why) => {
+            port.failed += 1;
+            Err(DeviceFault::Greet(why))
+        }
+    }
+}
+
+/// Tests the line to the device of a port.
+fn test_port<R: ByteIn + Drop, W: ByteOut + Drop>(
+    port: &mut Shadowed<'_, R, W>,
+) -> Result<(), DeviceFault>
+    requires count { port.old.failed < 2 ^ 64 - 1 }
+    ensures tested { MatchResult result
+        (λ _. TestsLine (W.held port.old.to) (W.held port.new.to)
+        (R.ahead port.old.from) (R.ahead port.new.from) (Ok tt) port.old.limits)
+        (FailsTest (W.held port.old.to) (W.held port.new.to)
+        (R.ahead port.old.from) (R.ahead port.new.from) port.old.limits) }
+    ensures kept { (port.new.chip ≡ port.old.chip)
+        × (port.new.turns ≡ port.old.turns)
+        × (port.new.reason ≡ port.old.reason) }
+    ensures limits { port.new.limits ≡ port.old.limits }
+    ensures failures { IfOk result (λ _. port.new.failed ≡ port.old.failed)
+        × (port.new.failed ≤ port.old.failed + 1)
+        × CountsBoth (R.count port.old.from) (R.count port.new.from)
+        (W.count port.old.to) (W.count port.new.to) (fault_by fault_of_greeting result) }
+{
+    match test_line(&mut port.from, &mut port.to, &port.limits) {
+        Ok(()) => Ok(()),
+        Err(why) => {
+            port.failed += 1;
+            Err(DeviceFault::Line(why))
+        }
+    }
+}
+
+/// Has the device of a port drive the pins of the chip no more, where it does, whatever it answers;
+/// after a request that was cut nothing is sent.
+pub fn release_pins<R: ByteIn + Drop, W: ByteOut + Drop>(port: &mut Shadowed<'_, R, W>, cut: bool)
+    requires count { port.old.failed < 2 ^ 64 - 1 }
+    ensures rise { (R.count port.old.from ≤ R.count port.new.from)
+        × (W.count port.old.to ≤ W.count port.new.to) }
+    ensures released { Releases (W.count port.old.to < W.count port.new.to)
+        (port.old.limits.pins && not cut)
+        (moment port.old.chip (W.held port.old.to) (R.ahead port.old.from))
+        (moment port.new.chip (W.held port.new.to) (R.ahead port.new.from)) }
+{
+    if port.limits.pins && !cut {
+        if release(&mut port.from, &mut port.to).is_err() {
+            port.failed += 1;
+        }
+    }
+}

@@ -1,0 +1,103 @@
+//! Whether the chip behind a device is like the chip in memory.
+
+ghost use Rattle.std.specs.Prelude.{◌≡◌, ◌<◌, ◌≤◌, ◌+◌, ◌-◌, ◌*◌, ◌^◌, false, length, MatchResult};
+ghost use Rattle.std.specs.Prelude.{IfOk};
+ghost use Rattle.nor_cells.specs.Marks.{IsMarked};
+ghost use Rattle.norprog_device.specs.Blame.{CountsBoth, fault_of_mismatch};
+ghost use Rattle.norprog_player.specs.Blame.{fault_by};
+ghost use Rattle.norprog_player.specs.Moment.{moment};
+ghost use Rattle.norprog_player.specs.Likeness.{Compares, IsLike, IsUnlike};
+
+use crate::access::Access;
+use crate::content::compare_whole;
+use nor_base::{ByteIn, ByteOut};
+use nor_probe::Mismatch;
+use nor_serprog::{Reason, Shadowed};
+
+/// Compares the marked cells of the chip behind the device with the chip in memory, unless it is
+/// trusted.
+pub(crate) fn compare_unless_trusted<R: ByteIn + Drop, W: ByteOut + Drop>(
+    port: &mut Shadowed<'_, R, W>,
+    access: Access,
+    marks: &[bool],
+    trusted: bool,
+) -> Result<(), Mismatch>
+    requires marked { (length port.old.chip.chip.array < 2 ^ 32)
+        × (length port.old.chip.chip.array ≡ 256 * length marks.now) }
+    requires count { port.old.failed < 2 ^ 64 - 1 }
+    ensures compared { MatchResult result
+        (λ _. Compares port.old.limits trusted access (IsMarked marks.now)
+        (moment port.old.chip (W.held port.old.to) (R.ahead port.old.from))
+        (moment port.new.chip (W.held port.new.to) (R.ahead port.new.from)))
+        (λ why. (trusted ≡ false) × IsUnlike port.old.limits access (IsMarked marks.now)
+        (moment port.old.chip (W.held port.old.to) (R.ahead port.old.from))
+        (moment port.new.chip (W.held port.new.to) (R.ahead port.new.from))
+        why) }
+    ensures kept { (port.new.chip ≡ port.old.chip)
+        × (port.new.limits ≡ port.old.limits)
+        × (port.new.turns ≡ port.old.turns) }
+    ensures failures { IfOk result (λ _. port.new.reason ≡ port.old.reason)
+        × IfOk result (λ _. port.new.failed ≡ port.old.failed)
+        × (port.new.failed ≤ port.old.failed + 1) }
+    ensures blamed { CountsBoth (R.count port.old.from) (R.count port.new.from)
+        (W.count port.old.to) (W.count port.new.to) (fault_by fault_of_mismatch result) }
+{
+    if trusted {
+        return Ok(());
+    }
+    compare_chip(port, access, marks)
+}
+
+/// Has the device read the marked cells of its chip, and what it gives past its end, and compares
+/// them with the chip in memory. A port where that stops has failed.
+pub(crate) fn compare_chip<R: ByteIn + Drop, W: ByteOut + Drop>(
+    port: &mut Shadowed<'_, R, W>,
+    access: Access,
+    marks: &[bool],
+) -> Result<(), Mismatch>
+    requires marked { (length port.old.chip.chip.array < 2 ^ 32)
+        × (length port.old.chip.chip.array ≡ 256 * length marks.now) }
+    requires count { port.old.failed < 2 ^ 64 - 1 }
+    ensures compared { MatchResult result
+        (λ _. IsLike port.old.limits access (IsMarked marks.now)
+        (moment port.old.chip (W.held port.old.to) (R.ahead port.old.from))
+        (moment port.new.chip (W.held port.new.to) (R.ahead port.new.from)))
+        (λ why. IsUnlike port.old.limits access (IsMarked marks.now)
+        (moment port.old.chip (W.held port.old.to) (R.ahead port.old.from))
+        (moment port.new.chip (W.held port.new.to) (R.ahead port.new.from))
+        why) }
+    ensures kept { (port.new.chip ≡ port.old.chip)
+        × (port.new.limits ≡ port.old.limits)
+        × (port.new.turns ≡ port.old.turns) }
+    ensures failures { IfOk result (λ _. port.new.reason ≡ port.old.reason)
+        × IfOk result (λ _. port.new.failed ≡ port.old.failed)
+        × (port.new.failed ≤ port.old.failed + 1) }
+    ensures blamed { CountsBoth (R.count port.old.from) (R.count port.new.from)
+        (W.count port.old.to) (W.count port.new.to) (fault_by fault_of_mismatch result) }
+{
+    let content = port.chip.content();
+    let compared = compare_whole(
+        &mut port.from,
+        &mut port.to,
+        &port.limits,
+        access,
+        content,
+        marks,
+    );
+    if let Err(why) = compared {
+        port.failed += 1;
+        port.reason = Some(reason_of(why));
+    }
+    compared
+}
+
+/// Why a port has failed in which a comparison ended so.
+pub(crate) fn reason_of(why: Mismatch) -> Reason {
+    match why {
+        Mismatch::Exchange(fault) => Reason::Exchange(fault),
+        Mismatch::Differs(difference) => Reason::Differs {
+            place: difference.address,
+            byte: difference.chip,
+        },
+    }
+}

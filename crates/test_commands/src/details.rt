@@ -1,0 +1,101 @@
+//! What `--details` says of refusals that no file brings about.
+
+use crate::same::holds;
+use nor_base::IntoWrite;
+use norprog_common::{SystemFiles, Unlisted};
+use norprog_details::{CommandLine, Typed, write_details};
+use std::test::Fail;
+
+/// A line of a command; the file of each option is there, so no word of the system comes behind it.
+const LINE: CommandLine<'static> = CommandLine {
+    command: "flash",
+    typed: &[
+        Typed {
+            name: "content",
+            value: "/dev/null",
+        },
+        Typed {
+            name: "device",
+            value: "/dev/null",
+        },
+        Typed {
+            name: "tables",
+            value: "/dev/null",
+        },
+        Typed {
+            name: "before",
+            value: "/dev/null",
+        },
+    ],
+    regions: &[],
+};
+
+/// Each refusal, with the lines that come first.
+static REFUSED: [(&str, &str); 10] = [
+    (
+        "norprog: device nak",
+        "--device /dev/null\n\
+            The device refused a command of the handshake that it says it has. Check its\n",
+    ),
+    (
+        "norprog: device read",
+        "--device /dev/null\n\
+            Reading from the device failed in the handshake or in the test of its line.\n",
+    ),
+    (
+        "norprog: device version",
+        "--device /dev/null\n\
+            The device speaks serprog, but not version 1. Give it another firmware. The\n",
+    ),
+    (
+        "norprog: device operation",
+        "--device /dev/null\n\
+            The device speaks serprog, but has no SPI operations (13h): its firmware is for\n",
+    ),
+    (
+        "norprog: device line",
+        "--device /dev/null\n\
+            Bytes don't reach the device as norprog sends them: on the way some are lost,\n",
+    ),
+    (
+        "norprog: file tables",
+        "--tables /dev/null\n\
+            A file of the name that --tables says is there, or can't be made or written.\n",
+    ),
+    (
+        "norprog: file before",
+        "--before /dev/null\n\
+            A file of the name that --before says is there, or can't be made or written.\n",
+    ),
+    (
+        "norprog: content short",
+        "--content /dev/null\n\
+            The content file ended before the length that it had when norprog opened it.\n",
+    ),
+    (
+        "norprog: read",
+        "As a refusal: reading the content failed. Check the disk, and run the command\n",
+    ),
+    (
+        "norprog: memory",
+        "norprog ran out of memory. Give it more memory, or smaller files. The output\n",
+    ),
+];
+
+#[test]
+fn details_name_the_option_and_explain(rt: HostRuntime) -> Result<(), Fail> {
+    for (refusal, begin) in &REFUSED {
+        let mut told = IntoWrite::new(Vec::new(rt.alloc()));
+        write_details(
+            rt.alloc(),
+            &SystemFiles::new(&rt),
+            &mut Unlisted,
+            LINE,
+            refusal.as_bytes(),
+            &mut told,
+        );
+        let told = told.inner.as_slice();
+        holds(&rt, refusal, told.starts_with(begin.as_bytes()));
+    }
+    Ok(())
+}
