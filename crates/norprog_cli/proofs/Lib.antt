@@ -1,2 +1,1 @@
-pub mod GatheredLemmas
-mod DetailsLemmas
+mod GatheredLemmas

@@ -6,9 +6,8 @@
 //! what a chip's tables mean, `norprog hex` writes a raw image as Intel HEX, `norprog script`
 //! writes the script of a log, `norprog explain` says what a printed text means.
 //!
-//! The crate `norprog_options` reads the options; `norprog_build`, `norprog_plan`, `norprog_check`,
-//! `norprog_sfdp`, `norprog_run`, `norprog_list`, `norprog_draw`, `norprog_play`, `norprog_read`,
-//! `norprog_flash`, `norprog_hex`, `norprog_script` and `norprog_explain` do the work behind them.
+//! `norprog_command` does what the words spell; here they come from the process, and what is
+//! printed goes out.
 #![tactic(auto)]
 
 ghost use Rattle.std.specs.Prelude.{◌≡◌, ◌<◌, ◌≤◌, ◌-◌, ◌^◌, [], codes, drop, false, map};
@@ -17,36 +16,20 @@ ghost use Rattle.std.specs.Vec.Iter.{into_iter_items};
 ghost use Rattle.std.specs.Io.KnownBytes.{Keeps, append_known};
 ghost use Rattle.nor_job.specs.declared.fault.BuildFault.TheVariants.{Memory};
 ghost use Rattle.norprog_common.specs.declared.faults.Refusal.TheVariants.{Build};
-ghost use Rattle.norprog_common.specs.FileStore.{Adds, OpensAt};
+ghost use Rattle.norprog_common.specs.FileStore.{Adds};
 ghost use Rattle.norprog_common.specs.Reading.{HasFailed};
-ghost use Rattle.norprog_cli.specs.Answers.{AnswersTo, AnswersWords, AddsDetails, AddsLines};
-ghost use Rattle.norprog_cli.specs.Answers.{kept_details};
-ghost use Rattle.norprog_cli.specs.Answers.{EndsCommand, EndsGathered, EndsGiven, EndsProgram};
-ghost use Rattle.norprog_cli.specs.Answers.{IsWordless, one_more, texts_in};
-ghost use Rattle.norprog_cli.specs.Opened.{files_of, OpensDetails, OpensEnd, OpensGiven};
-ghost use Rattle.norprog_cli.specs.Opened.{OpensLines, OpensWords};
-ghost use Rattle.norprog_cli.specs.Reads.{MayAskDetails, MayAskLine, MayReadAsked, MayReadWords};
+ghost use Rattle.norprog_command.specs.Answers.{AnswersWords};
+ghost use Rattle.norprog_command.specs.Reads.{MayReadWords};
+ghost use Rattle.norprog_cli.specs.Ends.{EndsCommand, EndsGathered, EndsGiven, EndsProgram};
+ghost use Rattle.norprog_cli.specs.Ends.{IsWordless, one_more, OpensEnd, OpensGiven, texts_in};
 
 mod gathered;
 
 use crate::gathered::Gathered;
 use nor_base::{ByteIn, ByteOut, Failed, FromRead, IntoWrite, Nowhere};
-use norprog_build::build;
-use norprog_check::check;
+use norprog_command::command;
 use norprog_common::{FileStore, Refusal, SystemFiles, Unlisted, Unrecorded, refuse};
-use norprog_details::{Heard, write_details};
-use norprog_draw::draw;
-use norprog_explain::explain;
-use norprog_flash::flash;
-use norprog_hex::hex;
-use norprog_list::list;
-use norprog_options::{Asked, Line, TypedLine, asked_by};
-use norprog_plan::plan;
-use norprog_play::play;
-use norprog_read::read;
-use norprog_run::run;
-use norprog_script::script;
-use norprog_sfdp::sfdp;
+use norprog_details::Heard;
 use std::alloc::Global;
 use std::env::{self, Args};
 use std::fs::{self, File};
@@ -282,151 +265,5 @@ fn words_after_name(alloc: Global, words: Args) -> Result<Vec<String>, Refusal>
     match words.skip(1).collect(alloc) {
         Ok(words) => Ok(words),
         Err(_) => Err(Refusal::MEMORY),
-    }
-}
-
-/// Runs the command that the words spell, the program's name not among them. It opens the files
-/// that they name, writes what goes to standard output to `out`, a refusal to `err`, and the
-/// progress of a play to `progress`. Returns the status: 0 done, 1 refused or a script that goes
-/// wrong or doesn't do its job, 2 usage.
-fn command<S: FileStore, O: ByteOut, E: ByteOut + Drop, P: ByteOut>(
-    alloc: Global,
-    store: &S,
-    journal: &mut S::Journal,
-    ledger: &mut S::Ledger,
-    words: Vec<String>,
-    out: &mut O,
-    err: &mut Heard<E>,
-    progress: &mut P,
-) -> u8
-    requires read { MayReadWords (S.facts store.now) (map string_bytes words.items) }
-    requires out { O.count out.old < 2 ^ 64 - 2 }
-    requires err { E.count err.old.out < 2 ^ 64 - 1 }
-    requires progress { P.count progress.old < 2 ^ 64 - 1 }
-    ensures status { result ≤ 2 }
-    ensures quiet { result ≡ 0 → err.new ≡ err.old }
-    ensures opened { OpensWords (S.Ledger.opened ledger.old) (S.Ledger.opened ledger.new)
-        (map string_bytes words.items) result }
-    ensures answer { AnswersWords ⟦<Heard<E> as ByteOut>⟧.count ⟦<Heard<E> as ByteOut>⟧.held
-        (S.facts store.now) (HasFailed S.Input.ahead S.Input.count)
-        (Adds (S.Journal.changes journal.old) (S.Journal.changes journal.new))
-        (O.count out.old < O.count out.new)
-        (map string_bytes words.items) (O.held out.old) (O.held out.new) err.old err.new result (
-          P.held progress.old,
-          P.held progress.new,
-          P.count progress.old,
-          P.count progress.new,
-        ) }
-{
-    match asked_by(alloc, words.as_slice()) {
-        Ok(line) => {
-            let Line { asked, details } = line;
-            let failures = err.failures();
-            let status = answer_to(alloc, store, journal, ledger, asked, out, err, progress);
-            let details = kept_details(details, failures, err.failures());
-            add_details(alloc, store, ledger, details, status, err);
-            status
-        }
-        Err(refusal) => refuse(&refusal, err),
-    }
-}
-
-/// The details that are wanted, where standard error hasn't failed meanwhile: after its line was
-/// cut they would be of another refusal.
-fn kept_details(details: Option<TypedLine<'_>>, before: u64, after: u64) -> Option<TypedLine<'_>>
-    ensures { result ≡ kept_details before after details.entry }
-{
-    if after == before { details } else { None }
-}
-
-/// Writes more of a refusal, where a command line wants that.
-fn add_details<S: FileStore, E: ByteOut + Drop>(
-    alloc: Global,
-    store: &S,
-    ledger: &mut S::Ledger,
-    details: Option<TypedLine<'_>>,
-    status: u8,
-    err: &mut Heard<E>,
-)
-    requires { MayAskDetails (S.facts store.now) details }
-    ensures opened { OpensDetails (S.Ledger.opened ledger.old) (S.Ledger.opened ledger.new)
-        details.entry status }
-    ensures added { AddsDetails ⟦<Heard<E> as ByteOut>⟧.count ⟦<Heard<E> as ByteOut>⟧.held
-        (S.facts store.now) details.entry status err.old err.new }
-{
-    let Some(typed) = details else {
-        return;
-    };
-    if status != 0 {
-        add_lines(alloc, store, ledger, typed, err)
-    }
-}
-
-/// Writes more of the refusal whose line was written last.
-fn add_lines<S: FileStore, E: ByteOut + Drop>(
-    alloc: Global,
-    store: &S,
-    ledger: &mut S::Ledger,
-    typed: TypedLine<'_>,
-    err: &mut Heard<E>,
-)
-    requires { MayAskLine (S.facts store.now) typed }
-    ensures opened { OpensLines (S.Ledger.opened ledger.old) (S.Ledger.opened ledger.new)
-        typed.entry }
-    ensures added { AddsLines ⟦<Heard<E> as ByteOut>⟧.count ⟦<Heard<E> as ByteOut>⟧.held
-        (S.facts store.now) typed.entry err.old err.new }
-{
-    let refusal = err.last_line();
-    let line = typed.as_line();
-    if err.failures() < u64::MAX {
-        write_details(alloc, store, ledger, line, refusal.as_slice(), err)
-    }
-}
-
-/// Does what is asked for.
-fn answer_to<S: FileStore, O: ByteOut, E: ByteOut, P: ByteOut>(
-    alloc: Global,
-    store: &S,
-    journal: &mut S::Journal,
-    ledger: &mut S::Ledger,
-    asked: Asked<'_>,
-    out: &mut O,
-    err: &mut E,
-    progress: &mut P,
-) -> u8
-    requires read { MayReadAsked (S.facts store.now) asked }
-    requires out { O.count out.old < 2 ^ 64 - 2 }
-    requires err { E.count err.old < 2 ^ 64 - 1 }
-    requires progress { P.count progress.old < 2 ^ 64 - 1 }
-    ensures status { result ≤ 2 }
-    ensures quiet { result ≡ 0 → err.new ≡ err.old }
-    ensures opened { OpensAt (S.Ledger.opened ledger.old) (S.Ledger.opened ledger.new)
-        (files_of asked.entry) result }
-    ensures answer { AnswersTo (S.facts store.now)
-        (HasFailed S.Input.ahead S.Input.count)
-        (Adds (S.Journal.changes journal.old) (S.Journal.changes journal.new))
-        (O.count out.old < O.count out.new) asked.entry (O.held out.old) (O.held out.new)
-        (err.new ≡ err.old)
-        (E.count err.new ≡ E.count err.old) (E.held err.old) (E.held err.new) result (
-          P.held progress.old,
-          P.held progress.new,
-          P.count progress.old,
-          P.count progress.new,
-        ) }
-{
-    match asked {
-        Asked::Build(given) => build(alloc, store, journal, ledger, given, out, err),
-        Asked::Plan(given) => plan(alloc, store, journal, ledger, given, out, err),
-        Asked::Check(given) => check(alloc, store, ledger, given, out, err),
-        Asked::Run(given) => run(alloc, store, journal, ledger, given, out, err),
-        Asked::List(given) => list(alloc, store, ledger, given, out, err),
-        Asked::Draw(given) => draw(alloc, store, journal, ledger, given, err),
-        Asked::Play(given) => play(alloc, store, journal, ledger, given, out, err, progress),
-        Asked::Read(given) => read(alloc, store, journal, ledger, given, out, err),
-        Asked::Flash(given) => flash(alloc, store, journal, ledger, given, out, err, progress),
-        Asked::Sfdp(given) => sfdp(alloc, store, ledger, given, out, err),
-        Asked::Hex(given) => hex(alloc, store, journal, ledger, given, err),
-        Asked::Script(given) => script(alloc, store, journal, ledger, given, out, err),
-        Asked::Explain(words) => explain(words.as_slice(), out, err),
     }
 }

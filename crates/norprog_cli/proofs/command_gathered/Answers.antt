@@ -3,7 +3,8 @@ use Rattle.std.proofs.Common.{◌≡◌, ◌∙◌, ℕ, All, Any, List, [], Opt
 use Rattle.std.specs.Io.KnownBytes.{append_known, Keeps}
 use Rattle.nor_base.specs.Device.{Ahead}
 use Rattle.norprog_common.specs.FileStore.{FileFacts, Change}
-use Rattle.norprog_cli.specs.Answers.{EndsCommand, ProgressShown}
+use Rattle.norprog_cli.specs.Ends.{EndsCommand}
+use Rattle.norprog_command.specs.Answers.{ProgressShown}
 use Rattle.norprog_cli.proofs.command_gathered.Goals as goal
 
 -- with nothing more, known bytes are the same

@@ -1,7 +1,7 @@
 -- What the program's words ask for, whatever the system's files give.
 use Rattle.std.proofs.Common.{IfErr, Ok, Err, Result, ℕ, List, map, string_bytes}
 use Rattle.norprog_common.specs.declared.faults.Refusal.{Refusal}
-use Rattle.norprog_cli.specs.Answers.{IsWordless, texts_in}
+use Rattle.norprog_cli.specs.Ends.{IsWordless, texts_in}
 use Rattle.norprog_cli.proofs.main_status.Goals as goal
 
 -- why there are no texts is why there are no words

@@ -3,9 +3,9 @@ use Rattle.std.proofs.Common.{◌≡◌, ◌∙◌, ◌⊎◌, inl, inr, ℕ, Bo
 use Rattle.std.specs.Prelude.{nat_eq, if◌then◌else◌}
 use Rattle.norprog_common.specs.FileStore.{FileFacts, Adds}
 use Rattle.norprog_options.specs.declared.typed.TypedLine.{TypedLine}
-use Rattle.norprog_cli.specs.Answers.{AddsDetails, kept_details}
-use Rattle.norprog_cli.specs.Opened.{OpensDetails}
-use Rattle.norprog_cli.specs.Reads.{MayAskDetails}
+use Rattle.norprog_command.specs.Answers.{AddsDetails, kept_details}
+use Rattle.norprog_command.specs.Opened.{OpensDetails}
+use Rattle.norprog_command.specs.Reads.{MayAskDetails}
 
 opens_if : (b : Bool) (details : Option TypedLine) (before after : Option (List (List ℕ))) (status : ℕ) → OpensDetails before after (if b then details else None) status
     → Adds before after [] ⊎ OpensDetails before after details status

@@ -2,7 +2,7 @@
 use Rattle.std.proofs.Common.{refl, []}
 use Rattle.norprog_common.proofs.JournalLemmas.{adds_none}
 use Rattle.norprog_common.proofs.LedgerLemmas.{all_first}
-use Rattle.norprog_cli.proofs.answer_to.Goals as goal
+use Rattle.norprog_command.proofs.answer_to.Goals as goal
 
 pub returns-in-Check-clause-answer : goal.returns-in-Check-clause-answer
 returns-in-Check-clause-answer g c = rw c.in-Check.is (record { held = refl; count = refl }, adds_none _ _ refl, c.check.ensures.answer)

@@ -2,7 +2,7 @@
 use Rattle.std.proofs.Common.{inl, inr, refl, rules, subst, sym}
 use Rattle.norprog_details.proofs.MayLemmas.{ask_about}
 use Rattle.norprog_details.specs.Heard.{IsLastLine}
-use Rattle.norprog_cli.proofs.add_lines.Goals as goal
+use Rattle.norprog_command.proofs.add_lines.Goals as goal
 
 pub returns-then-failures-lt18446744073709551615-clause-added : goal.returns-then-failures-lt18446744073709551615-clause-added
 returns-then-failures-lt18446744073709551615-clause-added g c = (

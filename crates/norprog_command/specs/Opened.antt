@@ -61,12 +61,3 @@ OpensTyped before after words status (Err why) = Refuses words why × Adds befor
 
 abbrev pub OpensWords : Option (List (List ℕ)) → Option (List (List ℕ)) → List (List ℕ) → ℕ → Type 0
 OpensWords before after words status = (spelled : Result Line Refusal) × OpensTyped before after words status spelled
-
--- of a command after which all was to go out: its status is 0 only where the command's own is
-abbrev pub OpensEnd : Option (List (List ℕ)) → Option (List (List ℕ)) → List (List ℕ) → ℕ → Type 0
-OpensEnd before after words status = (own : ℕ) × (status ≡ 0 → own ≡ 0) × OpensWords before after words own
-
--- of words that may not be there: then none
-abbrev pub OpensGiven : Option (List (List ℕ)) → Option (List (List ℕ)) → Result (List (List ℕ)) Refusal → ℕ → Type 0
-OpensGiven before after (Ok words) status = OpensEnd before after words status
-OpensGiven before after (Err why) status = Adds before after []

@@ -2,8 +2,8 @@
 use Rattle.std.proofs.Common.{Ok, Err, map, refl, string_bytes, subst}
 use Rattle.norprog_common.proofs.JournalLemmas.{adds_none}
 use Rattle.norprog_options.specs.Spelled.{Refuses, Spells}
-use Rattle.norprog_cli.proofs.DetailsLemmas.{adds_kept, asks_kept, opens_kept}
-use Rattle.norprog_cli.proofs.command.Goals as goal
+use Rattle.norprog_command.proofs.DetailsLemmas.{adds_kept, asks_kept, opens_kept}
+use Rattle.norprog_command.proofs.command.Goals as goal
 
 pub returns-in-Ok-clause-answer : goal.returns-in-Ok-clause-answer
 returns-in-Ok-clause-answer g c = (
