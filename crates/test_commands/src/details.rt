@@ -6,7 +6,8 @@ use norprog_common::{SystemFiles, Unlisted};
 use norprog_details::{CommandLine, Typed, write_details};
 use std::test::Fail;
 
-/// A line of a command; the file of each option is there, so no word of the system comes behind it.
+/// A line of a command. Each option has a file of its own, which is there, so no word of the system
+/// comes after it.
 const LINE: CommandLine<'static> = CommandLine {
     command: "flash",
     typed: &[
@@ -16,15 +17,15 @@ const LINE: CommandLine<'static> = CommandLine {
         },
         Typed {
             name: "device",
-            value: "/dev/null",
+            value: "/dev/zero",
         },
         Typed {
             name: "tables",
-            value: "/dev/null",
+            value: "/dev/full",
         },
         Typed {
             name: "before",
-            value: "/dev/null",
+            value: "/dev/random",
         },
     ],
     regions: &[],
@@ -34,37 +35,37 @@ const LINE: CommandLine<'static> = CommandLine {
 static REFUSED: [(&str, &str); 10] = [
     (
         "norprog: device nak",
-        "--device /dev/null\n\
+        "--device /dev/zero\n\
             The device refused a command of the handshake that it says it has. Check its\n",
     ),
     (
         "norprog: device read",
-        "--device /dev/null\n\
+        "--device /dev/zero\n\
             Reading from the device failed in the handshake or in the test of its line.\n",
     ),
     (
         "norprog: device version",
-        "--device /dev/null\n\
+        "--device /dev/zero\n\
             The device speaks serprog, but not version 1. Give it another firmware. The\n",
     ),
     (
         "norprog: device operation",
-        "--device /dev/null\n\
+        "--device /dev/zero\n\
             The device speaks serprog, but has no SPI operations (13h): its firmware is for\n",
     ),
     (
         "norprog: device line",
-        "--device /dev/null\n\
+        "--device /dev/zero\n\
             Bytes don't reach the device as norprog sends them: on the way some are lost,\n",
     ),
     (
         "norprog: file tables",
-        "--tables /dev/null\n\
+        "--tables /dev/full\n\
             A file of the name that --tables says is there, or can't be made or written.\n",
     ),
     (
         "norprog: file before",
-        "--before /dev/null\n\
+        "--before /dev/random\n\
             A file of the name that --before says is there, or can't be made or written.\n",
     ),
     (
