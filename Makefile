@@ -2,15 +2,11 @@
 
 .PHONY: build try check test hooks edits refusals peers wire docs-check dist install uninstall
 
-# the sample job of one byte, for the program in crates/norprog_cli
-job = build --hex data/one.hex --uniform 8192 --content data/chip.bin --out
-
-# proves the program and every crate that it stands on, side by side, runs it once on the sample job, and leaves it at ./norprog
+# proves the program and every crate that it stands on, side by side, has it do the sample job of one byte, and leaves it at
+# ./norprog
 build:
-	@rm -f norprog crates/norprog_cli/out/norprog_cli
+	@rm -f norprog
 	@tools/build
-	@dir=$$(mktemp -d) && (cd crates/norprog_cli && rt run --jobs $$(nproc) -- $(job) $$dir/one.script); status=$$?; rm -rf "$$dir"; exit $$status
-	@cp crates/norprog_cli/out/norprog_cli norprog
 	@tools/stamp norprog
 	@echo "proved and built: ./norprog"
 

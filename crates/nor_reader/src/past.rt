@@ -19,13 +19,12 @@ const BLOCK: usize = 1 << 16;
 /// The first address that three bytes don't reach.
 const FAR: usize = 1 << 24;
 
-/// Has the device read its chip past the end, up to the next multiple of 64 KiB, and compares that
-/// with the content's first bytes, which a chip of just this content gives there. A larger one
-/// shows by other bytes. Nothing is read where the content ends at such a multiple, and from 16 MiB
-/// on. It takes no memory.
+/// Has the device read its chip from the content's end up to a multiple of 64 KiB, and compares
+/// that with the content's first bytes, which a chip of just its size gives there. Of 16 MiB or
+/// more it reads nothing.
 ///
-/// `Differs` names the lowest address whose byte is another. `Exchange` where an exchange ended
-/// early, after which nothing was sent.
+/// `Differs` names the lowest address whose byte is another. `Exchange`: an exchange ended early,
+/// and nothing was sent after it.
 pub fn read_past<R: ByteIn, W: ByteOut>(
     from: &mut R,
     to: &mut W,

@@ -82,11 +82,12 @@ pub record IsProgramEnd (E : Type 0) (count : E → ℕ) (held : E → Option (L
 abbrev pub EndsProgram : {E : Type 0} → (E → ℕ) → (E → Option (List ℕ)) → (Ahead → Type 0) → E → E → ℕ → Type 0
 EndsProgram count held Failed err_before err_after status = IsProgramEnd _ count held Failed err_before err_after status
 
--- of a command after which all was to go out: its status is 0 only where the command's own is
+-- which files the words' command opened and made (`OpensWords`), where all that it printed was to go out then: the program's status is
+-- 0 only where the command's own is
 abbrev pub OpensEnd : Option (List (List ℕ)) → Option (List (List ℕ)) → List (List ℕ) → ℕ → Type 0
 OpensEnd before after words status = (own : ℕ) × (status ≡ 0 → own ≡ 0) × OpensWords before after words own
 
--- of words that may not be there: then none
+-- the same of words that may not be there: then it opened and made none
 abbrev pub OpensGiven : Option (List (List ℕ)) → Option (List (List ℕ)) → Result (List (List ℕ)) Refusal → ℕ → Type 0
 OpensGiven before after (Ok words) status = OpensEnd before after words status
 OpensGiven before after (Err why) status = Adds before after []

@@ -16,9 +16,8 @@ use nor_probe::Mismatch;
 use nor_reader::{ReadBy, read_past};
 use nor_serprog::Limits;
 
-/// Has the device read the marked cells of its chip, from the lowest on, as many bytes at once as
-/// it can, and compares them with a content that begins at address 0; then what it gives past its
-/// end. It takes no memory.
+/// Compares the marked cells of the device's chip, from the lowest on, with a content that begins
+/// at address 0; then what the chip gives past its end. It takes no memory.
 ///
 /// `Exchange` where a read ended early; `Differs` with the lowest address of the cells, else past
 /// the end, whose byte is another, after which four-byte mode was left.

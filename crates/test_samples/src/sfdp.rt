@@ -49,16 +49,6 @@ pub const LEGACY_LATCHED: &[(usize, u8)] = &[
     (87, 0x02),
 ];
 
-/// Over [`SMALL`]: 64 KiB in sectors of 4 KiB and blocks of 32 KiB.
-pub const BLOCKS: &[(usize, u8)] = &[
-    (20, 0xFF),
-    (21, 0xFF),
-    (22, 0x07),
-    (23, 0),
-    (46, 0x0F),
-    (47, 0x52),
-];
-
 /// Over [`SMALL`]: 68 KiB in blocks of 64 KiB, so that the last 4 KiB lie in no block.
 pub const LONE_BLOCK: &[(usize, u8)] = &[
     (20, 0xFF),
