@@ -23,8 +23,8 @@ const FAR: usize = 1 << 24;
 /// that with the content's first bytes, which a chip of just its size gives there. Of 16 MiB or
 /// more it reads nothing.
 ///
-/// `Differs` names the lowest address whose byte is another. `Exchange`: an exchange ended early,
-/// and nothing was sent after it.
+/// `Differs` names the lowest address whose byte is another. `Exchange`: one ended early, after
+/// which nothing was sent.
 pub fn read_past<R: ByteIn, W: ByteOut>(
     from: &mut R,
     to: &mut W,
