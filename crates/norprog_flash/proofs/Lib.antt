@@ -8,3 +8,4 @@ mod StateLemmas
 mod ReportLemmas
 mod StopsLemmas
 mod CountLemmas
+mod ResumedLemmas

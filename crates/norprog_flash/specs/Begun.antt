@@ -14,6 +14,7 @@ use Rattle.nor_reader.specs.Past.{ReadsPast}
 use Rattle.nor_sfdp.specs.Bits.{is_set}
 use Rattle.norprog_common.specs.FileStore.{FileFacts}
 use Rattle.norprog_flash.specs.declared.job.Job.{Job}
+use Rattle.norprog_flash.specs.Resumed.{IsOfDump}
 use Rattle.norprog_flash.specs.Task.{dump_of, flash_task}
 use Rattle.norprog_flash.specs.Way.{way_text}
 use Rattle.norprog_read.specs.declared.asked.Reading.{Reading}
@@ -44,10 +45,12 @@ pub record HasRead (most : ℕ) (job : Job) (held_before held_after : Option (Li
   pub way : GivesBy r.meaning (start_of (flash_task job r.tables.items)) by
   pub past : ReadsPast most held held_after ahead ahead_after (Ok tt) by r.content.items
 
--- the work from what was read to the target was planned and printed, and then how to go on where it stops on the way
+-- the work from what was read to the target was planned and printed, and then how to go on where it stops on the way; where work is
+-- resumed the chip may be the one of the older dump
 pub record PrintsPlan (job : Job) (r : Reading) (goal : List ℕ) (steps : List Step) (out_before out_after : Option (List ℕ)) : Type 0 where
   pub middle : Option (List ℕ)
   pub work : IsWork (flash_task job r.tables.items) r.content.items (unwrap_or (dump_of job) r.content.items) goal steps out_before middle
+  pub kept : IsOfDump r.meaning r.content.items (unwrap_or (dump_of job) r.content.items) goal
   pub way : Appends middle out_after (way_text job.dry steps job.texts.now)
 
 -- it was read, and nothing else was sent; what it holds is saved; and the work from that to the target was planned and printed

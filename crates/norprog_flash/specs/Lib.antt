@@ -1,4 +1,5 @@
 pub mod Task
+pub mod Resumed
 pub mod Early
 pub mod State
 pub mod Way

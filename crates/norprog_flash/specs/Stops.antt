@@ -21,7 +21,7 @@ use Rattle.nor_serprog.specs.Greeting.{Greeted}
 use Rattle.nor_serprog.specs.Line.{TestsLine}
 use Rattle.norprog_common.specs.declared.faults.FileName.TheVariants as file
 use Rattle.norprog_common.specs.declared.faults.Refusal.{Refusal}
-use Rattle.norprog_common.specs.declared.faults.Refusal.TheVariants.{Build}
+use Rattle.norprog_common.specs.declared.faults.Refusal.TheVariants.{Build, File}
 use Rattle.norprog_common.specs.FileStore.{FileFacts, Breaks, Change, Created}
 use Rattle.norprog_common.specs.Strict.{RefusesEmpty}
 use Rattle.norprog_common.specs.Told.{TellsBroken}
@@ -33,6 +33,7 @@ use Rattle.norprog_flash.specs.declared.ending.Unflashed.TheVariants.{Refused, D
 use Rattle.norprog_flash.specs.declared.job.Job.{Job}
 use Rattle.norprog_flash.specs.Begun.{HasRead, start_at}
 use Rattle.norprog_flash.specs.Blame.{fault_of_stop}
+use Rattle.norprog_flash.specs.Resumed.{IsOfAnother}
 use Rattle.norprog_flash.specs.Task.{dump_of, flash_task}
 use Rattle.norprog_flash.specs.Way.{way_text}
 use Rattle.norprog_read.specs.declared.asked.Ask.{Ask}
@@ -132,13 +133,21 @@ pub record LacksWay (job : Job) (r : Reading) (out_before out_after : Option (Li
   pub work : IsWork (flash_task job r.tables.items) r.content.items (unwrap_or (dump_of job) r.content.items) goal steps out_before middle
   pub cut : Cuts middle out_after (way_text job.dry steps job.texts.now)
 
--- work is resumed from a dump that hasn't the chip's length, and nothing was printed; or the work from the content to the target, for which some lines of the plan may have been printed, couldn't be planned or printed; or that
+-- the work was planned and printed, and the chip isn't the one of the older dump
+pub record IsOnAnother (job : Job) (r : Reading) (out_before out_after : Option (List ℕ)) : Type 0 where
+  pub goal : List ℕ
+  pub steps : List Step
+  pub work : IsWork (flash_task job r.tables.items) r.content.items (unwrap_or (dump_of job) r.content.items) goal steps out_before out_after
+  pub another : IsOfAnother r.meaning r.content.items (unwrap_or (dump_of job) r.content.items) goal
+
+-- work is resumed from a dump that hasn't the chip's length, and nothing was printed; or the work from the content to the target, for which some lines of the plan may have been printed, couldn't be planned or printed; or one of these
 abbrev pub CantPlan : Job → Reading → Option (List ℕ) → Option (List ℕ) → Refusal → Type 0
 CantPlan job r out_before out_after why =
     ((why ≡ Build ContentSize) × (length (unwrap_or (dump_of job) r.content.items) ≢ length r.content.items) × (out_after ≡ out_before))
     ⊎ (((fault : BuildFault) × (why ≡ Build fault) × RefusesWork (flash_task job r.tables.items) r.content.items
     (unwrap_or (dump_of job) r.content.items) out_before out_after fault)
-    ⊎ ((why ≡ Build Write) × LacksWay job r out_before out_after))
+    ⊎ (((why ≡ Build Write) × LacksWay job r out_before out_after)
+    ⊎ ((why ≡ File file.Resume) × IsOnAnother job r out_before out_after)))
 
 -- it was read and saved, and its work couldn't be planned or printed
 pub record StopsUnplanned (most : ℕ) (files : FileFacts) (Made : List Change → Type 0) (held_before held_after : Option (List ℕ))

@@ -23,6 +23,7 @@ ghost use Rattle.norprog_flash.specs.Stops.{StopsBegun};
 use crate::back::way_of;
 use crate::ending::Unflashed;
 use crate::job::{Job, inputs_for};
+use crate::resumed::is_of_dump;
 use crate::way::print_way;
 use nor_base::{ByteIn, ByteOut, Start};
 use nor_job::BuildFault;
@@ -89,7 +90,7 @@ pub(crate) fn begin<S: FileStore, R: ByteIn, W: ByteOut, O: ByteOut>(
 }
 
 /// Plans for a chip that was read; prints the lines of the plan, and then how to go on where the
-/// work stops on the way.
+/// work stops on the way. Where work is resumed the chip has to be the one of the older dump.
 fn print_plan<O: ByteOut>(
     alloc: Global,
     job: &Job<'_>,
@@ -105,6 +106,15 @@ fn print_plan<O: ByteOut>(
     ensures out_count { CountsWriter (O.count out.old) (O.count out.new) result }
 {
     let work = plan_for(alloc, job, reading, out)?;
+    let held = reading.content.as_slice();
+    if !is_of_dump(
+        &reading.meaning,
+        held,
+        older(job, held),
+        work.goal.as_slice(),
+    ) {
+        return Err(Refusal::File(FileName::Resume));
+    }
     print_way(job, work.steps.as_slice(), out)?;
     Ok(work)
 }

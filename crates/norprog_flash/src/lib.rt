@@ -20,6 +20,7 @@ mod opened;
 mod options;
 mod report;
 mod request;
+mod resumed;
 mod way;
 mod work;
 

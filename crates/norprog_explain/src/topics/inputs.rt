@@ -93,7 +93,11 @@ pub(crate) const TOPICS: &[Topic] = &[
     (
         "file resume",
         "norprog can't use the file of --resume: it isn't there, you may not read it, or\n\
-         reading it failed. It must be what --before kept at the first try.",
+         reading it failed. After the plan: the chip isn't the one of that file, since it\n\
+         holds other bytes in whole 64 KiB or more that the job doesn't change. The file\n\
+         must be what --before kept at the first try on this chip, and image and regions\n\
+         the same as then. The chip isn't changed. To write all of a file to a chip make\n\
+         it HEX (norprog hex), and flash that without --resume.",
     ),
     (
         "file",

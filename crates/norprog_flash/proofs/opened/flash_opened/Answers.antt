@@ -1,5 +1,5 @@
 -- The parts of the wire, one after the other.
-use Rattle.std.proofs.Common.{◌≡◌, ◌<◌, ◌≤◌, ℕ, arith}
+use Rattle.std.proofs.Common.{◌≡◌, arith}
 use Rattle.norprog_common.specs.FileStore.{Adds}
 use Rattle.norprog_flash.specs.Blame.{fault_in}
 use Rattle.norprog_flash.specs.Worked.{Showing}

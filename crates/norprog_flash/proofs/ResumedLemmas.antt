@@ -1,0 +1,62 @@
+-- The bytes of a window.
+use Rattle.std.proofs.Common.{◌≡◌, ℕ, suc, ◌+◌, ◌-◌, ◌*◌, ◌<◌, ◌≤◌, ◌⊎◌, inl, inr, List, [], length, take, drop, take_all, sym, ap, subst, Option, unwrap_or, ◌∙◌, arith, min, length-drop}
+use Rattle.std.proofs.lemmas.Bool.{cases_lt}
+use Rattle.std.proofs.Math.ListN.{drop_of_length-le}
+use Rattle.std.proofs.Math.Nat.{suc-mul, mul-le-mul_right}
+use Rattle.std.proofs.lemmas.Grind.{div_ceil_times}
+use Rattle.std.specs.Int.{div_ceil}
+use Rattle.nor_base.specs.Parameters.{Parameters}
+use Rattle.norprog_flash.specs.Resumed.{window, IsOfDump}
+
+-- a part up to where the bytes end is as good as one past there
+same_part : (xs : List ℕ) (size place last : ℕ) → place ≤ length xs → last ≡ min (length xs) (place + size)
+    → take (last - place) (drop place xs) ≡ take size (drop place xs)
+same_part xs size place last within is = by (cases_lt (length xs) (place + size))
+  where
+    by : (length xs < place + size) ⊎ (place + size ≤ length xs) → take (last - place) (drop place xs) ≡ take size (drop place xs)
+    by (inl short) =
+        let fits : length (drop place xs) ≤ last - place = omega (arith, length-drop place xs) in
+        let all : length (drop place xs) ≤ size = omega (arith, length-drop place xs) in
+        take_all (last - place) (drop place xs) fits ∙ sym (take_all size (drop place xs) all)
+    by (inr full) = let same : last - place ≡ size = omega arith in ap (λ n. take n (drop place xs)) same
+
+no_part : (xs : List ℕ) (size place : ℕ) → length xs < place → [] ≡ take size (drop place xs)
+no_part xs size place past =
+    let le : length xs ≤ place = omega arith in
+    let none : drop place xs ≡ [] = drop_of_length-le xs le in
+    let empty : length (drop place xs) ≤ size = omega (arith, length-drop place xs) in
+    sym (take_all size (drop place xs) empty ∙ none)
+
+pub same_window : (size : ℕ) (xs : List ℕ) (k last : ℕ) → k * size ≤ length xs → last ≡ min (length xs) (k * size + size)
+    → take (last - k * size) (drop (k * size) xs) ≡ window size xs k
+unfolding window
+same_window size xs k last within is = same_part xs size (k * size) last within is
+
+pub no_window : (size : ℕ) (xs : List ℕ) (k : ℕ) → length xs < k * size → [] ≡ window size xs k
+unfolding window
+no_window size xs k past = no_part xs size (k * size) past
+
+-- a window of the first begins inside
+pub begins_inside : (count size k : ℕ) → 0 < size → k < div_ceil count size → k * size < count
+begins_inside count size k some inside =
+    let all : div_ceil count size * size < count + size = (div_ceil_times count size some).1 in
+    let upto : (k + 1) * size ≤ div_ceil count size * size = mul-le-mul_right size (omega (arith, inside)) in
+    let one : k + 1 ≡ suc k = omega arith in
+    let next : (k + 1) * size ≡ k * size + size = ap (λ n. n * size) one ∙ suc-mul k size in
+    omega (arith, all, upto, next)
+
+-- and one that begins inside is one of them
+pub is_inside : (count size k : ℕ) → 0 < size → k * size < count → k < div_ceil count size
+is_inside count size k some inside = elim (cases_lt k (div_ceil count size)) [
+  | inl here ↦ here
+  | inr past ↦
+      let all : count ≤ div_ceil count size * size = (div_ceil_times count size some).0 in
+      let less : div_ceil count size * size ≤ k * size = mul-le-mul_right size past in
+      absurd (omega (arith, all, less, inside))
+]
+
+-- so of what these slices hold
+pub of_dump : (m : Parameters) (held old goal content wanted : List ℕ) (dump : Option (List ℕ)) → held ≡ content → old ≡ unwrap_or dump held
+    → goal ≡ wanted → IsOfDump m held old goal → IsOfDump m content (unwrap_or dump content) wanted
+of_dump m held old goal content wanted dump same older is kept =
+    subst (λ x. IsOfDump m x (unwrap_or dump x) wanted) same (subst (λ x. IsOfDump m held x wanted) older (subst (IsOfDump m held old) is kept))
