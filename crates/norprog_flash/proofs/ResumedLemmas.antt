@@ -1,10 +1,7 @@
 -- The bytes of a window.
-use Rattle.std.proofs.Common.{◌≡◌, ℕ, suc, ◌+◌, ◌-◌, ◌*◌, ◌<◌, ◌≤◌, ◌⊎◌, inl, inr, List, [], length, take, drop, take_all, sym, ap, subst, Option, unwrap_or, ◌∙◌, arith, min, length-drop}
+use Rattle.std.proofs.Common.{◌≡◌, ℕ, ◌+◌, ◌-◌, ◌*◌, ◌<◌, ◌≤◌, ◌⊎◌, inl, inr, List, [], length, take, drop, take_all, sym, ap, subst, Option, unwrap_or, ◌∙◌, arith, min, length-drop}
 use Rattle.std.proofs.lemmas.Bool.{cases_lt}
 use Rattle.std.proofs.Math.ListN.{drop_of_length-le}
-use Rattle.std.proofs.Math.Nat.{suc-mul, mul-le-mul_right}
-use Rattle.std.proofs.lemmas.Grind.{div_ceil_times}
-use Rattle.std.specs.Int.{div_ceil}
 use Rattle.nor_base.specs.Parameters.{Parameters}
 use Rattle.norprog_flash.specs.Resumed.{window, IsOfDump}
 
@@ -35,25 +32,6 @@ same_window size xs k last within is = same_part xs size (k * size) last within 
 pub no_window : (size : ℕ) (xs : List ℕ) (k : ℕ) → length xs < k * size → [] ≡ window size xs k
 unfolding window
 no_window size xs k past = no_part xs size (k * size) past
-
--- a window of the first begins inside
-pub begins_inside : (count size k : ℕ) → 0 < size → k < div_ceil count size → k * size < count
-begins_inside count size k some inside =
-    let all : div_ceil count size * size < count + size = (div_ceil_times count size some).1 in
-    let upto : (k + 1) * size ≤ div_ceil count size * size = mul-le-mul_right size (omega (arith, inside)) in
-    let one : k + 1 ≡ suc k = omega arith in
-    let next : (k + 1) * size ≡ k * size + size = ap (λ n. n * size) one ∙ suc-mul k size in
-    omega (arith, all, upto, next)
-
--- and one that begins inside is one of them
-pub is_inside : (count size k : ℕ) → 0 < size → k * size < count → k < div_ceil count size
-is_inside count size k some inside = elim (cases_lt k (div_ceil count size)) [
-  | inl here ↦ here
-  | inr past ↦
-      let all : count ≤ div_ceil count size * size = (div_ceil_times count size some).0 in
-      let less : div_ceil count size * size ≤ k * size = mul-le-mul_right size past in
-      absurd (omega (arith, all, less, inside))
-]
 
 -- so of what these slices hold
 pub of_dump : (m : Parameters) (held old goal content wanted : List ℕ) (dump : Option (List ℕ)) → held ≡ content → old ≡ unwrap_or dump held

@@ -7,11 +7,11 @@ use Rattle.nor_geometry.specs.Window.{IsWindowSize}
 unfoldable pub window : ℕ → List ℕ → ℕ → List ℕ
 window size bytes k = take size (drop (k * size) bytes)
 
--- as many bytes as the largest erase of a chip changes, and 64 KiB at least; no erase goes over the end of a window of so many
+-- the size of the largest erase of a chip, and 64 KiB at least; no erase goes over the end of a window of that size
 abbrev pub IsSpan : Parameters → ℕ → Type 0
 IsSpan m size = (largest : ℕ) × IsWindowSize m largest × (size ≡ max largest 65536)
 
--- where the goal is the older dump in a whole window, so that no work to it has touched that, a chip that holds this holds the dump there
+-- if the goal of work is the older dump in a whole window, which no work to it touches, a chip that holds this holds the dump there
 abbrev pub Keeps : ℕ → List ℕ → List ℕ → List ℕ → ℕ → Type 0
 Keeps size held old goal k = window size goal k ≡ window size old k → window size held k ≡ window size old k
 
