@@ -137,22 +137,23 @@ statuses_waiting h i a b busy idle each then_idle read = record {
   };
 }
 
-waiting : (h i : Option (List ℕ)) (a b : Ahead) (turns : ℕ) (why : Reason) → follow.Waits h i a b (Err why) turns → StoppedAt h a IsWaiting
-waiting h i a b turns reason.Busy (inl stays) =
+waiting : (h i : Option (List ℕ)) (a b : Ahead) (limits : Limits) (turns : ℕ) (why : Reason) → follow.Waits h i a b (Err why) limits turns
+    → StoppedAt h a IsWaiting
+waiting h i a b limits turns reason.Busy (inl stays) =
     statuses_waiting h i a b stays.busy [] stays.each refl
     (subst (follow.HasRead h i a b) (sym (append-nil stays.busy)) stays.read)
-waiting h i a b turns reason.Busy (inr again) =
+waiting h i a b limits turns reason.Busy (inr again) =
     statuses_waiting h again.held a again.ahead again.busy again.idle again.each again.then_idle again.read
-waiting h i a b turns (reason.Exchange fault) stops =
+waiting h i a b limits turns (reason.Exchange fault) stops =
     statuses_waiting h stops.held a stops.ahead stops.busy stops.idle stops.each stops.then_idle stops.read
-waiting h i a b turns reason.Carried none = absurd none
-waiting h i a b turns (reason.Differs place byte) none = absurd none
+waiting h i a b limits turns reason.Carried none = absurd none
+waiting h i a b limits turns (reason.Differs place byte) none = absurd none
 
 stopped_logged : (h i : Option (List ℕ)) (a b : Ahead) (limits : Limits) (turns : ℕ) (why : Reason) (x : Step) → HasStopped h i a b limits turns why x
     → StoppedAt h a (IsBegun x)
 stopped_logged h i a b limits turns why (Send symbols) did = at_once h a (IsBegun (Send symbols)) refl
 stopped_logged h i a b limits turns why (Poll symbols) (same, stops) =
-    let w = waiting h i a b turns why stops in record {
+    let w = waiting h i a b limits turns why stops in record {
       held = w.held;
       ahead = w.ahead;
       upto = record { log = w.upto.log; wire = w.upto.wire; is = (same, w.upto.is) };

@@ -2,3 +2,5 @@ pub mod Pieces
 pub mod Compared
 pub mod Status
 pub mod Tables
+pub mod Own
+pub mod Worked

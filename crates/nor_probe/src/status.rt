@@ -91,8 +91,14 @@ pub fn chip_status<R: ByteIn, W: ByteOut>(
     }
 }
 
-/// The byte that the chip behind a device gives after an opcode.
-fn read_register<R: ByteIn, W: ByteOut>(from: &mut R, to: &mut W, opcode: u8) -> Result<u8, Fault>
+/// The byte that the chip behind a device gives after an opcode: a register that is read so.
+///
+/// An error where the exchange ended early, as of [`operate`].
+pub fn read_register<R: ByteIn, W: ByteOut>(
+    from: &mut R,
+    to: &mut W,
+    opcode: u8,
+) -> Result<u8, Fault>
     requires room { HaveRoom (R.count from.old) (W.count to.old) }
     ensures register { ReadsRegister (W.held to.old) (W.held to.new) (R.ahead from.old)
         (R.ahead from.new) result opcode }

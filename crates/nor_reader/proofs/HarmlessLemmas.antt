@@ -196,6 +196,14 @@ among_sends h i a b ops why all p =
     then_sends h p.held i (done_sent h p.held a p.ahead p.front (front_of p.front (p.last ∷ p.rest) parts) p.done)
     (one_stops p.held i p.ahead b p.last why (Answers p.ahead b (Err why) p.last.got) (back_of p.front (p.last ∷ p.rest) parts).0 p.stop)
 
+pub switched_sent : (h i : Option (List ℕ)) (a b : Ahead) (w : Switch) (op : ℕ) → is_harmless (op ∷ []) ≡ true → HasLogged h i a b (switch_ops w op)
+    → HasSentHarmless h i
+switched_sent h i a b w op is wire = done_sent h i a b (switch_ops w op) (switch_harmless w op is) wire
+
+pub switched_sends : (h i : Option (List ℕ)) (a b : Ahead) (w : Switch) (op : ℕ) (why : Fault) → is_harmless (op ∷ []) ≡ true
+    → StopsAmong h i a b (switch_ops w op) why → SendsHarmless h i
+switched_sends h i a b w op why is p = among_sends h i a b (switch_ops w op) why (switch_harmless w op is) p
+
 enters : (by : ReadBy) → AllByRecursion IsHarmless (enter_ops by)
 enters by = switch_harmless (enter_of by) 0xB7 refl
 
@@ -286,8 +294,11 @@ past_sends most h i a b by content why p =
 pub tables_sent : (most : ℕ) (h i : Option (List ℕ)) (a b : Ahead) (bytes : List ℕ) → HasReadTables most h i a b bytes → HasSentHarmless h i
 tables_sent most h i a b bytes p = twice_sent most h i a b Tables Tables bytes p.twice
 
+pub tables_none : (most : ℕ) (h i : Option (List ℕ)) (a b : Ahead) → StopsTables most h i a b NoSignature → HasSentHarmless h i
+tables_none most h i a b p = read_sent most h i a b Tables [] p.0 p.3
+
 pub tables_sends : (most : ℕ) (h i : Option (List ℕ)) (a b : Ahead) (why : TablesFault) → StopsTables most h i a b why → SendsHarmless h i
-tables_sends most h i a b NoSignature p = whole_sent h i (read_sent most h i a b Tables [] p.0 p.3)
+tables_sends most h i a b NoSignature p = whole_sent h i (tables_none most h i a b p)
 tables_sends most h i a b (Unread why) p = twice_sends most h i a b Tables Tables p.0 why p.1
 tables_sends most h i a b Memory p = whole_sent h i (read_sent most h i a b Tables [] p.0 p.1)
 
@@ -317,14 +328,14 @@ statuses_sent h i a b statuses read =
 settled_sent : (h i : Option (List ℕ)) (a b : Ahead) (status turns : ℕ) → HasSettled h i a b status turns → HasSentHarmless h i
 settled_sent h i a b status turns p = statuses_sent h i a b (p.busy ++ status ∷ []) p.read
 
-register_sent : (h i : Option (List ℕ)) (a b : Ahead) (op byte : ℕ) → is_harmless (op ∷ []) ≡ true → HasReadRegister h i a b op byte → HasSentHarmless h i
+pub register_sent : (h i : Option (List ℕ)) (a b : Ahead) (op byte : ℕ) → is_harmless (op ∷ []) ≡ true → HasReadRegister h i a b op byte → HasSentHarmless h i
 register_sent h i a b op byte is p = record {
   ops = record { sent = op ∷ []; got = byte ∷ [] } ∷ [];
   each = (record { short = (omega arith, omega arith); begins = is }, tt);
   out = subst (Appends h i) (sym (append-nil (request (op ∷ []) 1))) p.out;
 }
 
-register_sends : (h i : Option (List ℕ)) (a b : Ahead) (op : ℕ) (why : Fault) → is_harmless (op ∷ []) ≡ true → StopsRegister h i a b op why → SendsHarmless h i
+pub register_sends : (h i : Option (List ℕ)) (a b : Ahead) (op : ℕ) (why : Fault) → is_harmless (op ∷ []) ≡ true → StopsRegister h i a b op why → SendsHarmless h i
 register_sends h i a b op why is p =
     one_stops h i a b (record { sent = op ∷ []; got = p.got }) why (Answers a b (Err why) p.got)
     (record { short = (omega arith, omega (arith, p.one)); begins = is })

@@ -6,3 +6,6 @@ mod TwiceLemmas
 mod LawLemmas
 mod TablesLemmas
 pub mod HarmlessLemmas
+mod ModeLemmas
+mod TellingLemmas
+mod CutLemmas

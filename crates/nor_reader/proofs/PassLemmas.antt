@@ -13,14 +13,14 @@ use Rattle.nor_reader.specs.declared.by.ReadBy.{ReadBy}
 use Rattle.nor_reader.specs.Reads.{read_op, ops_from, HasReadOn, IsPiece, StopsPiece, StopsOn}
 
 -- pieces that follow other pieces
-ops_append : (by : ReadBy) (at : ℕ) (xs ys : List (List ℕ)) → ops_from by at (xs ++ ys) ≡ ops_from by at xs ++ ops_from by (at + length (concat xs)) ys
+pub ops_append : (by : ReadBy) (at : ℕ) (xs ys : List (List ℕ)) → ops_from by at (xs ++ ys) ≡ ops_from by at xs ++ ops_from by (at + length (concat xs)) ys
 ops_append by at [] ys = let same : at ≡ at + 0 = omega arith in ap (λ n. ops_from by n ys) same
 ops_append by at (x ∷ xs) ys =
     let same : at + length x + length (concat xs) ≡ at + length (x ++ concat xs) = omega (arith, length-append x (concat xs)) in
     ap (λ log. read_op by at x ∷ log)
     (ops_append by (at + length x) xs ys ∙ ap (λ n. ops_from by (at + length x) xs ++ ops_from by n ys) same)
 
-concat_append : (xs ys : List (List ℕ)) → concat (xs ++ ys) ≡ concat xs ++ concat ys
+pub concat_append : (xs ys : List (List ℕ)) → concat (xs ++ ys) ≡ concat xs ++ concat ys
 concat_append [] ys = refl
 concat_append (x ∷ xs) ys = ap (λ rest. x ++ rest) (concat_append xs ys) ∙ sym (append_assoc x (concat xs) (concat ys))
 

@@ -1,6 +1,6 @@
--- Operations that change nothing of what a chip holds (JEDEC: Read Identification 9Fh; JESD216B: Read SFDP 5Ah; W25Q256JV datasheet: Read
--- Status Register-1 05h, -2 35h, -3 15h, Read Data 03h, Read Data with 4-Byte Address 13h, Write Enable 06h, Write Disable 04h, Enter and
--- Exit 4-Byte Address Mode B7h, E9h).
+-- Operations that change nothing of what a chip holds (JEDEC: Read Identification 9Fh; JESD216B: Read SFDP 5Ah, and a register that moves all
+-- addresses, C8h or 16h; W25Q256JV datasheet: Read Status Register-1 05h, -2 35h, -3 15h, Read Data 03h, Read Data with 4-Byte Address 13h,
+-- Write Enable 06h, Write Disable 04h, Enter and Exit 4-Byte Address Mode B7h, E9h).
 use Rattle.std.specs.Prelude.{◌≡◌, ◌⊎◌, ◌==◌, ℕ, Bool, true, false, List, [], ◌∷◌, length, flat_map, Option}
 use Rattle.std.specs.Io.KnownBytes.{Appends}
 use Rattle.std.specs.List.{AllByRecursion, list_any}
@@ -10,7 +10,7 @@ use Rattle.nor_loop.specs.Log.{Operation, IsShort}
 
 -- the opcodes that erase and program nothing
 abbrev pub harmless_opcodes : List ℕ
-harmless_opcodes = 0x9F ∷ 0x05 ∷ 0x35 ∷ 0x15 ∷ 0x5A ∷ 0x03 ∷ 0x13 ∷ 0x06 ∷ 0x04 ∷ 0xB7 ∷ 0xE9 ∷ []
+harmless_opcodes = 0x9F ∷ 0x05 ∷ 0x35 ∷ 0x15 ∷ 0xC8 ∷ 0x16 ∷ 0x5A ∷ 0x03 ∷ 0x13 ∷ 0x06 ∷ 0x04 ∷ 0xB7 ∷ 0xE9 ∷ []
 
 -- what is sent begins with one of them
 abbrev pub is_harmless : List ℕ → Bool

@@ -7,3 +7,7 @@ pub mod Id
 pub mod Tables
 pub mod Laws
 pub mod Harmless
+pub mod Modes
+pub mod Cut
+pub mod Telling
+pub mod Worked

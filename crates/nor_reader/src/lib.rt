@@ -13,13 +13,16 @@ mod laws;
 mod pass;
 mod past;
 mod piece;
+mod shows;
 mod switch;
 mod tables;
+pub mod worked;
 
 pub use by::ReadBy;
 pub use id::read_id;
-pub use laws::twice_knows;
+pub use laws::{mode_is_shown, twice_knows};
 pub use pass::{read_again, read_content};
 pub use past::read_past;
+pub use shows::shows_mode;
 pub use switch::{ENTER, LEAVE, switch_mode};
 pub use tables::{TablesFault, read_tables};

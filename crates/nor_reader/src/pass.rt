@@ -1,24 +1,28 @@
 //! The chip behind a device, read piece by piece.
 
-ghost use Rattle.std.specs.Prelude.{◌≡◌, ◌≤◌, ◌<◌, ◌-◌, ◌^◌, [], length, take, MatchResult};
+ghost use Rattle.std.specs.Prelude.{◌≡◌, ◌≤◌, ◌<◌, ◌-◌, ◌^◌, min, [], length, take, drop, IfOk};
+ghost use Rattle.std.specs.Prelude.{MatchResult};
 ghost use Rattle.nor_base.specs.Device.{HaveRoom};
 ghost use Rattle.nor_probe.specs.Compared.{CountsMismatch};
 ghost use Rattle.nor_serprog.specs.declared.fault.Fault.TheVariants.{Read, Write};
 ghost use Rattle.nor_serprog.specs.Exchange.{CountsReads, CountsWrites};
 ghost use Rattle.nor_reader.specs.Again.{ReadsAgain};
+ghost use Rattle.nor_reader.specs.Cut.{HasReadCut, HasReadWholeCut, ReadApart, shift};
 ghost use Rattle.nor_reader.specs.Reads.{HasReadOn, StopsOn};
 ghost use Rattle.nor_reader.specs.Twice.{HasReadWhole, ReadTwice, ReadsWhole, StopsFirst};
 ghost use Rattle.nor_reader.specs.Twice.{StopsTwice};
 
 use crate::by::{ReadBy, enter_of, leave_of};
 use crate::piece::{compare_piece, read_piece};
+use crate::shows::SHIFT;
 use crate::switch::{ENTER, LEAVE, switch_mode};
 use nor_base::{ByteIn, ByteOut};
 use nor_probe::Mismatch;
 use nor_serprog::{Fault, Limits};
 
 /// Has the device read its chip from address 0 on, as many bytes at once as it can give; then
-/// again, perhaps by another instruction, and compares. It takes no memory.
+/// again, perhaps by another instruction, in pieces that begin two bytes further on, and compares.
+/// It takes no memory.
 ///
 /// `Differs` names the lowest address whose byte came otherwise; four-byte mode was left where it
 /// was entered. `Exchange` where an exchange ended early, after which nothing was sent.
@@ -36,6 +40,9 @@ pub fn read_content<R: ByteIn, W: ByteOut>(
         (λ _. ReadTwice limits.now.asked (W.held to.old) (W.held to.new) (R.ahead from.old)
         (R.ahead from.new) by again content.new)
         (StopsTwice limits.now.asked (W.held to.old) (W.held to.new) (R.ahead from.old)
+        (R.ahead from.new) by again content.new) }
+    ensures apart { IfOk result
+        (λ _. ReadApart limits.now.asked (W.held to.old) (W.held to.new) (R.ahead from.old)
         (R.ahead from.new) by again content.new) }
     ensures counts { CountsMismatch Read (R.count from.old) (R.count from.new) result
         × CountsMismatch Write (W.count to.old) (W.count to.new) result }
@@ -62,6 +69,9 @@ fn read_first<R: ByteIn, W: ByteOut>(
         (R.ahead from.new) by bytes.new)
         (StopsFirst limits.now.asked (W.held to.old) (W.held to.new) (R.ahead from.old)
         (R.ahead from.new) by bytes.new) }
+    ensures cut { IfOk result
+        (λ _. HasReadWholeCut limits.now.asked limits.now.asked (W.held to.old) (W.held to.new)
+        (R.ahead from.old) (R.ahead from.new) by bytes.new) }
     ensures counts { CountsReads (R.count from.old) (R.count from.new) result
         × CountsWrites (W.count to.old) (W.count to.new) result }
 {
@@ -90,13 +100,17 @@ pub fn read_again<R: ByteIn, W: ByteOut>(
     requires room { HaveRoom (R.count from.old) (W.count to.old) }
     ensures again { ReadsWhole limits.now.asked (W.held to.old) (W.held to.new) (R.ahead from.old)
         (R.ahead from.new) result by bytes.now }
+    ensures cut { IfOk result
+        (λ _. HasReadWholeCut (min shift limits.now.asked) limits.now.asked (W.held to.old)
+        (W.held to.new) (R.ahead from.old) (R.ahead from.new) by bytes.now) }
     ensures counts { CountsMismatch Read (R.count from.old) (R.count from.new) result
         × CountsMismatch Write (W.count to.old) (W.count to.new) result }
 {
     if let Err(why) = switch_mode(from, to, enter_of(by), ENTER) {
         return Err(Mismatch::Exchange(why));
     }
-    match compare_all(from, to, limits, by, bytes) {
+    let first = SHIFT.min(limits.asked as usize);
+    match compare_all(from, to, limits, by, bytes, first) {
         Ok(()) => match switch_mode(from, to, leave_of(by), LEAVE) {
             Ok(()) => Ok(()),
             Err(why) => Err(Mismatch::Exchange(why)),
@@ -127,6 +141,9 @@ pub(crate) fn read_on<R: ByteIn, W: ByteOut>(
         (R.ahead from.new) by (take start bytes.old) bytes.new)
         (StopsOn limits.now.asked (W.held to.old) (W.held to.new) (R.ahead from.old)
         (R.ahead from.new) by (take start bytes.old)) }
+    ensures cut { IfOk result
+        (λ _. HasReadCut limits.now.asked limits.now.asked (W.held to.old) (W.held to.new)
+        (R.ahead from.old) (R.ahead from.new) by start (drop start bytes.new)) }
     ensures size { length bytes.new ≡ length bytes.old }
     ensures counts { CountsReads (R.count from.old) (R.count from.new) result
         × CountsWrites (W.count to.old) (W.count to.new) result }
@@ -144,29 +161,38 @@ pub(crate) fn read_on<R: ByteIn, W: ByteOut>(
     Ok(())
 }
 
-/// Has the device read its chip from address 0 on, and compares what comes with bytes.
+/// Has the device read its chip from address 0 on, so many bytes first, and compares what comes
+/// with bytes.
 pub(crate) fn compare_all<R: ByteIn, W: ByteOut>(
     from: &mut R,
     to: &mut W,
     limits: &Limits,
     by: ReadBy,
     bytes: &[u8],
+    first: usize,
 ) -> Result<(), Mismatch>
+    requires some { 0 < first }
+    requires few { first ≤ limits.now.asked }
     requires size { length bytes.now ≤ 2 ^ 32 }
     requires room { HaveRoom (R.count from.old) (W.count to.old) }
     ensures again { ReadsAgain limits.now.asked (W.held to.old) (W.held to.new) (R.ahead from.old)
         (R.ahead from.new) result by bytes.now }
+    ensures cut { IfOk result
+        (λ _. HasReadCut first limits.now.asked (W.held to.old) (W.held to.new)
+        (R.ahead from.old) (R.ahead from.new) by 0 bytes.now) }
     ensures counts { CountsMismatch Read (R.count from.old) (R.count from.new) result
         × CountsMismatch Write (W.count to.old) (W.count to.new) result }
 {
     let most = limits.asked as usize;
+    let mut next = first;
     let mut done = 0;
     while done < bytes.len() {
-        let len = (bytes.len() - done).min(most);
+        let len = (bytes.len() - done).min(next);
         if let Err(why) = compare_piece(from, to, by, done as u32, &bytes[done..done + len]) {
             return Err(why);
         }
         done += len;
+        next = most;
     }
     Ok(())
 }

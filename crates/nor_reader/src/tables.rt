@@ -75,7 +75,8 @@ pub fn read_tables<R: ByteIn, W: ByteOut>(
     if let Err(why) = grow(from, to, limits, &mut bytes, size) {
         return Err(why);
     }
-    match compare_all(from, to, limits, ReadBy::Tables, bytes.as_slice()) {
+    let first = limits.asked as usize;
+    match compare_all(from, to, limits, ReadBy::Tables, bytes.as_slice(), first) {
         Ok(()) => Ok(bytes),
         Err(why) => Err(TablesFault::Unread(why)),
     }

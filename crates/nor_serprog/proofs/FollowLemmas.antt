@@ -1,22 +1,17 @@
 -- Exchanges one after the other, and an operation by its clocks.
-use Rattle.std.proofs.Common.{◌≡◌, ◌≢◌, ℕ, ◌+◌, ◌<◌, ◌%◌, ◌==◌, true, List, [], ◌∷◌, ◌++◌, length, get_or, Option, Result, Ok, Err, refl, sym, ◌∙◌, ap, subst, append-nil, arith, length-append}
-use Rattle.std.specs.Prelude.{flat_map}
-use Rattle.std.specs.Io.KnownBytes.{Appends}
-use Rattle.std.proofs.lemmas.Grind.{flat_map-append}
-use Rattle.std.proofs.lemmas.List.Folds.{list_all-append}
-use Rattle.nor_base.specs.Device.{Ahead, Gives}
+use Rattle.std.proofs.Common.{◌≡◌, ℕ, List, [], ◌++◌, length, Option, Result, Ok, Err, sym, ◌∙◌, subst}
+use Rattle.nor_base.specs.Device.{Ahead}
 use Rattle.nor_base.specs.Sample.{sampled_count}
 use Rattle.nor_base.proofs.DeviceLaws.{Appends-append, Appends-none, Gives-append}
-use Rattle.nor_serprog.specs.declared.fault.Fault.{Fault}
 use Rattle.nor_serprog.specs.declared.fault.Reason.{Reason}
 use Rattle.nor_serprog.specs.declared.fault.Reason.TheVariants as reason
 use Rattle.nor_serprog.specs.declared.limits.Limits.{Limits}
-use Rattle.nor_serprog.specs.Protocol.{request, answer}
-use Rattle.nor_serprog.specs.Exchange.{Talked, Answers, Asks, Knows}
-use Rattle.nor_serprog.specs.Follow.{HasRead, are_busy, HasWaited, StaysBusy, StopsWaiting, Operates, status_request}
+use Rattle.nor_serprog.specs.Protocol.{request}
+use Rattle.nor_serprog.specs.Exchange.{Talked, Knows}
+use Rattle.nor_serprog.specs.Follow.{Operates}
 use Rattle.nor_serprog.specs.Carried.{IsOperation}
 use Rattle.nor_serprog.proofs.CarriedLemmas.{asked_is}
-use Rattle.nor_serprog.proofs.ExchangeLemmas.{single, gives_nothing}
+use Rattle.nor_serprog.proofs.ExchangeLemmas.{gives_nothing}
 
 -- nothing was talked yet; one more exchange
 pub nothing_talked : (held : Option (List ℕ)) (ahead : Ahead) → Talked held held ahead ahead [] []

@@ -1,8 +1,7 @@
 -- How many of some steps make a row.
-use Rattle.std.proofs.Common.{◌≡◌, inl, inr, ℕ, zero, suc, ◌+◌, ◌-◌, ◌*◌, ◌<◌, ◌≤◌, ◌⊎◌, Bool, true, false, List, [], ◌∷◌, ◌++◌, length, take, drop, get_or, refl, sym, ◌∙◌, ap, subst, append-nil, append_assoc, arith, length-append, length-take}
-use Rattle.std.specs.Prelude.{min, flat_map, replicate}
-use Rattle.std.specs.List.{list_all}
-use Rattle.std.proofs.lemmas.List.{take-append-drop, length-replicate}
+use Rattle.std.proofs.Common.{◌≡◌, ℕ, ◌+◌, ◌*◌, true, List, [], ◌∷◌, ◌++◌, length, refl, sym, ◌∙◌, ap, subst, arith, length-append}
+use Rattle.std.specs.Prelude.{flat_map, replicate}
+use Rattle.std.proofs.lemmas.List.{length-replicate}
 use Rattle.nor_base.specs.declared.step.Step.{Step}
 use Rattle.nor_base.specs.declared.step.Step.TheVariants.{Send, Poll, Verify}
 use Rattle.nor_base.specs.Clocks.{bits}
@@ -10,13 +9,12 @@ use Rattle.nor_base.specs.Run.{poll_clocks}
 use Rattle.nor_base.specs.Sample.{sampled_count}
 use Rattle.nor_base.specs.Step.{step_clocks, verifies}
 use Rattle.nor_base.proofs.BitLaws.{length-all_bits}
-use Rattle.nor_base.proofs.ListLaws.{one_taken}
 use Rattle.nor_serprog.specs.declared.limits.Limits.{Limits}
 use Rattle.nor_serprog.specs.Carried.{IsOperation}
 use Rattle.nor_serprog.specs.Done.{IsDoable}
 use Rattle.nor_serprog.specs.Follow.{status_request}
 use Rattle.nor_serprog.specs.Protocol.{head, request}
-use Rattle.nor_serprog.specs.Row.{IsSent, IsAsked, AreAsked, FitAhead, IsForm, IsRow, most_bytes}
+use Rattle.nor_serprog.specs.Row.{IsSent, IsAsked}
 use Rattle.nor_serprog.proofs.CarriedLemmas.{asked_is}
 
 -- a request has seven bytes before those that go out

@@ -1,5 +1,5 @@
 -- Rows: what went out ahead, and what was taken of it.
-use Rattle.std.proofs.Common.{◌≡◌, inl, inr, ℕ, zero, suc, ◌+◌, ◌-◌, ◌<◌, ◌≤◌, ◌⊎◌, ◌^◌, Bool, true, false, List, [], ◌∷◌, ◌++◌, length, take, drop, get_or, Option, Result, Ok, Err, refl, sym, ◌∙◌, ap, subst, append-nil, append_assoc, arith, length-append, length-take}
+use Rattle.std.proofs.Common.{◌≡◌, inl, inr, ℕ, zero, suc, ◌+◌, ◌<◌, ◌≤◌, ◌⊎◌, ◌^◌, List, [], ◌∷◌, ◌++◌, length, take, drop, get_or, Option, Ok, Err, refl, sym, ◌∙◌, ap, subst, append-nil, append_assoc, arith, length-append, length-take}
 use Rattle.std.specs.Prelude.{All, max}
 use Rattle.std.specs.List.{list_all}
 use Rattle.std.specs.Io.KnownBytes.{Appends}
@@ -11,7 +11,7 @@ use Rattle.nor_base.specs.declared.step.Step.TheVariants.{Send, Poll, Verify}
 use Rattle.nor_base.specs.Device.{Ahead, Gives, Cuts}
 use Rattle.nor_base.specs.Run.{poll_clocks}
 use Rattle.nor_base.specs.Step.{expected, verifies}
-use Rattle.nor_base.proofs.DeviceLaws.{Appends-append, Appends-none, Gives-append}
+use Rattle.nor_base.proofs.DeviceLaws.{Appends-none}
 use Rattle.nor_base.proofs.ListLaws.{one_taken, first_left}
 use Rattle.nor_serprog.specs.declared.fault.Fault.TheVariants as fault
 use Rattle.nor_serprog.specs.declared.fault.Reason.{Reason}
@@ -20,9 +20,9 @@ use Rattle.nor_serprog.specs.declared.halt.Halt.{Halt}
 use Rattle.nor_serprog.specs.declared.limits.Limits.{Limits}
 use Rattle.nor_serprog.specs.Protocol.{request, answer}
 use Rattle.nor_serprog.specs.Exchange.{AnswersKnown}
-use Rattle.nor_serprog.specs.Follow.{Waits, status_requests, most_reads}
+use Rattle.nor_serprog.specs.Follow.{Waits, status_requests, most_ahead, most_reads}
 use Rattle.nor_serprog.specs.Done.{IsDoable, HasDone, HasStopped, HasDoneAll}
-use Rattle.nor_serprog.specs.Row.{IsSent, AreSent, IsAsked, AreAsked, IsForm, FitAhead, IsRow, AreAhead, StopsWithin, CutsRow, HasHalted, DoneInParts, HaltInSteps, TakesAnswers, StopsAnswers, enable_clocks}
+use Rattle.nor_serprog.specs.Row.{IsSent, AreSent, IsAsked, AreAsked, IsForm, FitAhead, IsRow, AreAhead, StopsWithin, CutsRow, HasHalted, DoneInParts, HaltInSteps, TakesAnswers, StopsAnswers}
 use Rattle.nor_serprog.proofs.ExchangeLemmas.{knows_then}
 use Rattle.nor_serprog.proofs.FollowLemmas.{operates_as}
 use Rattle.nor_serprog.proofs.WaitLemmas.{out_split}
@@ -64,7 +64,7 @@ fit_front : (limits : Limits) (xs ys : List Step) → FitAhead limits (xs ++ ys)
 fit_front limits xs ys fit =
     let parts = asked_split limits 1 xs ys fit.put fit.asked in
     let long : length fit.put ≡ length parts.first + length parts.second = ap length parts.whole ∙ length-append parts.first parts.second in
-    record { put = parts.first; asked = parts.front; fits = omega (arith, fit.fits, long); few = omega (arith, fit.few, long) }
+    record { put = parts.first; asked = parts.front; fits = omega (arith, fit.fits, long) }
 
 front_of_front : (xs : List Step) (k n : ℕ) → k ≤ n → take k (take n xs) ≡ take k xs
 front_of_front [] zero zero few = refl
@@ -252,7 +252,7 @@ done_in_parts h i j a b c limits turns (x ∷ xs) ys (k, e, did, rest) more = (k
 
 -- steps with a poll at the end
 pub polled : (h i j : Option (List ℕ)) (a b c : Ahead) (limits : Limits) (turns : ℕ) (row front : List Step) (wait : List ℕ) → row ≡ front ++ Poll wait ∷ []
-    → wait ≡ poll_clocks → HasDoneAll h i a b limits turns front → Waits i j b c (Ok tt) turns → HasDoneAll h j a c limits turns row
+    → wait ≡ poll_clocks → HasDoneAll h i a b limits turns front → Waits i j b c (Ok tt) limits turns → HasDoneAll h j a c limits turns row
 polled h i j a b c limits turns row front wait whole is all waits =
     subst (λ (l : List Step). HasDoneAll h j a c limits turns l) (sym whole) (done_snoc h i j a b c limits turns front (Poll wait) all (is, waits))
 
@@ -273,7 +273,7 @@ next_row limits x y ys row = record { some = omega arith; form = next_form x y y
         let rest = fit.asked.1 in
         let whole = fit.asked.2 in
         let long : length fit.put ≡ length first + length rest = ap length whole ∙ length-append first rest in
-        inr (record { put = rest; asked = fit.asked.4; fits = omega (arith, fit.fits, long); few = omega (arith, fit.few, long) })
+        inr (record { put = rest; asked = fit.asked.4; fits = omega (arith, fit.fits, long) })
 
 pub tail_row : (limits : Limits) (xs : List Step) (y : Step) (ys : List Step) → IsRow limits (xs ++ (y ∷ ys)) → IsRow limits (y ∷ ys)
 tail_row limits [] y ys row = row
@@ -295,7 +295,7 @@ pub record IsTail (limits : Limits) (turns : ℕ) (row front : List Step) (old n
   pub within : reads ≤ turns
   pub asked : AreAsked limits reads polls (status_requests reads)
   pub put : new ≡ old ++ status_requests reads
-  pub fits : length (old ++ status_requests reads) ≤ limits.ahead
+  pub fits : length (old ++ status_requests reads) ≤ most_ahead limits
 
 middle : (xs ys : List Step) (x : Step) → get_or (xs ++ (x ∷ ys)) (length xs) x ≡ x
 middle [] ys x = refl
@@ -318,7 +318,7 @@ no_poll row front (inr (wait, whole)) none =
 
 pub tail_some : (limits : Limits) (turns reads : ℕ) (row front : List Step) (old new : List ℕ) → (row ≡ front) ⊎ ((wait : List ℕ) × (row ≡ front ++ Poll wait ∷ []))
     → length front < length row → All IsDoable row → reads ≤ most_reads → reads ≤ turns → new ≡ old ++ status_requests reads
-    → (length old ≤ limits.ahead → length new ≤ limits.ahead) → length old ≤ limits.ahead → IsTail limits turns row front old new reads
+    → (length old ≤ most_ahead limits → length new ≤ most_ahead limits) → length old ≤ most_ahead limits → IsTail limits turns row front old new reads
 tail_some limits turns reads row front old new parts fewer form few within put fits fit =
     let p = the_poll row front parts fewer form in record {
       polls = Poll p.0 ∷ [];
@@ -327,11 +327,11 @@ tail_some limits turns reads row front old new parts fewer form few within put f
       within = within;
       asked = (status_requests reads, [], sym (append-nil (status_requests reads)), (p.2, refl), refl);
       put = put;
-      fits = subst (λ (l : List ℕ). length l ≤ limits.ahead) put (fits fit);
+      fits = subst (λ (l : List ℕ). length l ≤ most_ahead limits) put (fits fit);
     }
 
 pub tail_none : (limits : Limits) (turns : ℕ) (row front : List Step) (old : List ℕ) → (row ≡ front) ⊎ ((wait : List ℕ) × (row ≡ front ++ Poll wait ∷ []))
-    → (length front < length row → ⊥) → length old ≤ limits.ahead → IsTail limits turns row front old old 0
+    → (length front < length row → ⊥) → length old ≤ most_ahead limits → IsTail limits turns row front old old 0
 tail_none limits turns row front old parts none fit = record {
   polls = [];
   whole = no_poll row front parts none ∙ sym (append-nil front);
@@ -339,7 +339,7 @@ tail_none limits turns row front old parts none fit = record {
   within = omega arith;
   asked = refl;
   put = sym (append-nil old);
-  fits = subst (λ (l : List ℕ). length l ≤ limits.ahead) (sym (append-nil old)) fit;
+  fits = subst (λ (l : List ℕ). length l ≤ most_ahead limits) (sym (append-nil old)) fit;
 }
 
 pub all_front : (h h' : Option (List ℕ)) (a b : Ahead) (limits : Limits) (turns : ℕ) (row front : List Step) (put : List ℕ)
@@ -357,7 +357,7 @@ no_write a b why want is known = (subst (λ (w : Reason). AnswersKnown a b (Err 
 -- a step stopped before the poll
 pub halts_front : (h h' : Option (List ℕ)) (a a' : Ahead) (limits : Limits) (turns reads : ℕ) (row front polls : List Step) (halt : Halt) (p q : List ℕ)
     → IsRow limits row → row ≡ front ++ polls → reads ≤ most_reads → reads ≤ turns → AreSent limits front p → AreAsked limits reads polls q
-    → length (p ++ q) ≤ limits.ahead → Appends h h' (p ++ q) → StopsAnswers a a' front halt → HasHalted h h' a a' limits turns row halt
+    → length (p ++ q) ≤ most_ahead limits → Appends h h' (p ++ q) → StopsAnswers a a' front halt → HasHalted h h' a a' limits turns row halt
 halts_front h h' a a' limits turns reads row front polls halt p q is whole few within sent asked fits out stops =
     let beyond = stops.rest ++ polls in
     let parts = sent_split limits stops.done (stops.at ∷ stops.rest) p (subst (λ (l : List Step). AreSent limits l p) stops.those sent) in
@@ -425,7 +425,7 @@ halts_at h m h' a b a' limits turns row at x halt within is number before stoppe
 -- the writer failed in the requests of a row
 pub halts_cut : (h h' : Option (List ℕ)) (a : Ahead) (limits : Limits) (turns reads : ℕ) (row front polls : List Step) (halt : Halt) (p q : List ℕ)
     → IsRow limits row → row ≡ front ++ polls → reads ≤ most_reads → reads ≤ turns → AreSent limits front p → AreAsked limits reads polls q
-    → length (p ++ q) ≤ limits.ahead → Cuts h h' (p ++ q) → halt.step ≡ 0 → halt.why ≡ reason.Exchange fault.Write → HasHalted h h' a a limits turns row halt
+    → length (p ++ q) ≤ most_ahead limits → Cuts h h' (p ++ q) → halt.step ≡ 0 → halt.why ≡ reason.Exchange fault.Write → HasHalted h h' a a limits turns row halt
 halts_cut h h' a limits turns reads row front polls halt p q is whole few within sent asked fits cut first why = by row is whole
   where
     by : (row : List Step) → IsRow limits row → row ≡ front ++ polls → HasHalted h h' a a limits turns row halt

@@ -1,6 +1,6 @@
 -- Status reads, some of them sent ahead of the first one's answer.
-use Rattle.std.proofs.Common.{◌≡◌, inl, inr, ℕ, zero, suc, ◌+◌, ◌-◌, ◌<◌, ◌≤◌, ◌%◌, ◌==◌, Bool, true, false, List, [], ◌∷◌, ◌++◌, length, get_or, Option, Some, None, Result, Ok, Err, refl, sym, ◌∙◌, ap, subst, append-nil, append_assoc, arith, length-append, eqb-true}
-use Rattle.std.specs.Prelude.{flat_map}
+use Rattle.std.proofs.Common.{◌≡◌, inl, inr, ℕ, zero, suc, ◌+◌, ◌-◌, ◌*◌, ◌<◌, ◌≤◌, ◌%◌, ◌==◌, Bool, true, false, List, [], ◌∷◌, ◌++◌, length, get_or, Option, Some, None, Result, Ok, Err, refl, sym, ◌∙◌, ap, subst, append-nil, append_assoc, arith, length-append}
+use Rattle.std.specs.Prelude.{flat_map, max, min}
 use Rattle.std.specs.Io.KnownBytes.{Appends}
 use Rattle.std.proofs.lemmas.Grind.{flat_map-append}
 use Rattle.std.proofs.lemmas.List.Folds.{list_all-append}
@@ -10,9 +10,10 @@ use Rattle.nor_serprog.specs.declared.fault.Fault.{Fault}
 use Rattle.nor_serprog.specs.declared.fault.Fault.TheVariants as fault
 use Rattle.nor_serprog.specs.declared.fault.Reason.{Reason}
 use Rattle.nor_serprog.specs.declared.fault.Reason.TheVariants as reason
+use Rattle.nor_serprog.specs.declared.limits.Limits.{Limits}
 use Rattle.nor_serprog.specs.Protocol.{answer, head}
 use Rattle.nor_serprog.specs.Exchange.{Answers, Asks}
-use Rattle.nor_serprog.specs.Follow.{AllBusy, HasRead, HasWaited, LastIdle, StaysBusy, StopsTaking, StopsWaiting, TakesStatuses, Waits, are_busy, are_idle, most_reads, status_request, status_requests, told}
+use Rattle.nor_serprog.specs.Follow.{HasRead, HasWaited, MayGoAtOnce, StaysBusy, StopsWaiting, TakesStatuses, Waits, are_busy, are_idle, most_ahead, most_bytes, most_reads, status_request, status_requests, told}
 use Rattle.nor_serprog.proofs.ExchangeLemmas.{gives_nothing, single}
 use Rattle.nor_serprog.proofs.FollowLemmas.{nothing_talked, talked_more}
 
@@ -199,9 +200,33 @@ asks_out h h' a a' fault.Nak command got out p = (out, p)
 asks_out h h' a a' fault.Differs command got out p = (out, p)
 asks_out h h' a a' fault.Write command got out p = absurd p
 
-pub reads_stop : (h h' : Option (List ℕ)) (a a' : Ahead) (n turns : ℕ) (why : Reason) → n ≤ turns → n ≤ most_reads → Appends h h' (status_requests n)
-    → TakesStatuses a a' (Err why) n → Waits h h' a a' (Err why) turns
-reads_stop h h' a a' n turns reason.Busy within few out p =
+-- eight bytes each
+requests_long : (n : ℕ) → length (status_requests n) ≡ 8 * n
+unfolding head
+requests_long zero = refl
+requests_long (suc n) = omega (arith, requests_long n, length-append status_request (status_requests n))
+
+-- up to four that fit may go out at once, and one always may
+pub may_go : (limits : Limits) (n ahead : ℕ) (old new : List ℕ) → n ≤ most_reads → ahead ≡ max limits.ahead 8 → old ≡ [] → new ≡ old ++ status_requests n
+    → (length old ≤ min ahead most_bytes → length new ≤ min ahead most_bytes) → MayGoAtOnce limits n
+may_go limits n ahead old new few is none added fits =
+    let bytes : length new ≡ 8 * n = omega (arith, ap length added, length-append old (status_requests n), ap length none, requests_long n) in
+    let all = fits (omega (arith, ap length none)) in record { few = few; fit = λ h. omega (arith, is, all, bytes, h, requests_long n) }
+
+-- those that fit after other bytes
+pub may_go_after : (limits : Limits) (n : ℕ) (xs : List ℕ) → n ≤ most_reads → length (xs ++ status_requests n) ≤ most_ahead limits → MayGoAtOnce limits n
+may_go_after limits n xs few fit = record { few = few; fit = λ h. omega (arith, fit, length-append xs (status_requests n)) }
+
+-- fewer
+may_go_fewer : (limits : Limits) (n k : ℕ) → MayGoAtOnce limits n → MayGoAtOnce limits (n - k)
+may_go_fewer limits n k most = record {
+  few = omega (arith, most.few);
+  fit = λ h. let all = most.fit (omega (arith, h)) in omega (arith, all, requests_long n, requests_long (n - k));
+}
+
+pub reads_stop : (h h' : Option (List ℕ)) (a a' : Ahead) (limits : Limits) (n turns : ℕ) (why : Reason) → n ≤ turns → MayGoAtOnce limits n
+    → Appends h h' (status_requests n) → TakesStatuses a a' (Err why) n → Waits h h' a a' (Err why) limits turns
+reads_stop h h' a a' limits n turns reason.Busy within most out p =
     let k = length (p.busy ++ p.idle) in
     let parts = requests_split h h' n k p.within out in inr (record {
       busy = p.busy;
@@ -209,7 +234,7 @@ reads_stop h h' a a' n turns reason.Busy within few out p =
       again = p.next.0;
       more = n - k;
       some = omega (arith, p.within);
-      few = omega (arith, few);
+      at_once = may_go_fewer limits n k most;
       within = omega (arith, within, p.within);
       each = p.each;
       then_idle = p.then_idle;
@@ -220,14 +245,14 @@ reads_stop h h' a a' n turns reason.Busy within few out p =
       sent = parts.2;
       back = p.next.2;
     })
-reads_stop h h' a a' n turns (reason.Exchange why) within few out p =
+reads_stop h h' a a' limits n turns (reason.Exchange why) within most out p =
     let k = length (p.busy ++ p.idle) in
     let parts = requests_split h h' n k p.within out in record {
       busy = p.busy;
       idle = p.idle;
       more = n - k;
       some = omega (arith, p.within);
-      few = omega (arith, few);
+      at_once = may_go_fewer limits n k most;
       within = omega (arith, within, p.within);
       each = p.each;
       then_idle = p.then_idle;
@@ -238,22 +263,22 @@ reads_stop h h' a a' n turns (reason.Exchange why) within few out p =
       read = has_read (p.busy ++ p.idle) k refl parts.1 p.gives;
       stop = asks_out parts.0 h' p.between a' why (status_requests (n - k)) p.next.0 parts.2 p.next.2;
     }
-reads_stop h h' a a' n turns (reason.Differs place byte) within few out p = absurd p
-reads_stop h h' a a' n turns reason.Carried within few out p = absurd p
+reads_stop h h' a a' limits n turns (reason.Differs place byte) within most out p = absurd p
+reads_stop h h' a a' limits n turns reason.Carried within most out p = absurd p
 
 -- the writer failed in them
 some_reads : (n k : ℕ) → k < length (status_requests n) → 0 < n
 some_reads zero k h = absurd (omega (arith, h))
 some_reads (suc n) k h = omega arith
 
-pub reads_cut : (h h' : Option (List ℕ)) (a : Ahead) (n turns : ℕ) → n ≤ turns → n ≤ most_reads → Cuts h h' (status_requests n)
-    → StopsWaiting h h' a a turns fault.Write
-reads_cut h h' a n turns within few cut = record {
+pub reads_cut : (h h' : Option (List ℕ)) (a : Ahead) (limits : Limits) (n turns : ℕ) → n ≤ turns → MayGoAtOnce limits n → Cuts h h' (status_requests n)
+    → StopsWaiting h h' a a limits turns fault.Write
+reads_cut h h' a limits n turns within most cut = record {
   busy = [];
   idle = [];
   more = n;
   some = some_reads n cut.0 cut.1;
-  few = few;
+  at_once = most;
   within = omega (arith, within);
   each = refl;
   then_idle = refl;
@@ -275,9 +300,9 @@ both_busy xs ys p q = list_all-append (λ s. s % 2 == 1) xs ys ∙ (rw (p, q) re
 read_on : {h m h' : Option (List ℕ)} {a b a' : Ahead} (xs ys zs : List ℕ) → HasRead h m a b xs → HasRead m h' b a' (ys ++ zs) → HasRead h h' a a' ((xs ++ ys) ++ zs)
 read_on {h} {m} {h'} {a} {b} {a'} xs ys zs p q = subst (HasRead h h' a a') (sym (append_assoc xs ys zs)) (read_both xs (ys ++ zs) p q)
 
-pub waits_after : (h m h' : Option (List ℕ)) (a b a' : Ahead) (n left turns : ℕ) (r : Result (Unit {0}) Reason) → n + left ≡ turns → HasWaitedFor h m a b n
-    → Waits m h' b a' r left → Waits h h' a a' r turns
-waits_after h m h' a b a' n left turns (Ok u) whole p q = record {
+pub waits_after : (h m h' : Option (List ℕ)) (a b a' : Ahead) (limits : Limits) (n left turns : ℕ) (r : Result (Unit {0}) Reason) → n + left ≡ turns
+    → HasWaitedFor h m a b n → Waits m h' b a' r limits left → Waits h h' a a' r limits turns
+waits_after h m h' a b a' limits n left turns (Ok u) whole p q = record {
   busy = p.busy ++ q.busy;
   idle = q.idle;
   some = q.some;
@@ -286,19 +311,19 @@ waits_after h m h' a b a' n left turns (Ok u) whole p q = record {
   last = q.last;
   read = read_on p.busy q.busy q.idle p.read q.read;
 }
-waits_after h m h' a b a' n left turns (Err reason.Busy) whole p (inl q) = inl (record {
+waits_after h m h' a b a' limits n left turns (Err reason.Busy) whole p (inl q) = inl (record {
   busy = p.busy ++ q.busy;
   all = omega (arith, p.all, q.all, whole, length-append p.busy q.busy);
   each = both_busy p.busy q.busy p.each q.each;
   read = read_both p.busy q.busy p.read q.read;
 })
-waits_after h m h' a b a' n left turns (Err reason.Busy) whole p (inr q) = inr (record {
+waits_after h m h' a b a' limits n left turns (Err reason.Busy) whole p (inr q) = inr (record {
   busy = p.busy ++ q.busy;
   idle = q.idle;
   again = q.again;
   more = q.more;
   some = q.some;
-  few = q.few;
+  at_once = q.at_once;
   within = omega (arith, q.within, whole, longer p.busy q.busy q.idle n p.all);
   each = both_busy p.busy q.busy p.each q.each;
   then_idle = q.then_idle;
@@ -309,12 +334,12 @@ waits_after h m h' a b a' n left turns (Err reason.Busy) whole p (inr q) = inr (
   sent = q.sent;
   back = q.back;
 })
-waits_after h m h' a b a' n left turns (Err (reason.Exchange why)) whole p q = record {
+waits_after h m h' a b a' limits n left turns (Err (reason.Exchange why)) whole p q = record {
   busy = p.busy ++ q.busy;
   idle = q.idle;
   more = q.more;
   some = q.some;
-  few = q.few;
+  at_once = q.at_once;
   within = omega (arith, q.within, whole, longer p.busy q.busy q.idle n p.all);
   each = both_busy p.busy q.busy p.each q.each;
   then_idle = q.then_idle;
@@ -325,8 +350,8 @@ waits_after h m h' a b a' n left turns (Err (reason.Exchange why)) whole p q = r
   read = read_on p.busy q.busy q.idle p.read q.read;
   stop = q.stop;
 }
-waits_after h m h' a b a' n left turns (Err (reason.Differs place byte)) whole p q = absurd q
-waits_after h m h' a b a' n left turns (Err reason.Carried) whole p q = absurd q
+waits_after h m h' a b a' limits n left turns (Err (reason.Differs place byte)) whole p q = absurd q
+waits_after h m h' a b a' limits n left turns (Err reason.Carried) whole p q = absurd q
 
 pub waits_never : (h h' : Option (List ℕ)) (a a' : Ahead) (turn turns : ℕ) → turn ≡ turns → HasWaitedFor h h' a a' turn → StaysBusy h h' a a' turns
 waits_never h h' a a' turn turns all p = record { busy = p.busy; all = p.all ∙ all; each = p.each; read = p.read }

@@ -21,7 +21,7 @@ abbrev pub HasDone : Option (List ℕ) → Option (List ℕ) → Ahead → Ahead
 HasDone held_before held_after ahead_before ahead_after limits turns (Send symbols) =
     Operates held_before held_after ahead_before ahead_after (Ok tt) limits symbols []
 HasDone held_before held_after ahead_before ahead_after limits turns (Poll symbols) =
-    (symbols ≡ poll_clocks) × Waits held_before held_after ahead_before ahead_after (Ok tt) turns
+    (symbols ≡ poll_clocks) × Waits held_before held_after ahead_before ahead_after (Ok tt) limits turns
 HasDone held_before held_after ahead_before ahead_after limits turns (Verify symbols expect) =
     Operates held_before held_after ahead_before ahead_after (Ok tt) limits symbols expect
 
@@ -30,7 +30,7 @@ abbrev pub HasStopped : Option (List ℕ) → Option (List ℕ) → Ahead → Ah
 HasStopped held_before held_after ahead_before ahead_after limits turns why (Send symbols) =
     Operates held_before held_after ahead_before ahead_after (Err why) limits symbols []
 HasStopped held_before held_after ahead_before ahead_after limits turns why (Poll symbols) =
-    (symbols ≡ poll_clocks) × Waits held_before held_after ahead_before ahead_after (Err why) turns
+    (symbols ≡ poll_clocks) × Waits held_before held_after ahead_before ahead_after (Err why) limits turns
 HasStopped held_before held_after ahead_before ahead_after limits turns why (Verify symbols expect) =
     Operates held_before held_after ahead_before ahead_after (Err why) limits symbols expect
 

@@ -1,5 +1,5 @@
 -- What a device beside a chip in memory did in one transaction (this project's).
-use Rattle.std.specs.Prelude.{◌≡◌, ◌≢◌, ◌≤◌, ◌<◌, ◌⊎◌, ◌%◌, ◌==◌, ◌+◌, ℕ, zero, suc, Bool, true, false, List, [], ◌∷◌, ◌++◌, length, flat_map, Option, Some, None, Result, Ok, Err}
+use Rattle.std.specs.Prelude.{◌≡◌, ◌≢◌, ◌≤◌, ◌<◌, ◌⊎◌, ◌%◌, ◌==◌, ◌+◌, ℕ, zero, suc, min, Bool, true, false, List, [], ◌∷◌, ◌++◌, length, flat_map, Option, Some, None, Result, Ok, Err}
 use Rattle.std.specs.List.{list_all}
 use Rattle.std.specs.Io.KnownBytes.{Appends}
 use Rattle.nor_base.specs.declared.wrong.PortFault.{PortFault}
@@ -38,9 +38,23 @@ are_busy statuses = list_all (λ status. status % 2 == 1) statuses
 abbrev pub are_idle : List ℕ → Bool
 are_idle statuses = list_all (λ status. status % 2 == 0) statuses
 
--- most status reads that are sent ahead of the first one's answer
+-- most bytes of the requests that go out in one write (this project's)
+abbrev pub most_bytes : ℕ
+most_bytes = 1024
+
+-- most bytes of requests that go out before an answer is taken: so many, and no more than the device takes before it answers
+abbrev pub most_ahead : Limits → ℕ
+most_ahead limits = min limits.ahead most_bytes
+
+-- most status reads that go out at once (this project's)
 abbrev pub most_reads : ℕ
 most_reads = 4
+
+-- so many status reads may go out at once: at most four, and more than one only where their requests have no more bytes than go out
+-- before an answer is taken
+pub record MayGoAtOnce (limits : Limits) (reads : ℕ) : Type 0 where
+  pub few : reads ≤ most_reads
+  pub fit : 1 < reads → length (status_requests reads) ≤ most_ahead limits
 
 -- the status was read until it said idle, which it did within so many turns; reads that had been sent ahead then said so too
 pub record HasWaited (held_before held_after : Option (List ℕ)) (ahead_before ahead_after : Ahead) (turns : ℕ) : Type 0 where
@@ -59,51 +73,54 @@ pub record StaysBusy (held_before held_after : Option (List ℕ)) (ahead_before 
   pub each : are_busy busy ≡ true
   pub read : HasRead held_before held_after ahead_before ahead_after busy
 
--- some turns said busy and then idle, and the next one busy again; it and more reads had been sent
-pub record IsBusyAgain (held_before held_after : Option (List ℕ)) (ahead_before ahead_after : Ahead) (turns : ℕ) : Type 0 where
-  pub busy : List ℕ
-  pub idle : List ℕ
-  pub again : ℕ
-  pub more : ℕ
-  pub some : 0 < more
-  pub few : more ≤ most_reads
-  pub within : length (busy ++ idle) + more ≤ turns
-  pub each : are_busy busy ≡ true
-  pub then_idle : are_idle idle ≡ true
-  pub odd : again % 2 ≡ 1
-  pub held : Option (List ℕ)
-  pub ahead : Ahead
-  pub read : HasRead held_before held ahead_before ahead (busy ++ idle)
-  pub sent : Appends held held_after (status_requests more)
-  pub back : Gives ahead (answer (again ∷ [])) ahead_after
-
--- some turns said busy and then perhaps idle, and the next one's exchange ended so; it and more reads had been sent
-pub record StopsWaiting (held_before held_after : Option (List ℕ)) (ahead_before ahead_after : Ahead) (turns : ℕ) (why : Fault) : Type 0
+-- some turns said busy and then idle, and the next one busy again; it and more reads had been sent, which may go out at once
+pub record IsBusyAgain (held_before held_after : Option (List ℕ)) (ahead_before ahead_after : Ahead) (limits : Limits) (turns : ℕ) : Type 0
   where
     pub busy : List ℕ
     pub idle : List ℕ
+    pub again : ℕ
     pub more : ℕ
     pub some : 0 < more
-    pub few : more ≤ most_reads
+    pub at_once : MayGoAtOnce limits more
     pub within : length (busy ++ idle) + more ≤ turns
     pub each : are_busy busy ≡ true
     pub then_idle : are_idle idle ≡ true
+    pub odd : again % 2 ≡ 1
     pub held : Option (List ℕ)
     pub ahead : Ahead
-    pub got : List ℕ
-    pub one : length got ≡ 1
     pub read : HasRead held_before held ahead_before ahead (busy ++ idle)
-    pub stop : Asks held held_after ahead ahead_after (Err why) (status_requests more) (Answers ahead ahead_after (Err why) got)
+    pub sent : Appends held held_after (status_requests more)
+    pub back : Gives ahead (answer (again ∷ [])) ahead_after
+
+-- some turns said busy and then perhaps idle, and the next one's exchange ended so; it and more reads had been sent, which may go out
+-- at once
+pub record StopsWaiting (held_before held_after : Option (List ℕ)) (ahead_before ahead_after : Ahead) (limits : Limits) (turns : ℕ)
+    (why : Fault) : Type 0 where
+  pub busy : List ℕ
+  pub idle : List ℕ
+  pub more : ℕ
+  pub some : 0 < more
+  pub at_once : MayGoAtOnce limits more
+  pub within : length (busy ++ idle) + more ≤ turns
+  pub each : are_busy busy ≡ true
+  pub then_idle : are_idle idle ≡ true
+  pub held : Option (List ℕ)
+  pub ahead : Ahead
+  pub got : List ℕ
+  pub one : length got ≡ 1
+  pub read : HasRead held_before held ahead_before ahead (busy ++ idle)
+  pub stop : Asks held held_after ahead ahead_after (Err why) (status_requests more) (Answers ahead ahead_after (Err why) got)
 
 -- what a wait says
-abbrev pub Waits : Option (List ℕ) → Option (List ℕ) → Ahead → Ahead → Result (Unit {0}) Reason → ℕ → Type 0
-Waits held_before held_after ahead_before ahead_after (Ok u) turns = HasWaited held_before held_after ahead_before ahead_after turns
-Waits held_before held_after ahead_before ahead_after (Err reason.Busy) turns =
-    StaysBusy held_before held_after ahead_before ahead_after turns ⊎ IsBusyAgain held_before held_after ahead_before ahead_after turns
-Waits held_before held_after ahead_before ahead_after (Err (reason.Exchange why)) turns =
-    StopsWaiting held_before held_after ahead_before ahead_after turns why
-Waits held_before held_after ahead_before ahead_after (Err (reason.Differs place byte)) turns = ⊥
-Waits held_before held_after ahead_before ahead_after (Err reason.Carried) turns = ⊥
+abbrev pub Waits : Option (List ℕ) → Option (List ℕ) → Ahead → Ahead → Result (Unit {0}) Reason → Limits → ℕ → Type 0
+Waits held_before held_after ahead_before ahead_after (Ok u) limits turns = HasWaited held_before held_after ahead_before ahead_after turns
+Waits held_before held_after ahead_before ahead_after (Err reason.Busy) limits turns =
+    StaysBusy held_before held_after ahead_before ahead_after turns
+    ⊎ IsBusyAgain held_before held_after ahead_before ahead_after limits turns
+Waits held_before held_after ahead_before ahead_after (Err (reason.Exchange why)) limits turns =
+    StopsWaiting held_before held_after ahead_before ahead_after limits turns why
+Waits held_before held_after ahead_before ahead_after (Err (reason.Differs place byte)) limits turns = ⊥
+Waits held_before held_after ahead_before ahead_after (Err reason.Carried) limits turns = ⊥
 
 -- what comes back for statuses
 abbrev pub told : List ℕ → List ℕ
@@ -195,7 +212,7 @@ Operates held_before held_after ahead_before ahead_after (Err reason.Carried) li
 -- a transaction with the device, whose chip is to give these bytes: a poll is a wait, all else one operation
 pub record Follows (held_before held_after : Option (List ℕ)) (ahead_before ahead_after : Ahead) (result : Result (Unit {0}) Reason)
     (limits : Limits) (turns : ℕ) (clocks want : List ℕ) : Type 0 where
-  pub poll : clocks ≡ poll_clocks → Waits held_before held_after ahead_before ahead_after result turns
+  pub poll : clocks ≡ poll_clocks → Waits held_before held_after ahead_before ahead_after result limits turns
   pub other : clocks ≢ poll_clocks → Operates held_before held_after ahead_before ahead_after result limits clocks want
 
 -- the reader's count of failures rises by one exactly where the reason is Read, the writer's where it is Write

@@ -111,7 +111,7 @@ abbrev pub most_tries : ℕ
 most_tries = 2
 
 abbrev pub most_noise : ℕ
-most_noise = 65536
+most_noise = 4096
 
 -- the first word, and whether it stands in some bytes
 abbrev pub is_word : ℕ → ℕ → Bool

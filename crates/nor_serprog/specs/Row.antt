@@ -16,7 +16,7 @@ use Rattle.nor_serprog.specs.declared.limits.Limits.{Limits}
 use Rattle.nor_serprog.specs.Carried.{IsOperation}
 use Rattle.nor_serprog.specs.Done.{HasStopped, HasDoneAll}
 use Rattle.nor_serprog.specs.Exchange.{AnswersKnown}
-use Rattle.nor_serprog.specs.Follow.{status_requests, most_reads, CountsReason}
+use Rattle.nor_serprog.specs.Follow.{status_requests, most_ahead, most_reads, CountsReason}
 use Rattle.nor_serprog.specs.Protocol.{request, answer}
 
 -- what goes out for a step that isn't a poll: the request of its operation
@@ -50,16 +50,11 @@ IsForm steps =
     ⊎ (((change : List ℕ) × (wait : List ℕ) × (steps ≡ Send enable_clocks ∷ Send change ∷ Poll wait ∷ []))
     ⊎ (list_all verifies steps ≡ true)))
 
--- most bytes of the requests that go out in one write (this project's)
-abbrev pub most_bytes : ℕ
-most_bytes = 1024
-
--- the requests of steps, one status read for a poll, fit what the device takes before it answers
+-- the requests of steps, one status read for a poll, fit what may go out before an answer is taken
 pub record FitAhead (limits : Limits) (steps : List Step) : Type 0 where
   pub put : List ℕ
   pub asked : AreAsked limits 1 steps put
-  pub fits : length put ≤ limits.ahead
-  pub few : length put ≤ most_bytes
+  pub fits : length put ≤ most_ahead limits
 
 -- some steps make a row: they are of one of the forms, and where they are more than one their requests fit
 pub record IsRow (limits : Limits) (steps : List Step) : Type 0 where
@@ -67,13 +62,13 @@ pub record IsRow (limits : Limits) (steps : List Step) : Type 0 where
   pub form : IsForm steps
   pub fit : (length steps ≡ 1) ⊎ FitAhead limits steps
 
--- these bytes are the requests of steps, no more than the device takes before it answers; of a poll at most four status reads
+-- these bytes are the requests of steps, no more than may go out before an answer is taken; of a poll at most four status reads
 pub record AreAhead (limits : Limits) (turns : ℕ) (steps : List Step) (put : List ℕ) : Type 0 where
   pub reads : ℕ
   pub few : reads ≤ most_reads
   pub within : reads ≤ turns
   pub asked : AreAsked limits reads steps put
-  pub fits : length put ≤ limits.ahead
+  pub fits : length put ≤ most_ahead limits
 
 -- a step stopped for this reason, and then just the requests of those after it went out
 pub record StopsWithin (held_before held_after : Option (List ℕ)) (ahead_before ahead_after : Ahead) (limits : Limits) (turns : ℕ)
@@ -134,11 +129,11 @@ AreSent limits [] put = put ≡ []
 AreSent limits (x ∷ xs) put =
     (first : List ℕ) × (rest : List ℕ) × (put ≡ first ++ rest) × IsSent limits x first × AreSent limits xs rest
 
--- the steps of a row except for a poll that is the last, and their requests, no more than the device takes before it answers
+-- the steps of a row except for a poll that is the last, and their requests, no more than may go out before an answer is taken
 pub record AreFront (limits : Limits) (row front : List Step) (put : List ℕ) : Type 0 where
   pub parts : (row ≡ front) ⊎ ((wait : List ℕ) × (row ≡ front ++ Poll wait ∷ []))
   pub sent : AreSent limits front put
-  pub fits : length put ≤ limits.ahead
+  pub fits : length put ≤ most_ahead limits
 
 -- the answers of steps that aren't polls were taken
 abbrev pub TakesAnswers : Ahead → Ahead → List Step → Type 0

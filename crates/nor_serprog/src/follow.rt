@@ -8,7 +8,7 @@ ghost use Rattle.nor_base.specs.Sample.{sampled_count};
 ghost use Rattle.nor_serprog.specs.declared.fault.Fault.TheVariants.{Read, Write};
 ghost use Rattle.nor_serprog.specs.Exchange.{Knows};
 ghost use Rattle.nor_serprog.specs.Follow.{Follows, Operates, TakesStatuses, Waits, CountsReason};
-ghost use Rattle.nor_serprog.specs.Follow.{most_reads, status_requests};
+ghost use Rattle.nor_serprog.specs.Follow.{MayGoAtOnce, status_requests};
 ghost use Rattle.nor_serprog.specs.Protocol.{request};
 
 use crate::clocks::bits_sent;
@@ -66,7 +66,7 @@ pub(crate) fn operate_once<R: ByteIn, W: ByteOut>(
 }
 
 /// Reads the status of the chip behind the device until it says idle, so many times at most, up to
-/// four times ahead of the first answer.
+/// four times at once, as many as fit what the device takes before it answers.
 pub(crate) fn wait<R: ByteIn, W: ByteOut>(
     from: &mut R,
     to: &mut W,
@@ -75,7 +75,7 @@ pub(crate) fn wait<R: ByteIn, W: ByteOut>(
 ) -> Result<(), Reason>
     requires room { HaveRoom (R.count from.old) (W.count to.old) }
     ensures waits { Waits (W.held to.old) (W.held to.new) (R.ahead from.old) (R.ahead from.new)
-        result turns }
+        result limits.now turns }
     ensures counts { CountsReason Read (R.count from.old) (R.count from.new) result
         × CountsReason Write (W.count to.old) (W.count to.new) result }
 {
@@ -103,11 +103,11 @@ pub(crate) fn wait_on<R: ByteIn, W: ByteOut>(
     turns: u64,
     reads: u64,
 ) -> Result<(), Reason>
-    requires few { reads ≤ most_reads }
+    requires few { MayGoAtOnce limits.now reads }
     requires within { reads ≤ turns }
     requires room { HaveRoom (R.count from.old) (W.count to.old) }
     ensures waits { (held : Option (List ℕ)) → Appends held (W.held to.old) (status_requests reads)
-        → Waits held (W.held to.new) (R.ahead from.old) (R.ahead from.new) result turns }
+        → Waits held (W.held to.new) (R.ahead from.old) (R.ahead from.new) result limits.now turns }
     ensures counts { CountsReason Read (R.count from.old) (R.count from.new) result
         × CountsReason Write (W.count to.old) (W.count to.new) result }
 {

@@ -2,10 +2,10 @@
 
 ghost use Rattle.std.specs.Bool.{OnTrue};
 ghost use Rattle.std.specs.Prelude.{◌≡◌, ◌≤◌, ◌<◌, ◌+◌, ◌-◌, ◌^◌, ◌++◌, length, flat_map};
-ghost use Rattle.std.specs.Prelude.{slice_index, slice_range, IfSome};
+ghost use Rattle.std.specs.Prelude.{min, slice_index, slice_range, IfSome};
 ghost use Rattle.nor_base.specs.Decoding.{bytes_of_bits};
 ghost use Rattle.nor_base.specs.Device.{Counts, Writes};
-ghost use Rattle.nor_serprog.specs.Follow.{most_reads, status_request, status_requests};
+ghost use Rattle.nor_serprog.specs.Follow.{most_bytes, most_reads, status_requests};
 ghost use Rattle.nor_serprog.specs.Protocol.{request};
 
 use crate::operation::head;
@@ -19,7 +19,7 @@ pub(crate) const MOST_BYTES: usize = 1024;
 /// Requests that go out together.
 pub(crate) type Requests = ArrayVec<u8, MOST_BYTES>;
 
-/// Most status reads that are sent ahead of the first one's answer.
+/// Most status reads that go out at once.
 const MOST_READS: u64 = 4;
 
 /// The request of a status read.
@@ -99,9 +99,9 @@ pub(crate) fn add_reads(requests: &mut Requests, ahead: u16, turns: u64) -> u64
     ensures added { requests.new.items ≡ requests.old.items ++ status_requests result }
     ensures few { result ≤ most_reads }
     ensures within { result ≤ turns }
-    ensures fits { length requests.old.items ≤ ahead → length requests.new.items ≤ ahead }
-    ensures some { 0 < turns → length requests.old.items + 8 ≤ ahead
-        → length requests.old.items + 8 ≤ 1024 → 0 < result }
+    ensures fits { length requests.old.items ≤ min ahead most_bytes
+        → length requests.new.items ≤ min ahead most_bytes }
+    ensures some { 0 < turns → length requests.old.items + 8 ≤ min ahead most_bytes → 0 < result }
 {
     let mut reads = 0;
     for _ in 0..turns.min(MOST_READS) {

@@ -9,6 +9,7 @@ ghost use Rattle.nor_base.specs.Step.{expected};
 ghost use Rattle.nor_base.specs.declared.step.Step.TheVariants.{Poll};
 ghost use Rattle.nor_serprog.specs.declared.fault.Fault.TheVariants.{Read, Write};
 ghost use Rattle.nor_serprog.specs.Carried.{IsOperation};
+ghost use Rattle.nor_serprog.specs.Follow.{most_ahead};
 ghost use Rattle.nor_serprog.specs.Protocol.{request};
 ghost use Rattle.nor_serprog.specs.Done.{IsDoable, HasDoneAll};
 ghost use Rattle.nor_serprog.specs.Row.{AreFront, AreSent, CountsHalt, FitAhead, HasHalted};
@@ -100,7 +101,8 @@ fn verify_count(steps: &[Step]) -> usize
 }
 
 /// Has the device do the steps of a row, each as [`do_step`](crate::do_step): their requests go out
-/// in one write, then the answers are taken. Of a poll up to four status reads go out so.
+/// in one write, then the answers are taken. Of a poll up to four status reads go out so, as many
+/// as fit what the device takes before it answers.
 ///
 /// At the first step that isn't done it stops: the halt has its number in the row, from 0, and the
 /// reason.
@@ -220,7 +222,7 @@ fn before_poll(row: &[Step]) -> &[Step]
 fn gathered(steps: &[Step], limits: &Limits) -> Option<Requests>
     requires { All IsDoable steps.now }
     ensures sent { IfSome result (λ requests. AreSent limits.now steps.now requests.items) }
-    ensures fits { IfSome result (λ requests. length requests.items ≤ limits.now.ahead) }
+    ensures fits { IfSome result (λ requests. length requests.items ≤ most_ahead limits.now) }
 {
     let mut requests = Requests::new();
     for step in steps {

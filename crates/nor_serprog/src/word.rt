@@ -16,7 +16,7 @@ const TRIES: usize = 2;
 
 /// How many bytes are looked through for it, silences counted: what an earlier use left in a pipe
 /// comes before it.
-const NOISE: usize = 65536;
+const NOISE: usize = 4096;
 
 /// Asks the device for its first word until it comes, again at each silence, and takes what comes
 /// late after it.

@@ -10,11 +10,11 @@ use Rattle.nor_base.specs.declared.meaning.QuadRead.{QuadRead}
 use Rattle.nor_base.specs.Parameters.{Parameters}
 use Rattle.nor_base.specs.Accepted.{are_distinct}
 use Rattle.nor_sfdp.specs.declared.fault.SfdpFault.{SfdpFault}
-use Rattle.nor_sfdp.specs.declared.fault.SfdpFault.TheVariants.{Opcode}
+use Rattle.nor_sfdp.specs.declared.fault.SfdpFault.TheVariants.{NoBasic, Opcode}
 use Rattle.nor_sfdp.specs.declared.basic.Page.{Page}
 use Rattle.nor_sfdp.specs.declared.tables.Tables.{Tables}
 use Rattle.nor_sfdp.specs.Bits.{dword_count, word, word_in, is_set}
-use Rattle.nor_sfdp.specs.Tables.{◌>>=◌, tables_of}
+use Rattle.nor_sfdp.specs.Tables.{◌>>=◌, table_of, tables_of}
 use Rattle.nor_sfdp.specs.Basic.{size_of, width_of, page_of, switch_of, quad_read_of}
 use Rattle.nor_sfdp.specs.Kinds.{kinds_of}
 use Rattle.nor_sfdp.specs.SectorMap.{regions_of}
@@ -71,3 +71,12 @@ meaning_of bytes config part = do
   kinds ← kinds_of page.size (word tables.basic 8) (word tables.basic 9) (word_in tables.four_byte 1) (word_in tables.four_byte 2)
   regions ← regions_of tables.sectors config size
   completed tables part size width page kinds regions
+
+-- the size by DWORD 2 of the basic table that was found, if one was
+abbrev pub density_where_there : Option (List ℕ) → Result ℕ SfdpFault
+density_where_there None = Err NoBasic
+density_where_there (Some basic) = size_of (word basic 2)
+
+-- of SFDP bytes, whatever else they say
+unfoldable pub density_of : List ℕ → Result ℕ SfdpFault
+density_of bytes = table_of bytes 0xFF00 >>= density_where_there

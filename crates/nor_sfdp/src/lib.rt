@@ -15,5 +15,5 @@ mod tables;
 
 pub use fault::SfdpFault;
 pub use fields::{bits, is_set};
-pub use reader::read;
+pub use reader::{density, read};
 pub use tables::{SfdpTable, table};

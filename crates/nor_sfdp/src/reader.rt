@@ -6,7 +6,7 @@ ghost use Rattle.std.specs.List.{AllByRecursion, list_any};
 ghost use Rattle.nor_base.specs.Accepted.{IsPowerOfTwo, IsRegion};
 ghost use Rattle.nor_sfdp.specs.Kinds.{IsKind};
 ghost use Rattle.nor_sfdp.specs.SectorMap.{bytes_of};
-ghost use Rattle.nor_sfdp.specs.Reading.{completed, free_read, is_generic, meaning_of};
+ghost use Rattle.nor_sfdp.specs.Reading.{completed, density_of, free_read, is_generic, meaning_of};
 
 use crate::basic::{Page, page_in, quad_read, size, switch, width};
 use crate::fault::SfdpFault;
@@ -14,7 +14,7 @@ use crate::fields::is_set;
 use crate::kinds::kinds;
 use crate::map::regions;
 use crate::opcodes::{are_distinct, has_opcode, taken_opcodes};
-use crate::tables::{Tables, tables_in, word_in};
+use crate::tables::{Tables, table, tables_in, word_in};
 use arrayvec::ArrayVec;
 use nor_base::{Erase, Meaning, Part, QuadRead, Region, Width};
 
@@ -37,6 +37,20 @@ pub fn read(bytes: &[u8], bits: &str, part: Part) -> Result<Meaning, SfdpFault>
     let kinds = kinds(page.size, basic.word(8), basic.word(9), offered, opcodes)?;
     let regions = regions(tables.sectors.as_ref(), bits.as_bytes(), size)?;
     completed(&tables, part, size, width, page, kinds, regions)
+}
+
+/// A chip's size in bytes, by DWORD 2 of its basic table (JESD216B), whatever else its SFDP bytes
+/// say of it.
+///
+/// The faults of [`table`]; then `NoBasic`; then `Density`, also where the table has no DWORD 2.
+#[tactic(auto, unfolding(crate::specs::Reading::density_of))]
+pub fn density(bytes: &[u8]) -> Result<u32, SfdpFault>
+    ensures { result ≡ density_of bytes.now }
+{
+    match table(bytes, 0xFF00)? {
+        Some(basic) => size(basic.word(2)),
+        None => Err(SfdpFault::NoBasic),
+    }
 }
 
 /// The meaning, once all but the opcodes is accepted.

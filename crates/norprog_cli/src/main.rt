@@ -45,7 +45,8 @@ fn main(rt: HostRuntime) -> ExitCode {
 }
 
 /// Does what the program's words say, and returns the status. Where standard error is a terminal
-/// the progress of a play goes there too. Of the system's files and streams nothing is known.
+/// which device is waited for goes there too, and how far steps came. Of the system's files and
+/// streams nothing is known.
 fn main_status<E: ByteOut + Drop>(rt: &HostRuntime, err: &mut Heard<E>) -> u8
     requires { E.count err.old.out < 2 ^ 64 - 1 }
     ensures { EndsProgram ⟦<Heard<E> as ByteOut>⟧.count ⟦<Heard<E> as ByteOut>⟧.held

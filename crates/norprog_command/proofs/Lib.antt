@@ -1,1 +1,2 @@
 mod DetailsLemmas
+mod WaitingLemmas

@@ -1,11 +1,9 @@
 -- What the program answers (this project's).
-use Rattle.std.specs.Prelude.{◌≡◌, ◌≢◌, ◌⊎◌, ◌<◌, ◌≤◌, ◌+◌, ◌-◌, ◌^◌, ℕ, zero, suc, min, nat_eq, if◌then◌else◌, List, [], Option, Some, None, Result, Ok, Err, IfErr}
-use Rattle.std.specs.Io.KnownBytes.{Keeps, append_known}
+use Rattle.std.specs.Prelude.{◌≡◌, ◌⊎◌, ◌<◌, ◌≤◌, ◌-◌, ◌^◌, ℕ, zero, suc, nat_eq, if◌then◌else◌, List, [], Option, Some, None, Result, Ok, Err, option_map}
 use Rattle.nor_base.specs.Device.{Ahead}
-use Rattle.nor_job.specs.declared.fault.BuildFault.TheVariants.{Memory, Write}
+use Rattle.nor_base.specs.declared.device.Failed.{Failed}
 use Rattle.norprog_common.specs.declared.faults.Refusal.{Refusal}
-use Rattle.norprog_common.specs.declared.faults.Refusal.TheVariants.{Build, Usage}
-use Rattle.norprog_common.specs.FileStore.{FileFacts, Adds, Change, nothing_known}
+use Rattle.norprog_common.specs.FileStore.{FileFacts, Change}
 use Rattle.norprog_common.specs.Told.{TellsOf}
 use Rattle.norprog_options.specs.declared.options.Asked.{Asked}
 use Rattle.norprog_options.specs.declared.options.Asked.TheVariants as command
@@ -30,7 +28,8 @@ use Rattle.norprog_play.specs.Answer.{AnswersPlay}
 use Rattle.norprog_read.specs.Answer.{AnswersRead}
 use Rattle.norprog_run.specs.Answer.{AnswersRun}
 use Rattle.norprog_script.specs.Answer.{AnswersScript}
-use Rattle.nor_progress.specs.Far.{IsSilent}
+use Rattle.nor_progress.specs.Far.{IsSilent, Tries}
+use Rattle.norprog_device.specs.Setting.{waiting_line}
 
 -- what progress is shown on: what it held before and after, and how often it had failed before and after
 abbrev pub ProgressShown : Type 0
@@ -40,9 +39,33 @@ ProgressShown = Option (List ℕ) × Option (List ℕ) × ℕ × ℕ
 abbrev pub ShowsNone : ProgressShown → Type 0
 ShowsNone shown = IsSilent shown.0 shown.1 shown.2 shown.3
 
+-- what keeps nothing, and never fails
+abbrev pub nowhere : ProgressShown
+nowhere = (None, None, 0, 0)
+
+-- the line of the device that is waited for; nothing where none is named
+abbrev pub waiting_text : Option (List ℕ) → List ℕ
+waiting_text (Some device) = waiting_line device
+waiting_text None = []
+
+-- a command shows its progress so after that line was written; where it couldn't be nothing more is shown, as if progress went nowhere
+abbrev pub ShowsAfter : Result (Unit {0}) Failed → (ProgressShown → Type 0) → ProgressShown → Type 0
+ShowsAfter (Ok done) Shows shown = Shows shown
+ShowsAfter (Err failed) Shows shown = ShowsNone shown × Shows nowhere
+
+-- the line of this device was written, or a proper prefix of it where that failed; `middle` was held then, and `failures` were counted. After
+-- that a command shows its progress so
+pub record Waits (device : Option (List ℕ)) (Shows : ProgressShown → Type 0) (shown : ProgressShown) : Type 0 where
+  pub result : Result (Unit {0}) Failed
+  pub middle : Option (List ℕ)
+  pub failures : ℕ
+  pub waiting : Tries shown.0 middle shown.2 failures result (waiting_text device)
+  pub shows : ShowsAfter result Shows (middle, shown.1, failures, shown.3)
+
 -- to what is asked for, each command its answer, by what is known of files by their names. `Failed` says what a reader had ahead that
 -- has failed, `Made` which files and devices were changed, `Unprinted` that what is printed to failed; a command that isn't handed the
--- journal changes none, and makes no output; only `play` and `flash` show progress
+-- journal changes none, and makes no output; only `play`, `read` and `flash` say which device they wait for, and `play` and `flash` how
+-- far they came
 abbrev pub AnswersTo : FileFacts → (Ahead → Type 0) → (List Change → Type 0) → Type 0 → Asked → Option (List ℕ) → Option (List ℕ) → Type 0
     → Type 0 → Option (List ℕ) → Option (List ℕ) → ℕ → ProgressShown → Type 0
 AnswersTo files Failed Made Unprinted (command.Build given) before after Quiet Works told_before told_after status shown =
@@ -58,11 +81,14 @@ AnswersTo files Failed Made Unprinted (command.List given) before after Quiet Wo
 AnswersTo files Failed Made Unprinted (command.Draw given) before after Quiet Works told_before told_after status shown =
     ShowsNone shown × (after ≡ before) × AnswersDraw files given Made Quiet Works told_before told_after status
 AnswersTo files Failed Made Unprinted (command.Play given) before after Quiet Works told_before told_after status shown =
-    AnswersPlay files Failed given Made (files.broke ⊎ Unprinted) before after Quiet Works told_before told_after status shown.0 shown.1 shown.2 shown.3
+    Waits (option_map (λ t. t.now) given.device)
+    (λ s. AnswersPlay files Failed given Made (files.broke ⊎ Unprinted) before after Quiet Works told_before told_after status s.0 s.1 s.2 s.3) shown
 AnswersTo files Failed Made Unprinted (command.Read given) before after Quiet Works told_before told_after status shown =
-    ShowsNone shown × AnswersRead files given Made (files.broke ⊎ Unprinted) before after Quiet Works told_before told_after status
+    Waits (option_map (λ t. t.now) given.device)
+    (λ s. ShowsNone s × AnswersRead files given Made (files.broke ⊎ Unprinted) before after Quiet Works told_before told_after status) shown
 AnswersTo files Failed Made Unprinted (command.Flash given) before after Quiet Works told_before told_after status shown =
-    AnswersFlash files given Made (files.broke ⊎ Unprinted) before after Quiet Works told_before told_after status shown.0 shown.1 shown.2 shown.3
+    Waits (option_map (λ t. t.now) given.device)
+    (λ s. AnswersFlash files given Made (files.broke ⊎ Unprinted) before after Quiet Works told_before told_after status s.0 s.1 s.2 s.3) shown
 AnswersTo files Failed Made Unprinted (command.Sfdp given) before after Quiet Works told_before told_after status shown =
     ShowsNone shown × Made [] × AnswersChip files given Unprinted before after Quiet Works told_before told_after status
 AnswersTo files Failed Made Unprinted (command.Hex given) before after Quiet Works told_before told_after status shown =

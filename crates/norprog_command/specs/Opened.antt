@@ -1,5 +1,5 @@
 -- Which files the program opens to be read, in which order (this project's).
-use Rattle.std.specs.Prelude.{◌≡◌, ◌⊎◌, ℕ, zero, suc, List, [], ◌++◌, Option, Some, None, Result, Ok, Err, option_map, option_to_list}
+use Rattle.std.specs.Prelude.{◌⊎◌, ℕ, zero, suc, List, [], Option, Some, None, Result, Ok, Err, option_map, option_to_list}
 use Rattle.norprog_common.specs.FileStore.{Adds, OpensAt}
 use Rattle.norprog_common.specs.Served as job
 use Rattle.norprog_common.specs.declared.faults.Refusal.{Refusal}

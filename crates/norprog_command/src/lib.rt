@@ -11,6 +11,9 @@ ghost use Rattle.norprog_command.specs.Opened.{files_of, OpensDetails, OpensLine
 ghost use Rattle.norprog_command.specs.Reads.{MayAskDetails, MayAskLine, MayReadAsked};
 ghost use Rattle.norprog_command.specs.Reads.{MayReadWords};
 
+mod waited;
+
+use crate::waited::{flash_waited, play_waited, read_waited};
 use nor_base::ByteOut;
 use norprog_build::build;
 use norprog_check::check;
@@ -18,22 +21,19 @@ use norprog_common::{FileStore, refuse};
 use norprog_details::{Heard, write_details};
 use norprog_draw::draw;
 use norprog_explain::explain;
-use norprog_flash::flash;
 use norprog_hex::hex;
 use norprog_list::list;
 use norprog_options::{Asked, Line, TypedLine, asked_by};
 use norprog_plan::plan;
-use norprog_play::play;
-use norprog_read::read;
 use norprog_run::run;
 use norprog_script::script;
 use norprog_sfdp::sfdp;
 use std::alloc::Global;
 
 /// Runs the command that the words spell, the program's name not among them. It opens the files
-/// that they name, writes what goes to standard output to `out`, a refusal to `err`, and the
-/// progress of a play to `progress`. Returns the status: 0 done, 1 refused or a script that goes
-/// wrong or doesn't do its job, 2 usage.
+/// that they name, writes what goes to standard output to `out`, a refusal to `err`, and to
+/// `progress` which device `play`, `read` and `flash` wait for, and how far steps came. Returns the
+/// status: 0 done, 1 refused or a script that goes wrong or doesn't do its job, 2 usage.
 pub fn command<S: FileStore, O: ByteOut, E: ByteOut + Drop, P: ByteOut>(
     alloc: Global,
     store: &S,
@@ -166,9 +166,15 @@ fn answer_to<S: FileStore, O: ByteOut, E: ByteOut, P: ByteOut>(
         Asked::Run(given) => run(alloc, store, journal, ledger, given, out, err),
         Asked::List(given) => list(alloc, store, ledger, given, out, err),
         Asked::Draw(given) => draw(alloc, store, journal, ledger, given, err),
-        Asked::Play(given) => play(alloc, store, journal, ledger, given, out, err, progress),
-        Asked::Read(given) => read(alloc, store, journal, ledger, given, out, err),
-        Asked::Flash(given) => flash(alloc, store, journal, ledger, given, out, err, progress),
+        Asked::Play(given) => {
+            play_waited(alloc, store, journal, ledger, given, out, err, progress)
+        }
+        Asked::Read(given) => {
+            read_waited(alloc, store, journal, ledger, given, out, err, progress)
+        }
+        Asked::Flash(given) => {
+            flash_waited(alloc, store, journal, ledger, given, out, err, progress)
+        }
         Asked::Sfdp(given) => sfdp(alloc, store, ledger, given, out, err),
         Asked::Hex(given) => hex(alloc, store, journal, ledger, given, err),
         Asked::Script(given) => script(alloc, store, journal, ledger, given, out, err),

@@ -10,7 +10,7 @@ use Rattle.norprog_common.specs.declared.files.ScriptFile.{ScriptFile}
 use Rattle.norprog_common.specs.declared.files.ScriptFile.TheVariants.{Twice, Held}
 
 -- what is known of files, each by its name. `may`: a file of this name may be opened to be read. `may_ask`: the system may be asked about it
--- once more, which may open a regular file. `irregular`: no regular file of this name was found. `said`: that it doesn't open the file of
+-- once more, which may open a regular file or a terminal. `irregular`: no regular file of this name was found. `said`: that it doesn't open the file of
 -- this name was said in these words. `unsaid`: the system was asked about the file of this name, and didn't say that it doesn't open it.
 -- `gave`: the file gave these bytes, read whole. `starved`: memory ran out as the file of this name was read whole. `opened`: it was
 -- opened, this is ahead of its reader, and this is its length in bytes. `stood`: it was opened, and stood at this place. `made`: it was

@@ -14,6 +14,9 @@ use std::fs::{self, Files, Metadata, OpenFile, OpenOptions};
 use std::io::{self, Read};
 use std::os::unix::fs::MetadataExt;
 
+/// What is said of a device that is no terminal.
+const NO_TERMINAL: &str = "not a terminal";
+
 /// A file of more bytes counts as one that couldn't be read.
 const MOST_BYTES: u64 = 1 << 36;
 
@@ -303,6 +306,33 @@ pub(crate) fn open_error<R: Files>(rt: &R, path: &str) -> Option<io::Error> {
         return None;
     }
     fs::open(rt, path).err()
+}
+
+/// Why a device isn't opened to be read and written. A terminal is opened for that, and closed; of
+/// anything else it is said that it is none. None where the terminal is opened, and where the
+/// system has no list of terminals.
+pub(crate) fn device_error<R: Files>(rt: &R, alloc: Global, path: &str) -> Option<io::Error> {
+    let metadata = match fs::metadata(rt, path) {
+        Ok(metadata) => metadata,
+        Err(error) => return Some(error),
+    };
+    if !is_character_device(metadata.mode()) {
+        return Some(io::Error::other(NO_TERMINAL));
+    }
+    match is_terminal(rt, alloc, metadata.rdev()) {
+        Ok(true) => terminal_error(rt, path),
+        Ok(false) => Some(io::Error::other(NO_TERMINAL)),
+        Err(_) => None,
+    }
+}
+
+/// Why the system doesn't open a terminal to be read and written.
+fn terminal_error<R: Files>(rt: &R, path: &str) -> Option<io::Error> {
+    let _from = match fs::open(rt, path) {
+        Ok(from) => from,
+        Err(error) => return Some(error),
+    };
+    device_options().open(rt, path).err()
 }
 
 /// Refuses what isn't known to be a terminal: a character device that a driver of terminals has.

@@ -136,6 +136,10 @@ pub struct ReadArgs<'a> {
     pub out: Option<&'a str>,
     /// The terminal is said to hand on each byte as it comes.
     pub raw: bool,
+    /// The chip's power was just switched on, so it is in the address mode that it begins in.
+    pub fresh: bool,
+    /// The chip's tables may say another size than `--uniform`.
+    pub any_size: bool,
 }
 
 /// Of `flash`.
@@ -155,5 +159,9 @@ pub struct FlashArgs<'a> {
     pub dry_run: bool,
     /// As of `read`.
     pub raw: bool,
+    /// As of `read`.
+    pub fresh: bool,
+    /// As of `read`.
+    pub any_size: bool,
     pub regions: Vec<Bytes>,
 }

@@ -216,6 +216,18 @@ pub trait FileStore {
         requires { (facts self.now).may_ask path.now }
         ensures { MatchOption result ((facts self.now).unsaid path.now)
             (λ words. (facts self.now).said path.now (string_bytes words)) };
+
+    /// Why the system doesn't open a device to be read and written, or why it is none, in words. A
+    /// terminal is opened for that as [`FileStore::open_device`] opens it, and closed; nothing else
+    /// is. None where it opens it or memory runs out. A store without terminals asks as about a
+    /// file.
+    fn device_trouble(&self, alloc: Global, path: &str) -> Option<String>
+        requires { (facts self.now).may_ask path.now }
+        ensures { MatchOption result ((facts self.now).unsaid path.now)
+            (λ words. (facts self.now).said path.now (string_bytes words)) }
+    {
+        self.trouble(alloc, path)
+    }
 }
 
 /// What the file of a chip's SFDP tables holds; nothing for a uniform chip, which has none.

@@ -7,8 +7,8 @@ ghost use Rattle.norprog_common.specs.FileStore.{DoNotFail, IsSameScript};
 
 use crate::faults::{FileName, Refusal};
 use crate::files::{
-    FileId, ScriptFile, create_fresh, create_output, is_regular_file, open_device_reader,
-    open_device_writer, open_error, open_input, open_script, read_whole,
+    FileId, ScriptFile, create_fresh, create_output, device_error, is_regular_file,
+    open_device_reader, open_device_writer, open_error, open_input, open_script, read_whole,
 };
 use crate::store::{FileStore, Journal, Ledger};
 use nor_base::{Failed, FromRead, IntoWrite};
@@ -155,6 +155,11 @@ impl<'a, R: Files> FileStore for SystemFiles<'a, R> {
 
     fn trouble(&self, alloc: Global, path: &str) -> Option<String> {
         let error = open_error(self.files, path)?;
+        format!(in alloc; "{error}").ok()
+    }
+
+    fn device_trouble(&self, alloc: Global, path: &str) -> Option<String> {
+        let error = device_error(self.files, alloc, path)?;
         format!(in alloc; "{error}").ok()
     }
 }

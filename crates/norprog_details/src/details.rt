@@ -91,7 +91,7 @@ fn write_facts<S: FileStore, E: ByteOut>(
     let Some(option) = option_of(line.typed, refusal) else {
         return write_region(line.regions, refusal, err);
     };
-    let trouble = trouble_of(alloc, store, option);
+    let trouble = trouble_of(alloc, store, option, refusal);
     let text = held_by(alloc, store, ledger, option);
     write_about(option, trouble, text.as_slice(), line.regions, refusal, err)
 }
@@ -118,14 +118,24 @@ fn write_about<E: ByteOut>(
     write_text(option, refusal, text, err)
 }
 
-/// What the system says of the file that an option names, where it doesn't open it.
-fn trouble_of<S: FileStore>(alloc: Global, store: &S, option: Typed<'_>) -> Option<String>
+/// What the system says of the file that an option names, where it doesn't open it. A device is
+/// asked about as one only where it couldn't be opened: no other refusal has it opened again.
+fn trouble_of<S: FileStore>(
+    alloc: Global,
+    store: &S,
+    option: Typed<'_>,
+    refusal: &[u8],
+) -> Option<String>
     requires { MayAskOption (S.facts store.now) (option.name.now, option.value.now) }
     ensures { IsTroubleOf (S.facts store.now) (option.entry.name.now, option.entry.value.now)
         (option_map string_bytes result) }
 {
     if is_read(option.name) {
-        store.trouble(alloc, option.value)
+        if refusal == b"norprog: file device".as_slice() {
+            store.device_trouble(alloc, option.value)
+        } else {
+            store.trouble(alloc, option.value)
+        }
     } else {
         None
     }

@@ -1,3 +1,5 @@
 pub mod Line
 pub mod Opened
 pub mod Blame
+pub mod Shell
+pub mod Setting

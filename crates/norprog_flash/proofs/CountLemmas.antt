@@ -28,7 +28,7 @@ use Rattle.norprog_read.specs.declared.fault.Unread.TheVariants as unread
 use Rattle.norprog_read.specs.Line.{unlike_line}
 use Rattle.norprog_read.specs.Saved.{IsUnsaved}
 use Rattle.norprog_read.specs.Stops.{StopsChip}
-use Rattle.norprog_read.proofs.ReadLemmas.{no_write}
+use Rattle.norprog_read.proofs.ReadLemmas.{of_chip}
 use Rattle.norprog_read.proofs.ReportLemmas.{reports_wider}
 
 -- how the count of failures went where a job stopped so
@@ -38,7 +38,7 @@ Told files m n why = (m ≤ n) × (n ≤ m + 1) × TellsFailed (Breaks files m n
 -- ---- a chip that wasn't read, or isn't fit for the work
 reading_told : (most : ℕ) (B : Type 0) (h i : Option (List ℕ)) (a b : Ahead) (ask : Ask) (stop : Unread) → StopsChip most h i a b ask stop
     → TellsFailed B (of_reading stop)
-reading_told most B h i a b ask (unread.Refused (Build fault.Write)) stops = absurd (no_write most h i a b ask stops)
+reading_told most B h i a b ask (unread.Refused (Build fault.Write)) stops = absurd (of_chip most h i a b ask (unread.Refused (Build fault.Write)) stops)
 reading_told most B h i a b ask (unread.Refused other) stops = tt
 reading_told most B h i a b ask (unread.Device why) stops = tt
 reading_told most B h i a b ask (unread.Unlike why) stops = tt

@@ -61,7 +61,7 @@ module _ (close : Closes) (break : Breaks) (files : FileFacts) (job : Job) (limi
         ahead = a1;
         todo = todo;
         failed = failed;
-        every = subst (λ (n : ℕ). BreaksApart planned.read.read.h3 planned.read.read.h4 planned.read.read.a3 planned.read.read.a4 h1 a1 r.meaning
+        every = subst (λ (n : ℕ). BreaksApart planned.read.read.h4 planned.read.read.h5 planned.read.read.a4 planned.read.read.a5 h1 a1 r.meaning
             (start_of (flash_task job r.tables.items)) r.content.items goal steps n (failed.halted.at ∷ failed.halted.beyond)) (sym failed.at)
             (every_keeps limits.asked files job h0 h1 a0 a1 r goal steps o0 o1 planned whole break h2 a2 limits job.ask.turns failed.halt
             failed.halted);

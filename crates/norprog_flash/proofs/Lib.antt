@@ -4,7 +4,6 @@ mod EndedLemmas
 mod LineLemmas
 mod OpenedLemmas
 mod ServedLemmas
-mod StateLemmas
 mod ReportLemmas
 mod StopsLemmas
 mod CountLemmas

@@ -25,10 +25,10 @@ meaning_same : (r : Result Parameters SfdpFault) (m n : Parameters) → r ≡ Ok
 meaning_same r m n p q = cc
 
 -- a content that was wanted came twice
-given_twice : (most : ℕ) (h i : Option (List ℕ)) (a b : Ahead) (m : Parameters) (start : Start) (wanted : Bool) (content : List ℕ) → wanted ≡ true
-    → GivesContent most h i a b m start wanted content → ReadTwice h i a b m (record start { quad = false }) content
-given_twice most h i a b m start true content is given = given.known false
-given_twice most h i a b m start false content is given = absurd cc
+given_twice : (most : ℕ) (h i : Option (List ℕ)) (a b : Ahead) (m : Parameters) (start : Start) (sure wanted : Bool) (content : List ℕ)
+    → wanted ≡ true → GivesContent most h i a b m start sure wanted content → ReadTwice h i a b m (record start { quad = false }) content
+given_twice most h i a b m start sure true content is given = given.known false
+given_twice most h i a b m start sure false content is given = absurd cc
 
 module _ (most : ℕ) (files : FileFacts) (job : Job) (h0 h1 : Option (List ℕ)) (a0 a1 : Ahead) (r : Reading) (goal : List ℕ) (steps : List Step)
     (o0 o1 : Option (List ℕ)) (planned : HasPlanned most files job h0 h1 a0 a1 r goal steps o0 o1) where
@@ -48,12 +48,12 @@ module _ (most : ℕ) (files : FileFacts) (job : Job) (h0 h1 : Option (List ℕ)
   steps_doable law = law r.meaning (start_of (flash_task job r.tables.items)) true r.content.items goal steps steps_planned
 
   module _ (whole : job.ask.content ≡ true) where
-    twice : ReadTwice planned.read.read.h3 planned.read.read.h4 planned.read.read.a3 planned.read.read.a4 r.meaning
+    twice : ReadTwice planned.read.read.h4 planned.read.read.h5 planned.read.read.a4 planned.read.read.a5 r.meaning
         (start_of (flash_task job r.tables.items)) r.content.items
-    twice = given_twice most _ _ _ _ _ _ job.ask.content r.content.items whole planned.read.read.content
+    twice = given_twice most _ _ _ _ _ _ _ job.ask.content r.content.items whole planned.read.read.content
 
     pub every_flashes : Closes → (h2 : Option (List ℕ)) (a2 : Ahead) (limits : Limits) (turns : ℕ) → HasDoneAll h1 h2 a1 a2 limits turns steps
-        → ClosesApart planned.read.read.h3 planned.read.read.h4 planned.read.read.a3 planned.read.read.a4 h1 h2 a1 a2 r.meaning
+        → ClosesApart planned.read.read.h4 planned.read.read.h5 planned.read.read.a4 planned.read.read.a5 h1 h2 a1 a2 r.meaning
         (start_of (flash_task job r.tables.items)) r.content.items
         (goal_of (flash_task job r.tables.items) planned.plan.work.image planned.plan.work.regions (dump_of job)) steps
     every_flashes law h2 a2 limits turns done =
@@ -65,7 +65,7 @@ module _ (most : ℕ) (files : FileFacts) (job : Job) (h0 h1 : Option (List ℕ)
 
     pub every_keeps : Breaks → (h2 : Option (List ℕ)) (a2 : Ahead) (limits : Limits) (turns : ℕ) (halt : Halt)
         → (halted : HasHalted h1 h2 a1 a2 limits turns steps halt)
-        → BreaksApart planned.read.read.h3 planned.read.read.h4 planned.read.read.a3 planned.read.read.a4 h1 a1 r.meaning
+        → BreaksApart planned.read.read.h4 planned.read.read.h5 planned.read.read.a4 planned.read.read.a5 h1 a1 r.meaning
         (start_of (flash_task job r.tables.items)) r.content.items goal steps halt.step (halted.at ∷ halted.beyond)
     every_keeps law h2 a2 limits turns halt halted =
         law _ _ h1 h2 _ _ a1 a2 limits turns r.meaning (start_of (flash_task job r.tables.items)) true r.content.items goal steps halt refl

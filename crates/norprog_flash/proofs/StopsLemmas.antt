@@ -1,7 +1,8 @@
 -- Why work isn't begun on a chip that was read.
-use Rattle.std.proofs.Common.{◌≡◌, ◌∙◌, ℕ, Bool, false, List, [], ◌∷◌, length, Option, unwrap_or, inl, inr, refl, sym, ap, subst}
+use Rattle.std.proofs.Common.{◌≡◌, ◌∙◌, ℕ, Bool, true, false, List, [], ◌∷◌, length, Option, unwrap_or, inl, inr, refl, sym, ap, subst}
 use Rattle.nor_base.specs.declared.meaning.Start.{Start}
 use Rattle.nor_base.specs.Device.{Ahead}
+use Rattle.nor_base.specs.Parameters.{Parameters}
 use Rattle.nor_job.specs.declared.fault.BuildFault.{BuildFault}
 use Rattle.nor_job.specs.declared.fault.BuildFault.TheVariants.{ContentSize}
 use Rattle.nor_job.specs.Status.{start_of}
@@ -18,16 +19,21 @@ use Rattle.norprog_common.specs.FileStore.{FileFacts, Adds, Change, Created}
 use Rattle.norprog_common.specs.Strict.{RefusesEmpty}
 use Rattle.norprog_common.proofs.JournalLemmas.{adds_none}
 use Rattle.norprog_flash.specs.declared.ending.Unflashed.{Unflashed}
-use Rattle.norprog_flash.specs.declared.ending.Unflashed.TheVariants.{Refused, Unlike, Closed}
+use Rattle.norprog_flash.specs.declared.ending.Unflashed.TheVariants.{Refused, Closed}
 use Rattle.norprog_flash.specs.declared.job.Job.{Job}
 use Rattle.norprog_flash.specs.Begun.{HasRead, start_at}
-use Rattle.norprog_flash.specs.Stops.{has_way, CantPlan, MissesEnd, StopsBefore, StopsBegun}
+use Rattle.norprog_flash.specs.Stops.{CantPlan, MissesEnd, StopsBefore, StopsBegun}
 use Rattle.norprog_flash.specs.Task.{dump_of, flash_task}
 use Rattle.norprog_read.specs.declared.asked.Reading.{Reading}
-use Rattle.norprog_read.specs.declared.fault.Unlike.TheVariants.{Unreadable}
-use Rattle.norprog_read.specs.Chip.{HasReadChip}
+use Rattle.norprog_read.specs.Chip.{GivesContent, HasReadChip}
 use Rattle.norprog_read.specs.Saved.{IsSaved, IsUnsaved}
+use Rattle.norprog_read.specs.Way.{first_by}
 use Rattle.norprog_work.specs.Refused.{RefusesWork}
+
+given_way : (most : ℕ) (h i : Option (List ℕ)) (a b : Ahead) (m : Parameters) (start : Start) (sure wanted : Bool) (content : List ℕ)
+    → wanted ≡ true → GivesContent most h i a b m start sure wanted content → GivesBy m start (first_by m start)
+given_way most h i a b m start sure true content is given = given.way
+given_way most h i a b m start sure false content is given = absurd cc
 
 pub closed : (most : ℕ) (h i : Option (List ℕ)) (a b : Ahead) (job : Job) (r : Reading) → HasReadChip most h i a b job.ask r
     → (start : Start) (fits : Bool) → start ≡ start_at job r.status → fits ≡ suits job.ask.part start r.status → fits ≡ false
@@ -38,13 +44,13 @@ closed most h i a b job r read start fits begins is unfit = inr (inl (record {
   unsuited = (refl, ap (λ (s : Start). suits job.ask.part s r.status) (sym begins) ∙ (sym is ∙ unfit));
 }))
 
-pub wayless : (most : ℕ) (h i : Option (List ℕ)) (a b : Ahead) (job : Job) (r : Reading) → HasReadChip most h i a b job.ask r → (start : Start)
-    → start ≡ start_of (flash_task job r.tables.items) → false ≡ has_way r.meaning start → StopsBefore most h i a b job (Unlike Unreadable)
-wayless most h i a b job r read start begins wants = inr (inl (record {
-  reading = r;
-  read = read;
-  unsuited = ap (λ (s : Start). has_way r.meaning s) (sym begins) ∙ sym wants;
-}))
+-- a chip that was read whole is read so
+pub way_there : (most : ℕ) (h i : Option (List ℕ)) (a b : Ahead) (job : Job) (r : Reading) → HasReadChip most h i a b job.ask r → (start : Start)
+    → start ≡ start_of (flash_task job r.tables.items) → job.ask.content ≡ true → (by : ReadBy) → by ≡ first_by r.meaning start
+    → GivesBy r.meaning (start_of (flash_task job r.tables.items)) by
+way_there most h i a b job r read start begins whole by is =
+    subst (GivesBy r.meaning (start_of (flash_task job r.tables.items))) (sym (is ∙ ap (first_by r.meaning) begins))
+    (given_way most _ _ _ _ r.meaning (start_of (flash_task job r.tables.items)) _ job.ask.content r.content.items whole read.content)
 
 pub unfilled : (most : ℕ) (h i : Option (List ℕ)) (a b : Ahead) (job : Job) (r : Reading) → HasReadChip most h i a b job.ask r → (why : Refusal)
     → RefusesEmpty job.strict (flash_task job r.tables.items) (length r.content.items) why → StopsBefore most h i a b job (Refused why)

@@ -4,7 +4,6 @@ use Rattle.std.specs.Io.KnownBytes.{Appends}
 use Rattle.nor_base.specs.declared.meaning.Start.{Start}
 use Rattle.nor_base.specs.declared.step.Step.{Step}
 use Rattle.nor_base.specs.Device.{Ahead}
-use Rattle.nor_base.specs.Parameters.{Parameters}
 use Rattle.nor_job.specs.Shares.{HasNoneEmpty}
 use Rattle.nor_job.specs.Status.{start_of}
 use Rattle.nor_probe.specs.Status.{suits}
@@ -16,20 +15,15 @@ use Rattle.norprog_common.specs.FileStore.{FileFacts}
 use Rattle.norprog_flash.specs.declared.job.Job.{Job}
 use Rattle.norprog_flash.specs.Resumed.{IsOfDump}
 use Rattle.norprog_flash.specs.Task.{dump_of, flash_task}
-use Rattle.norprog_flash.specs.Way.{way_text}
+use Rattle.norprog_flash.specs.Way.{last_text}
 use Rattle.norprog_read.specs.declared.asked.Reading.{Reading}
 use Rattle.norprog_read.specs.Chip.{HasReadChip}
 use Rattle.norprog_read.specs.Saved.{IsSaved}
-use Rattle.norprog_read.specs.Way.{has_both}
 use Rattle.norprog_work.specs.Work.{IsWork}
 
 -- the mode that was said, and the quad setting that a status has (QE, S9)
 abbrev pub start_at : Job → ℕ → Start
 start_at job status = record { mode4 = job.ask.mode4; quad = is_set status 9 }
-
--- a chip isn't one of both address modes that is said to be in four-byte mode and has no read that is the same in either
-abbrev pub IsSureOfMode : Parameters → Start → Type 0
-IsSureOfMode m start = start.mode4 ≡ true → has_both m.width ≡ true → m.read4 ≡ true
 
 -- the chip was read, by reads of no more than so many bytes, and its status shows that it can take work; where the job is strict its image
 -- gives each chosen region a byte; then it was read past its end, and gave what one of just this content gives there
@@ -39,7 +33,6 @@ pub record HasRead (most : ℕ) (job : Job) (held_before held_after : Option (Li
   pub ahead : Ahead
   pub read : HasReadChip most held_before held ahead_before ahead job.ask r
   pub suited : suits job.ask.part (start_at job r.status) r.status ≡ true
-  pub sure : IsSureOfMode r.meaning (start_of (flash_task job r.tables.items))
   pub filled : job.strict ≡ true → HasNoneEmpty (flash_task job r.tables.items) (length r.content.items)
   pub by : ReadBy
   pub way : GivesBy r.meaning (start_of (flash_task job r.tables.items)) by
@@ -51,7 +44,7 @@ pub record PrintsPlan (job : Job) (r : Reading) (goal : List ℕ) (steps : List 
   pub middle : Option (List ℕ)
   pub work : IsWork (flash_task job r.tables.items) r.content.items (unwrap_or (dump_of job) r.content.items) goal steps out_before middle
   pub kept : IsOfDump r.meaning r.content.items (unwrap_or (dump_of job) r.content.items) goal
-  pub way : Appends middle out_after (way_text job.dry steps job.texts.now)
+  pub way : Appends middle out_after (last_text job r steps)
 
 -- it was read, and nothing else was sent; what it holds is saved; and the work from that to the target was planned and printed
 pub record HasPlanned (most : ℕ) (files : FileFacts) (job : Job) (held_before held_after : Option (List ℕ))

@@ -37,7 +37,7 @@ EveryChipFlashes {job = job} {held = held} {ahead = ahead} todo held_after ahead
     let t = flash_task job todo.reading.tables.items in
     let read = todo.planned.read.read in
     let work = todo.planned.plan.work in
-    ClosesApart read.h3 read.h4 read.a3 read.a4 held held_after ahead ahead_after todo.reading.meaning (start_of t) todo.reading.content.items
+    ClosesApart read.h4 read.h5 read.a4 read.a5 held held_after ahead ahead_after todo.reading.meaning (start_of t) todo.reading.content.items
     (goal_of t work.image work.regions (dump_of job)) todo.steps
 
 -- or, as far as the work came to a step, which begins a row, only by chips that held what was read, of which at most one unit of the work
@@ -47,7 +47,7 @@ abbrev pub EveryChipKeeps : {most : ℕ} {files : FileFacts} {job : Job} {held_b
     → List Step → Type 0
 EveryChipKeeps {job = job} {held = held} {ahead = ahead} todo at row =
     let read = todo.planned.read.read in
-    BreaksApart read.h3 read.h4 read.a3 read.a4 held ahead todo.reading.meaning (start_of (flash_task job todo.reading.tables.items))
+    BreaksApart read.h4 read.h5 read.a4 read.a5 held ahead todo.reading.meaning (start_of (flash_task job todo.reading.tables.items))
     todo.reading.content.items todo.goal todo.steps at row
 
 -- all was done: each step, and then the chip gave just what it must hold, and past its end what one that holds just this gives, by reads of

@@ -16,6 +16,8 @@ read_args given = record {
   tables = None;
   out = given.before;
   raw = given.raw;
+  fresh = given.fresh;
+  any_size = given.any_size;
 }
 
 -- the base's digits, `0` where none are given

@@ -1,33 +1,13 @@
--- What is written of a chip that may hold a part of the work: how to go on (this project's; words and quotes are those of the Shell Command
--- Language of POSIX, 2.2).
-use Rattle.std.specs.Prelude.{ℕ, Bool, true, false, ◌==◌, ◌||◌, if◌then◌else◌, List, [], ◌∷◌, ◌++◌, flat_map, codes, Option, Some, None, option_map, unwrap_or}
-use Rattle.std.specs.Char.{is_ascii_alphanumeric}
-use Rattle.std.specs.List.{concat, list_all, list_any}
+-- What is written of a chip that may hold a part of the work: how to go on (this project's).
+use Rattle.std.specs.Prelude.{ℕ, Bool, true, false, List, [], ◌∷◌, ◌++◌, flat_map, codes, Option, Some, None, option_map, unwrap_or}
+use Rattle.std.specs.List.{concat}
 use Rattle.norprog_common.specs.declared.given.FlashArgs.{FlashArgs}
+use Rattle.norprog_device.specs.Setting.{stty_command}
+use Rattle.norprog_device.specs.Shell.{shell_word}
 use Rattle.norprog_flash.specs.declared.options.Name.{Name}
 use Rattle.norprog_flash.specs.declared.options.Name.TheVariants as name
 use Rattle.norprog_flash.specs.declared.options.Given.{Given}
 use Rattle.norprog_flash.specs.declared.options.Given.TheVariants.{Text, Flag, Next}
-
--- a letter, a digit, or one of - . / _
-abbrev pub is_plain : ℕ → Bool
-is_plain c = is_ascii_alphanumeric c || list_any (λ other. other == c) (codes "-./_")
-
--- a text of these is a word as it is
-abbrev pub is_bare : List ℕ → Bool
-is_bare [] = false
-is_bare (c ∷ rest) = list_all is_plain (c ∷ rest)
-
--- between single quotes each character stands for itself, except a single quote: it stands outside of them, after a backslash
-abbrev pub quoted : ℕ → List ℕ
-quoted c = if c == 0x27 then 0x27 ∷ 0x5C ∷ 0x27 ∷ 0x27 ∷ [] else c ∷ []
-
-abbrev pub quoted_word : List ℕ → List ℕ
-quoted_word text = 0x27 ∷ (flat_map quoted text ++ 0x27 ∷ [])
-
--- the word that a shell reads as this text
-abbrev pub shell_word : List ℕ → List ℕ
-shell_word text = if is_bare text then text else quoted_word text
 
 -- an option's name
 abbrev pub name_text : Name → List ℕ
@@ -44,6 +24,8 @@ name_text name.Base = codes "base"
 name_text name.ErasedOnly = codes "erased-only"
 name_text name.Strict = codes "strict"
 name_text name.Raw = codes "raw"
+name_text name.Fresh = codes "fresh"
+name_text name.AnySize = codes "any-size"
 name_text name.Resume = codes "resume"
 name_text name.Before = codes "before"
 
@@ -85,6 +67,8 @@ next_options given = concat (
     ∷ flagged name.ErasedOnly given.erased_only
     ∷ flagged name.Strict given.strict
     ∷ flagged name.Raw given.raw
+    ∷ flagged name.Fresh given.fresh
+    ∷ flagged name.AnySize given.any_size
     ∷ valued name.Resume (Some (first_name given)) []
     ∷ valued name.Before (option_map (λ t. t.now) given.before) (codes ".2")
     ∷ []
@@ -105,6 +89,15 @@ regions_text (region ∷ more) = named_text (region ∷ more)
 abbrev pub next_command : FlashArgs → List ℕ
 next_command given = codes "norprog flash" ++ (next_options given ++ regions_text given.regions.items)
 
+-- what sets the terminal of the device, where one is named
+abbrev pub set_text : Option (List ℕ) → List ℕ
+set_text (Some device) = stty_command device ++ codes " && "
+set_text None = []
+
+-- that, and the command
+abbrev pub way_on : FlashArgs → List ℕ
+way_on given = set_text (option_map (λ t. t.now) given.device) ++ next_command given
+
 -- the file that has what the chip held, and how to go on
 abbrev pub state_front : List ℕ → List ℕ
 state_front first =
@@ -112,4 +105,4 @@ state_front first =
     ++ (first ++ codes ". See: norprog explain the chip may hold. Switch its power off and on, and go on with: ")
 
 abbrev pub state_line : FlashArgs → List ℕ
-state_line given = state_front (first_name given) ++ (next_command given ++ codes "\n")
+state_line given = state_front (first_name given) ++ (way_on given ++ codes "\n")

@@ -1,9 +1,7 @@
 -- Why work isn't begun; and that nothing went over the wire till then that changes what a chip holds (this project's).
 use Rattle.std.specs.Prelude.{◌≡◌, ◌≤◌, ◌+◌, ◌⊎◌, ⊤, ℕ, Bool, false, not, ◌&&◌, List, [], ◌∷◌, length, Option, unwrap_or, Result, Ok, Err, ◌≢◌}
-use Rattle.nor_base.specs.declared.meaning.Start.{Start}
 use Rattle.nor_base.specs.declared.step.Step.{Step}
 use Rattle.nor_base.specs.Device.{Ahead, Cuts}
-use Rattle.nor_base.specs.Parameters.{Parameters}
 use Rattle.nor_job.specs.declared.fault.BuildFault.{BuildFault}
 use Rattle.nor_job.specs.declared.fault.BuildFault.TheVariants.{ContentSize, Write}
 use Rattle.nor_job.specs.Status.{start_of}
@@ -35,16 +33,15 @@ use Rattle.norprog_flash.specs.Begun.{HasRead, start_at}
 use Rattle.norprog_flash.specs.Blame.{fault_of_stop}
 use Rattle.norprog_flash.specs.Resumed.{IsOfAnother}
 use Rattle.norprog_flash.specs.Task.{dump_of, flash_task}
-use Rattle.norprog_flash.specs.Way.{way_text}
+use Rattle.norprog_flash.specs.Way.{last_text}
 use Rattle.norprog_read.specs.declared.asked.Ask.{Ask}
 use Rattle.norprog_read.specs.declared.asked.Reading.{Reading}
-use Rattle.norprog_read.specs.declared.fault.Unlike.TheVariants.{Asking, At, Unreadable}
+use Rattle.norprog_read.specs.declared.fault.Unlike.TheVariants.{Asking, At}
 use Rattle.norprog_read.specs.declared.fault.Unread.{Unread}
 use Rattle.norprog_read.specs.declared.fault.Unread.TheVariants as unread
 use Rattle.norprog_read.specs.Chip.{HasReadChip}
 use Rattle.norprog_read.specs.Saved.{IsSaved, IsUnsaved}
 use Rattle.norprog_read.specs.Stops.{StopsChip}
-use Rattle.norprog_read.specs.Way.{has_both, is_readable}
 use Rattle.norprog_work.specs.Refused.{RefusesWork}
 use Rattle.norprog_work.specs.Work.{IsWork}
 
@@ -72,14 +69,9 @@ pub record StopsReading (most : ℕ) (held_before held_after : Option (List ℕ)
   pub stops : StopsChip most held_before held_after ahead_before ahead_after ask stop
   pub is : why ≡ of_reading stop
 
--- a chip that begins so can be read whole, and a reading shows in which address mode it is
-abbrev pub has_way : Parameters → Start → Bool
-has_way m start = is_readable m start && not (start.mode4 && (has_both m.width && not m.read4))
-
--- its status shows that it can't take work; or there is no such way; or the job is strict, and its image gives a chosen region no byte
+-- its status shows that it can't take work; or the job is strict, and its image gives a chosen region no byte
 abbrev pub IsUnsuited : Job → Reading → Unflashed → Type 0
 IsUnsuited job r (Closed status) = (status ≡ r.status) × (suits job.ask.part (start_at job r.status) r.status ≡ false)
-IsUnsuited job r (Unlike Unreadable) = has_way r.meaning (start_of (flash_task job r.tables.items)) ≡ false
 IsUnsuited job r (Refused why) = RefusesEmpty job.strict (flash_task job r.tables.items) (length r.content.items) why
 IsUnsuited job r other = ⊥
 
@@ -131,7 +123,7 @@ pub record LacksWay (job : Job) (r : Reading) (out_before out_after : Option (Li
   pub steps : List Step
   pub middle : Option (List ℕ)
   pub work : IsWork (flash_task job r.tables.items) r.content.items (unwrap_or (dump_of job) r.content.items) goal steps out_before middle
-  pub cut : Cuts middle out_after (way_text job.dry steps job.texts.now)
+  pub cut : Cuts middle out_after (last_text job r steps)
 
 -- the work was planned and printed, and the chip isn't the one of the older dump
 pub record IsOnAnother (job : Job) (r : Reading) (out_before out_after : Option (List ℕ)) : Type 0 where

@@ -20,7 +20,6 @@ ghost use Rattle.norprog_read.specs.Blame.{CountsBoth};
 ghost use Rattle.norprog_flash.specs.Stops.{CantPlan, CountsOut, MissesEnd, StopsBefore};
 ghost use Rattle.norprog_flash.specs.Stops.{StopsBegun};
 
-use crate::back::way_of;
 use crate::ending::Unflashed;
 use crate::job::{Job, inputs_for};
 use crate::resumed::is_of_dump;
@@ -31,7 +30,7 @@ use nor_probe::{Mismatch, suits};
 use nor_reader::{ReadBy, read_past};
 use nor_serprog::Limits;
 use norprog_common::{FileName, FileStore, Refusal, refuse_empty};
-use norprog_read::{Reading, Unlike, read_chip, save};
+use norprog_read::{Reading, Unlike, first_by, read_chip, save};
 use norprog_work::{Work, work_for};
 use std::alloc::Global;
 
@@ -56,8 +55,9 @@ pub(crate) fn begin<S: FileStore, R: ByteIn, W: ByteOut, O: ByteOut>(
     job: &Job<'_>,
     out: &mut O,
 ) -> Result<Begun, Unflashed>
-    requires room { HaveRoom (R.count from.old) (W.count to.old) }
-    requires out { O.count out.old < 2 ^ 64 - 1 }
+    requires whole { job.now.ask.content ≡ true }
+    requires room { HaveRoom (R.count from.old) (W.count to.old)
+        × (O.count out.old < 2 ^ 64 - 1) }
     ensures planned { IfOk result
         (λ begun. HasPlanned limits.now.asked (S.facts store.now) job.now (W.held to.old)
         (W.held to.new) (R.ahead from.old)
@@ -115,7 +115,7 @@ fn print_plan<O: ByteOut>(
     ) {
         return Err(Refusal::File(FileName::Resume));
     }
-    print_way(job, work.steps.as_slice(), out)?;
+    print_way(job, reading, work.steps.as_slice(), out)?;
     Ok(work)
 }
 
@@ -166,7 +166,8 @@ fn read_suited<R: ByteIn, W: ByteOut>(
     limits: &Limits,
     job: &Job<'_>,
 ) -> Result<(Reading, ReadBy), Unflashed>
-    requires room { HaveRoom (R.count from.old) (W.count to.old) }
+    requires asked { (job.now.ask.content ≡ true)
+        × HaveRoom (R.count from.old) (W.count to.old) }
     ensures read { IfOk result
         (λ read. HasRead limits.now.asked job.now (W.held to.old) (W.held to.new)
         (R.ahead from.old) (R.ahead from.new) read.0) }
@@ -186,14 +187,10 @@ fn read_suited<R: ByteIn, W: ByteOut>(
     if !suits(job.ask.part, start, reading.status) {
         return Err(Unflashed::Closed(reading.status));
     }
-    match way_of(&reading.meaning, said_start(job)) {
-        Some(by) => {
-            refuse_unfilled(alloc, job, &reading)?;
-            see_end(from, to, limits, by, reading.content.as_slice())?;
-            Ok((reading, by))
-        }
-        None => Err(Unflashed::Unlike(Unlike::Unreadable)),
-    }
+    let by = first_by(&reading.meaning, said_start(job));
+    refuse_unfilled(alloc, job, &reading)?;
+    see_end(from, to, limits, by, reading.content.as_slice())?;
+    Ok((reading, by))
 }
 
 /// Reads a chip of this content past its end, and sees that it ends there.

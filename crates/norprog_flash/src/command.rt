@@ -164,6 +164,8 @@ fn flash_texts<S: FileStore, O: ByteOut, P: ByteOut>(
             content: asked.content,
             erased_only,
             raw: asked.raw,
+            fresh: asked.fresh,
+            any_size: asked.any_size,
         },
         hex: files.hex.as_slice(),
         layout: bytes_in(&files.layout),

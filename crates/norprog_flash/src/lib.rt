@@ -7,7 +7,6 @@
 //! writes how it ended.
 #![tactic(auto)]
 
-mod back;
 mod begun;
 mod blame;
 mod command;

@@ -1,15 +1,16 @@
 //! The command that goes on with work that stopped, as a shell reads it.
 
-ghost use Rattle.std.specs.Prelude.{◌≡◌, ◌<◌, ◌-◌, ◌^◌, ◌++◌, flat_map, option_map};
-ghost use Rattle.std.specs.List.{list_all};
+ghost use Rattle.std.specs.Prelude.{◌≡◌, ◌<◌, ◌-◌, ◌^◌, ◌++◌, codes, flat_map, option_map};
 ghost use Rattle.nor_base.specs.Device.{Counts, Writes};
-ghost use Rattle.norprog_flash.specs.State.{first_name, flagged, given_text, is_bare, is_plain};
-ghost use Rattle.norprog_flash.specs.State.{name_text, named_text, next_command, next_options};
-ghost use Rattle.norprog_flash.specs.State.{option_front, quoted, quoted_word, region_word};
-ghost use Rattle.norprog_flash.specs.State.{regions_text, shell_word, valued};
+ghost use Rattle.norprog_device.specs.Setting.{stty_command};
+ghost use Rattle.norprog_device.specs.Shell.{shell_word};
+ghost use Rattle.norprog_flash.specs.State.{first_name, flagged, given_text, name_text};
+ghost use Rattle.norprog_flash.specs.State.{named_text, next_command, next_options, option_front};
+ghost use Rattle.norprog_flash.specs.State.{region_word, regions_text, set_text, valued, way_on};
 
 use nor_base::{ByteOut, Bytes, Failed, put_all, put_parts};
 use norprog_common::FlashArgs;
+use norprog_device::{write_stty, write_word};
 
 /// An option.
 #[derive(Clone, Copy)]
@@ -27,6 +28,8 @@ pub(crate) enum Name {
     ErasedOnly,
     Strict,
     Raw,
+    Fresh,
+    AnySize,
     Resume,
     Before,
 }
@@ -42,8 +45,43 @@ pub(crate) enum Given<'a> {
     Next(Name, Option<&'a str>),
 }
 
+/// Writes how to go on with work that stopped: what sets the terminal of the device, and the
+/// command.
+pub(crate) fn write_way_on<W: ByteOut>(given: &FlashArgs<'_>, writer: &mut W) -> Result<(), Failed>
+    requires { W.count writer.old < 2 ^ 64 - 1 }
+    ensures bytes { Writes (W.held writer.old) (W.held writer.new) result (way_on given.now) }
+    ensures count { Counts (W.count writer.old) (W.count writer.new) result }
+{
+    write_set(given.device, writer)?;
+    write_command(given, writer)
+}
+
+/// Writes what sets the terminal of the device, where one is named.
+fn write_set<W: ByteOut>(device: Option<&str>, writer: &mut W) -> Result<(), Failed>
+    requires { W.count writer.old < 2 ^ 64 - 1 }
+    ensures bytes { Writes (W.held writer.old) (W.held writer.new) result
+        (set_text (option_map (λ t. t.now) device.entry)) }
+    ensures count { Counts (W.count writer.old) (W.count writer.new) result }
+{
+    match device {
+        Some(device) => write_setting(device, writer),
+        None => Ok(()),
+    }
+}
+
+/// Writes what sets the terminal of this device.
+fn write_setting<W: ByteOut>(device: &str, writer: &mut W) -> Result<(), Failed>
+    requires { W.count writer.old < 2 ^ 64 - 1 }
+    ensures bytes { Writes (W.held writer.old) (W.held writer.new) result
+        (stty_command device.now ++ codes " && ") }
+    ensures count { Counts (W.count writer.old) (W.count writer.new) result }
+{
+    write_stty(device, writer)?;
+    put_all(writer, b" && ")
+}
+
 /// Writes the command that goes on with work that stopped.
-pub(crate) fn write_command<W: ByteOut>(given: &FlashArgs<'_>, writer: &mut W) -> Result<(), Failed>
+fn write_command<W: ByteOut>(given: &FlashArgs<'_>, writer: &mut W) -> Result<(), Failed>
     requires { W.count writer.old < 2 ^ 64 - 1 }
     ensures bytes { Writes (W.held writer.old) (W.held writer.new) result (next_command given.now) }
     ensures count { Counts (W.count writer.old) (W.count writer.new) result }
@@ -54,7 +92,7 @@ pub(crate) fn write_command<W: ByteOut>(given: &FlashArgs<'_>, writer: &mut W) -
 }
 
 /// Its options.
-fn options<'a>(given: &'a FlashArgs<'a>) -> [Given<'a>; 15]
+fn options<'a>(given: &'a FlashArgs<'a>) -> [Given<'a>; 17]
     ensures { flat_map given_text result ≡ next_options given.now }
 {
     [
@@ -71,6 +109,8 @@ fn options<'a>(given: &'a FlashArgs<'a>) -> [Given<'a>; 15]
         Given::Flag(Name::ErasedOnly, given.erased_only),
         Given::Flag(Name::Strict, given.strict),
         Given::Flag(Name::Raw, given.raw),
+        Given::Flag(Name::Fresh, given.fresh),
+        Given::Flag(Name::AnySize, given.any_size),
         Given::Text(Name::Resume, Some(first_name(given))),
         Given::Next(Name::Before, given.before),
     ]
@@ -188,6 +228,8 @@ fn name_text(name: Name) -> &'static [u8]
         Name::ErasedOnly => b"erased-only",
         Name::Strict => b"strict",
         Name::Raw => b"raw",
+        Name::Fresh => b"fresh",
+        Name::AnySize => b"any-size",
         Name::Resume => b"resume",
         Name::Before => b"before",
     }
@@ -237,78 +279,4 @@ fn write_name<W: ByteOut>(name: &Bytes, writer: &mut W) -> Result<(), Failed>
 {
     put_all(writer, b" ")?;
     write_word(name.as_slice(), writer)
-}
-
-/// Writes the word that a shell reads as a text.
-fn write_word<W: ByteOut>(text: &[u8], writer: &mut W) -> Result<(), Failed>
-    requires { W.count writer.old < 2 ^ 64 - 1 }
-    ensures bytes { Writes (W.held writer.old) (W.held writer.new) result (shell_word text.now) }
-    ensures count { Counts (W.count writer.old) (W.count writer.new) result }
-{
-    if is_bare(text) {
-        put_all(writer, text)
-    } else {
-        write_quoted_word(text, writer)
-    }
-}
-
-/// Writes a text between single quotes.
-fn write_quoted_word<W: ByteOut>(text: &[u8], writer: &mut W) -> Result<(), Failed>
-    requires { W.count writer.old < 2 ^ 64 - 1 }
-    ensures bytes { Writes (W.held writer.old) (W.held writer.new) result (quoted_word text.now) }
-    ensures count { Counts (W.count writer.old) (W.count writer.new) result }
-{
-    put_all(writer, b"'")?;
-    write_quoted(text, writer)?;
-    put_all(writer, b"'")
-}
-
-/// Whether a text is a word as it is.
-fn is_bare(text: &[u8]) -> bool
-    ensures { result ≡ is_bare text.now }
-{
-    match text {
-        [] => false,
-        [..] => are_plain(text),
-    }
-}
-
-/// Whether a text has only letters, digits, and - . / _
-fn are_plain(text: &[u8]) -> bool
-    ensures { result ≡ list_all is_plain text.now }
-{
-    text.iter().all(|byte| is_plain(*byte))
-}
-
-/// Whether it is a letter, a digit, or one of - . / _
-fn is_plain(byte: u8) -> bool
-    ensures { result ≡ is_plain byte }
-{
-    byte.is_ascii_alphanumeric() || b"-./_".contains(&byte)
-}
-
-/// Writes a text as it is between single quotes.
-fn write_quoted<W: ByteOut>(text: &[u8], writer: &mut W) -> Result<(), Failed>
-    requires { W.count writer.old < 2 ^ 64 - 1 }
-    ensures bytes { Writes (W.held writer.old) (W.held writer.new) result
-        (flat_map quoted text.now) }
-    ensures count { Counts (W.count writer.old) (W.count writer.new) result }
-{
-    for byte in text {
-        write_byte(*byte, writer)?;
-    }
-    Ok(())
-}
-
-/// Writes a byte as it is between single quotes.
-fn write_byte<W: ByteOut>(byte: u8, writer: &mut W) -> Result<(), Failed>
-    requires { W.count writer.old < 2 ^ 64 - 1 }
-    ensures bytes { Writes (W.held writer.old) (W.held writer.new) result (quoted byte) }
-    ensures count { Counts (W.count writer.old) (W.count writer.new) result }
-{
-    if byte == b'\'' {
-        put_all(writer, b"'\\''")
-    } else {
-        put_all(writer, &[byte])
-    }
 }

@@ -12,7 +12,7 @@ ghost use Rattle.norprog_flash.specs.State.{state_front, state_line};
 
 use crate::ending::Ending;
 use crate::line::write_ending;
-use crate::options::{first_name, write_command};
+use crate::options::{first_name, write_way_on};
 use nor_base::{ByteOut, Failed, put_all, put_parts};
 use norprog_common::{FlashArgs, Refusal, refuse};
 use norprog_failure::Failure;
@@ -83,7 +83,7 @@ fn write_line<E: ByteOut>(given: &FlashArgs<'_>, err: &mut E) -> Result<(), Fail
     ensures count { Counts (E.count err.old) (E.count err.new) result }
 {
     write_front(first_name(given), err)?;
-    write_command(given, err)?;
+    write_way_on(given, err)?;
     put_all(err, b"\n")
 }
 

@@ -61,5 +61,7 @@ fn read_args<'a>(given: &FlashArgs<'a>) -> ReadArgs<'a>
         tables: None,
         out: given.before,
         raw: given.raw,
+        fresh: given.fresh,
+        any_size: given.any_size,
     }
 }

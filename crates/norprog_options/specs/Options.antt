@@ -112,6 +112,8 @@ pub record IsReadIn (found : Found) (given : ReadArgs) : Type 0 where
   pub tables : Has found (codes "tables") (option_map (λ t. t.now) given.tables)
   pub out : Has found (codes "out") (option_map (λ t. t.now) given.out)
   pub raw : Sets found (codes "raw") given.raw
+  pub fresh : Sets found (codes "fresh") given.fresh
+  pub any_size : Sets found (codes "any-size") given.any_size
 
 pub record IsFlashIn (found : Found) (given : FlashArgs) : Type 0 where
   pub chip : IsChipIn found given.chip
@@ -127,6 +129,8 @@ pub record IsFlashIn (found : Found) (given : FlashArgs) : Type 0 where
   pub strict : Sets found (codes "strict") given.strict
   pub dry_run : Sets found (codes "dry-run") given.dry_run
   pub raw : Sets found (codes "raw") given.raw
+  pub fresh : Sets found (codes "fresh") given.fresh
+  pub any_size : Sets found (codes "any-size") given.any_size
   pub regions : given.regions.items ≡ texts_of found (codes "names")
 
 pub record IsBuildIn (found : Found) (given : BuildArgs) : Type 0 where

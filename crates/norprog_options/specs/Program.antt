@@ -78,13 +78,14 @@ commands =
     ∷ (codes "play", chip ++ content ++ start ++ script ++ needed (codes "device") ∷ optional (codes "limit") ∷ flag (codes "trust") ∷ details)
     ∷ (
       codes "read",
-      chip ++ flag (codes "mode4") ∷ needed (codes "device") ∷ optional (codes "limit") ∷ flag (codes "raw") ∷ optional (codes "tables")
-          ∷ optional (codes "out") ∷ details,
+      chip ++ flag (codes "mode4") ∷ needed (codes "device") ∷ optional (codes "limit") ∷ flag (codes "raw") ∷ flag (codes "fresh")
+          ∷ flag (codes "any-size") ∷ optional (codes "tables") ∷ optional (codes "out") ∷ details,
     )
     ∷ (
       codes "flash",
       image ++ chip ++ flag (codes "mode4") ∷ flag (codes "erased-only") ∷ flag (codes "strict") ∷ needed (codes "device")
-          ∷ optional (codes "limit") ∷ flag (codes "raw") ∷ needed (codes "before") ∷ optional (codes "resume") ∷ flag (codes "dry-run") ∷ details,
+          ∷ optional (codes "limit") ∷ flag (codes "raw") ∷ flag (codes "fresh") ∷ flag (codes "any-size") ∷ needed (codes "before")
+          ∷ optional (codes "resume") ∷ flag (codes "dry-run") ∷ details,
     )
     ∷ (codes "sfdp", chip ++ details)
     ∷ (codes "hex", needed (codes "bin") ∷ needed (codes "at") ∷ needed (codes "out") ∷ details)

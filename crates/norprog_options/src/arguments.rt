@@ -379,6 +379,21 @@ const RAW: Choice = Choice {
     help: "The tty hands on each byte as it comes [default: what was read has to show it]",
 };
 
+const FRESH: Choice = Choice {
+    name: "fresh",
+    takes: Takes::Nothing,
+    required: false,
+    help: "The chip's power was just switched on: its address mode is the one it begins in \
+        [default: no]",
+};
+
+const ANY_SIZE: Choice = Choice {
+    name: "any-size",
+    takes: Takes::Nothing,
+    required: false,
+    help: "The chip's tables may say another size than --uniform [default: no]",
+};
+
 const TRUST: Choice = Choice {
     name: "trust",
     takes: Takes::Nothing,
@@ -505,7 +520,9 @@ static FORMS: [Form; 13] = [
         about: "Reads the chip behind a serprog device twice: its tables and its content",
         example: "Example: norprog read --device /dev/ttyACM0 --tables now.sfdp --out now.bin",
         groups: &[Group::Chip],
-        choices: &[MODE4, DEVICE, LIMIT, RAW, TABLES_OUT, READ_OUT],
+        choices: &[
+            MODE4, DEVICE, LIMIT, RAW, FRESH, ANY_SIZE, TABLES_OUT, READ_OUT,
+        ],
     },
     Form {
         name: "flash",
@@ -521,6 +538,8 @@ static FORMS: [Form; 13] = [
             DEVICE,
             LIMIT,
             RAW,
+            FRESH,
+            ANY_SIZE,
             BEFORE,
             RESUME,
             DRY_RUN,

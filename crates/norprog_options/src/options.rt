@@ -329,6 +329,8 @@ fn read_in<'a>(read: &ArgMatches<'a>) -> ReadArgs<'a>
         tables: read.get_str("tables"),
         out: read.get_str("out"),
         raw: read.get_flag("raw"),
+        fresh: read.get_flag("fresh"),
+        any_size: read.get_flag("any-size"),
     }
 }
 
@@ -351,6 +353,8 @@ fn flash_in<'a>(alloc: Global, flash: &ArgMatches<'a>) -> Result<FlashArgs<'a>, 
         strict: flash.get_flag("strict"),
         dry_run: flash.get_flag("dry-run"),
         raw: flash.get_flag("raw"),
+        fresh: flash.get_flag("fresh"),
+        any_size: flash.get_flag("any-size"),
         regions: texts_in(alloc, flash, "names")?,
     })
 }

@@ -1,27 +1,33 @@
 -- What a reading of a chip sends changes nothing of what the chip holds.
-use Rattle.std.proofs.Common.{◌≡◌, inl, inr, ℕ, Bool, true, false, List, Option, Result, Ok, Err, IfOk, IfErr, sym, subst}
+use Rattle.std.proofs.Common.{◌≡◌, ℕ, Bool, true, false, List, [], ◌∷◌, Option, Result, Ok, Err, IfOk, IfErr, refl, sym, subst}
 use Rattle.std.specs.Prelude.{MatchResult}
 use Rattle.nor_base.specs.declared.meaning.Start.{Start}
+use Rattle.nor_base.specs.Chip.{begins4}
 use Rattle.nor_base.specs.Device.{Ahead}
 use Rattle.nor_base.specs.Parameters.{Parameters}
-use Rattle.nor_job.specs.declared.fault.BuildFault.TheVariants as build
 use Rattle.nor_job.specs.Status.{start_of}
 use Rattle.nor_probe.specs.declared.difference.Mismatch.TheVariants.{Exchange, Differs}
-use Rattle.nor_reader.specs.declared.tables.TablesFault.TheVariants as tables
-use Rattle.nor_reader.specs.Harmless.{HasSentHarmless, SendsHarmless}
-use Rattle.nor_reader.proofs.HarmlessLemmas.{both_sent, id_sends, id_sent, none_sent, status_sends, status_sent, tables_sends, tables_sent, then_sends, twice_sends, twice_sent, whole_sent}
+use Rattle.nor_probe.specs.declared.own.AddressRegister.{AddressRegister}
+use Rattle.nor_probe.specs.declared.own.AddressRegister.TheVariants.{Extended, Bank}
+use Rattle.nor_probe.specs.Own.{opcode_of}
+use Rattle.nor_reader.specs.Harmless.{is_harmless, HasSentHarmless, SendsHarmless}
+use Rattle.nor_reader.specs.Telling.{opcode_to}
+use Rattle.nor_reader.proofs.HarmlessLemmas.{both_sent, id_sends, id_sent, none_sent, register_sends, register_sent, status_sends, status_sent, switched_sends, switched_sent, tables_none, tables_sends, tables_sent, then_sends, twice_sends, twice_sent, whole_sent}
 use Rattle.nor_serprog.specs.declared.fault.Reason.TheVariants as reason
-use Rattle.nor_sfdp.specs.declared.fault.SfdpFault.TheVariants as sfdp
-use Rattle.norprog_common.specs.declared.faults.Refusal.TheVariants as refusal
 use Rattle.norprog_read.specs.declared.asked.Ask.{Ask}
 use Rattle.norprog_read.specs.declared.asked.Known.{Known}
-use Rattle.norprog_read.specs.declared.asked.Known.TheVariants as known
 use Rattle.norprog_read.specs.declared.asked.Reading.{Reading}
-use Rattle.norprog_read.specs.declared.fault.Unlike.TheVariants as unlike
 use Rattle.norprog_read.specs.declared.fault.Unread.{Unread}
-use Rattle.norprog_read.specs.declared.fault.Unread.TheVariants.{Refused, Device, Unlike}
-use Rattle.norprog_read.specs.Chip.{chip_task, GivesContent, GivesTables, HasReadChip}
-use Rattle.norprog_read.specs.Stops.{GivesOtherId, IsHeld, IsIdentified, IsKnown, ShowsMode, StopsAsked, StopsChip, StopsContent, StopsId, StopsOwn, StopsStatus}
+use Rattle.norprog_read.specs.declared.mode.Modes.{Modes}
+use Rattle.norprog_read.specs.Asked as asked
+use Rattle.norprog_read.specs.Asked.{StopsId, StopsStatus}
+use Rattle.norprog_read.specs.Chip.{chip_task, Come, GivesContent, GivesTables, HasReadChip, Unsigned}
+use Rattle.norprog_read.specs.Modes as modes
+use Rattle.norprog_read.specs.Modes.{mode_ops, switch_to, MakesMode, StopsMode}
+use Rattle.norprog_read.specs.Size as size
+use Rattle.norprog_read.specs.Size.{asked_register, IsUnmoved, StopsMoved}
+use Rattle.norprog_read.specs.Stops as stops
+use Rattle.norprog_read.specs.Stops.{IsHeld, IsIdentified, IsKnown, IsReady, StopsAsked, StopsChip, StopsContent}
 use Rattle.norprog_read.specs.Way.{first_by, second_by}
 
 -- nothing was sent
@@ -29,185 +35,140 @@ stays : (h i : Option (List ℕ)) → i ≡ h → HasSentHarmless h i
 stays h i same = subst (λ (j : Option (List ℕ)). HasSentHarmless h j) (sym same) (none_sent h)
 
 gives_tables : (most : ℕ) (h i : Option (List ℕ)) (a b : Ahead) (by : Known) (chip : List ℕ) → GivesTables most h i a b by chip → HasSentHarmless h i
-gives_tables most h i a b (known.Uniform size) chip p = stays h i p.1
-gives_tables most h i a b known.Own chip p = tables_sent most h i a b chip p
-gives_tables most h i a b (known.Tables file) chip p = tables_sent most h i a b chip p
+gives_tables most h i a b by chip (Come tables read) = tables_sent most h i a b tables read
+gives_tables most h i a b by chip (Unsigned of none) = tables_none most h i a b none
 
-gives_content : (most : ℕ) (h i : Option (List ℕ)) (a b : Ahead) (m : Parameters) (start : Start) (wanted : Bool) (content : List ℕ)
-    → GivesContent most h i a b m start wanted content → HasSentHarmless h i
-gives_content most h i a b m start true content p = twice_sent most h i a b (first_by m start) (second_by m start) content p.twice
-gives_content most h i a b m start false content p = stays h i p.1
+gives_content : (most : ℕ) (h i : Option (List ℕ)) (a b : Ahead) (m : Parameters) (start : Start) (sure wanted : Bool) (content : List ℕ)
+    → GivesContent most h i a b m start sure wanted content → HasSentHarmless h i
+gives_content most h i a b m start sure true content p =
+    twice_sent most h i a b (first_by m start) (second_by m start sure) content p.twice
+gives_content most h i a b m start sure false content p = stays h i p.1
+
+-- the mode is made by operations that change nothing
+to_harmless : (said : Bool) → is_harmless (opcode_to said ∷ []) ≡ true
+to_harmless true = refl
+to_harmless false = refl
+
+made_sent : (h i : Option (List ℕ)) (a b : Ahead) (ask : Ask) (wanted said : Bool) (known : Modes) (before after : ℕ)
+    → MakesMode h i a b ask (mode_ops wanted said known) before after → HasSentHarmless h i
+made_sent h i a b ask wanted said known before after (modes.Sent unshown wire) =
+    switched_sent h i a b (switch_to wanted said known) (opcode_to said) (to_harmless said) wire
+made_sent h i a b ask wanted said known before after (modes.Shown shown right same none) = stays h i same
+made_sent h i a b ask wanted said known before after (modes.Made held ahead status wire read right) =
+    both_sent h held i (switched_sent h held a ahead (switch_to wanted said known) (opcode_to said) (to_harmless said) wire)
+    (status_sent ask.part held i ahead b status ask.turns read)
+
+-- a register that moves addresses is read
+register_harmless : (register : AddressRegister) → is_harmless (opcode_of register ∷ []) ≡ true
+register_harmless Extended = refl
+register_harmless Bank = refl
+
+unmoved_sent : (h i : Option (List ℕ)) (a b : Ahead) (asked : Option AddressRegister) → IsUnmoved h i a b asked → HasSentHarmless h i
+unmoved_sent h i a b asked (size.Unasked same none) = stays h i same
+unmoved_sent h i a b asked (size.Unmoved register value read home) =
+    register_sent h i a b (opcode_of register) value (register_harmless register) read
+
+stops_moved : (h i : Option (List ℕ)) (a b : Ahead) (asked : Option AddressRegister) (why : Unread) → StopsMoved h i a b asked why → SendsHarmless h i
+stops_moved h i a b asked why (size.Lost register fault is p) = register_sends h i a b (opcode_of register) fault (register_harmless register) p
+stops_moved h i a b asked why (size.Moved register value is read away) =
+    whole_sent h i (register_sent h i a b (opcode_of register) value (register_harmless register) read)
 
 read_sent : (most : ℕ) (h i : Option (List ℕ)) (a b : Ahead) (ask : Ask) (r : Reading) → HasReadChip most h i a b ask r → HasSentHarmless h i
 read_sent most h i a b ask r p =
-    both_sent h p.h1 i (status_sent ask.part h p.h1 a p.a1 r.status ask.turns p.status)
+    both_sent h p.h1 i (status_sent ask.part h p.h1 a p.a1 p.first ask.turns p.idle)
     (both_sent p.h1 p.h2 i (id_sent p.h1 p.h2 p.a1 p.a2 r.id p.id)
     (both_sent p.h2 p.h3 i (gives_tables most p.h2 p.h3 p.a2 p.a3 ask.known r.tables.items p.tables)
-    (both_sent p.h3 p.h4 i (gives_content most p.h3 p.h4 p.a3 p.a4 r.meaning (start_of (chip_task ask r.tables.items)) ask.content r.content.items
+    (both_sent p.h3 p.hr i (made_sent p.h3 p.hr p.a3 p.ar ask ask.content (begins4 r.meaning (start_of (chip_task ask r.tables.items)))
+    (modes.modes_of ask.known r.tables.items r.meaning) p.first r.status p.made)
+    (both_sent p.hr p.h4 i (unmoved_sent p.hr p.h4 p.ar p.a4 (asked_register ask.content r.tables.items) p.unmoved)
+    (both_sent p.h4 p.h5 i (gives_content most p.h4 p.h5 p.a4 p.a5 r.meaning (start_of (chip_task ask r.tables.items))
+    (modes.is_sure ask (begins4 r.meaning (start_of (chip_task ask r.tables.items))) (modes.modes_of ask.known r.tables.items r.meaning)) ask.content r.content.items
     p.content)
-    (id_sent p.h4 i p.a4 b r.id p.again))))
+    (id_sent p.h5 i p.a5 b r.id p.again))))))
 
 stops_status : (h i : Option (List ℕ)) (a b : Ahead) (ask : Ask) (why : Unread) → StopsStatus h i a b ask why → SendsHarmless h i
-stops_status h i a b ask (Unlike unlike.Busy) p = status_sends ask.part h i a b reason.Busy ask.turns p
-stops_status h i a b ask (Unlike (unlike.Asking why)) p = status_sends ask.part h i a b (reason.Exchange why) ask.turns p
-stops_status h i a b ask (Unlike (unlike.Mode status)) p = whole_sent h i (status_sent ask.part h i a b status ask.turns p.0)
-stops_status h i a b ask (Unlike unlike.Line) p = absurd p
-stops_status h i a b ask (Unlike (unlike.At address)) p = absurd p
-stops_status h i a b ask (Unlike (unlike.Tables d)) p = absurd p
-stops_status h i a b ask (Unlike (unlike.Id id)) p = absurd p
-stops_status h i a b ask (Unlike unlike.Unreadable) p = absurd p
-stops_status h i a b ask (Refused why) p = absurd p
-stops_status h i a b ask (Device why) p = absurd p
+stops_status h i a b ask why (asked.Busy p) = status_sends ask.part h i a b reason.Busy ask.turns p
+stops_status h i a b ask why (asked.Lost fault p) = status_sends ask.part h i a b (reason.Exchange fault) ask.turns p
 
 stops_id : (h i : Option (List ℕ)) (a b : Ahead) (why : Unread) → StopsId h i a b why → SendsHarmless h i
-stops_id h i a b (Unlike (unlike.Asking why)) p = id_sends h i a b why p
-stops_id h i a b (Unlike (unlike.Id id)) p = whole_sent h i (id_sent h i a b id p.0)
-stops_id h i a b (Unlike unlike.Busy) p = absurd p
-stops_id h i a b (Unlike (unlike.Mode status)) p = absurd p
-stops_id h i a b (Unlike unlike.Line) p = absurd p
-stops_id h i a b (Unlike (unlike.At address)) p = absurd p
-stops_id h i a b (Unlike (unlike.Tables d)) p = absurd p
-stops_id h i a b (Unlike unlike.Unreadable) p = absurd p
-stops_id h i a b (Refused why) p = absurd p
-stops_id h i a b (Device why) p = absurd p
+stops_id h i a b why (asked.Unsaid fault p) = id_sends h i a b fault p
+stops_id h i a b why (asked.Undriven id p undriven) = whole_sent h i (id_sent h i a b id p)
 
-other_id : (h i : Option (List ℕ)) (a b : Ahead) (id : List ℕ) (why : Unread) → GivesOtherId h i a b id why → SendsHarmless h i
-other_id h i a b id (Unlike (unlike.Id other)) p = whole_sent h i (id_sent h i a b other p.0)
-other_id h i a b id (Unlike (unlike.Asking why)) p = absurd p
-other_id h i a b id (Unlike unlike.Busy) p = absurd p
-other_id h i a b id (Unlike (unlike.Mode status)) p = absurd p
-other_id h i a b id (Unlike unlike.Line) p = absurd p
-other_id h i a b id (Unlike (unlike.At address)) p = absurd p
-other_id h i a b id (Unlike (unlike.Tables d)) p = absurd p
-other_id h i a b id (Unlike unlike.Unreadable) p = absurd p
-other_id h i a b id (Refused why) p = absurd p
-other_id h i a b id (Device why) p = absurd p
+stops_asked : (most : ℕ) (h i : Option (List ℕ)) (a b : Ahead) (by : Known) (id : List ℕ) (why : Unread) → StopsAsked most h i a b by id why
+    → SendsHarmless h i
+stops_asked most h i a b by id why (stops.Uncome fault of p is none) = tables_sends most h i a b fault p
+stops_asked most h i a b by id why (stops.Other file chip of is read differs) = whole_sent h i (tables_sent most h i a b chip read)
 
--- each cause of a stop at the tables is one of the reader's
-stops_own : (most : ℕ) (h i : Option (List ℕ)) (a b : Ahead) (why : Unread) → StopsOwn most h i a b why → SendsHarmless h i
-stops_own most h i a b (Refused refusal.Usage) p = absurd p
-stops_own most h i a b (Refused (refusal.Text words)) p = absurd p
-stops_own most h i a b (Refused (refusal.File name)) p = absurd p
-stops_own most h i a b (Refused refusal.Page) p = absurd p
-stops_own most h i a b (Refused (refusal.Script why)) p = absurd p
-stops_own most h i a b (Refused refusal.BinSize) p = absurd p
-stops_own most h i a b (Refused (refusal.Steps number)) p = absurd p
-stops_own most h i a b (Refused (refusal.EmptyRegion index)) p = absurd p
-stops_own most h i a b (Refused (refusal.Log line)) p = absurd p
-stops_own most h i a b (Refused (refusal.Build build.Memory)) p = tables_sends most h i a b tables.Memory p
-stops_own most h i a b (Refused (refusal.Build (build.Sfdp sfdp.Signature))) p = tables_sends most h i a b tables.NoSignature p
-stops_own most h i a b (Refused (refusal.Build (build.Sfdp sfdp.Truncated))) p = absurd p
-stops_own most h i a b (Refused (refusal.Build (build.Sfdp sfdp.NoBasic))) p = absurd p
-stops_own most h i a b (Refused (refusal.Build (build.Sfdp sfdp.Major))) p = absurd p
-stops_own most h i a b (Refused (refusal.Build (build.Sfdp sfdp.ShortTable))) p = absurd p
-stops_own most h i a b (Refused (refusal.Build (build.Sfdp sfdp.Density))) p = absurd p
-stops_own most h i a b (Refused (refusal.Build (build.Sfdp sfdp.AddressBytes))) p = absurd p
-stops_own most h i a b (Refused (refusal.Build (build.Sfdp sfdp.PageSize))) p = absurd p
-stops_own most h i a b (Refused (refusal.Build (build.Sfdp sfdp.EraseSize))) p = absurd p
-stops_own most h i a b (Refused (refusal.Build (build.Sfdp sfdp.MapForm))) p = absurd p
-stops_own most h i a b (Refused (refusal.Build (build.Sfdp sfdp.ConfigBits))) p = absurd p
-stops_own most h i a b (Refused (refusal.Build (build.Sfdp sfdp.NoMap))) p = absurd p
-stops_own most h i a b (Refused (refusal.Build (build.Sfdp sfdp.MapSize))) p = absurd p
-stops_own most h i a b (Refused (refusal.Build (build.Sfdp sfdp.Opcode))) p = absurd p
-stops_own most h i a b (Refused (refusal.Build (build.Contradiction number))) p = absurd p
-stops_own most h i a b (Refused (refusal.Build (build.Hex why))) p = absurd p
-stops_own most h i a b (Refused (refusal.Build (build.Layout why))) p = absurd p
-stops_own most h i a b (Refused (refusal.Build (build.Status number))) p = absurd p
-stops_own most h i a b (Refused (refusal.Build build.ModeImpossible)) p = absurd p
-stops_own most h i a b (Refused (refusal.Build build.ContentSize)) p = absurd p
-stops_own most h i a b (Refused (refusal.Build (build.Plan why))) p = absurd p
-stops_own most h i a b (Refused (refusal.Build build.ContentShort)) p = absurd p
-stops_own most h i a b (Refused (refusal.Build build.Read)) p = absurd p
-stops_own most h i a b (Refused (refusal.Build build.Write)) p = absurd p
-stops_own most h i a b (Unlike (unlike.Asking why)) p = tables_sends most h i a b (tables.Unread (Exchange why)) p
-stops_own most h i a b (Unlike (unlike.At address)) p = tables_sends most h i a b (tables.Unread (Differs p.0)) p.2
-stops_own most h i a b (Unlike (unlike.Id id)) p = absurd p
-stops_own most h i a b (Unlike unlike.Busy) p = absurd p
-stops_own most h i a b (Unlike (unlike.Mode status)) p = absurd p
-stops_own most h i a b (Unlike unlike.Line) p = absurd p
-stops_own most h i a b (Unlike (unlike.Tables d)) p = absurd p
-stops_own most h i a b (Unlike unlike.Unreadable) p = absurd p
-stops_own most h i a b (Device why) p = absurd p
+stops_mode : (h i : Option (List ℕ)) (a b : Ahead) (ask : Ask) (wanted said : Bool) (known : Modes) (why : Unread)
+    → StopsMode h i a b ask (mode_ops wanted said known) why → SendsHarmless h i
+stops_mode h i a b ask wanted said known why (modes.Unsent fault p) =
+    switched_sends h i a b (switch_to wanted said known) (opcode_to said) fault (to_harmless said) p
+stops_mode h i a b ask wanted said known why (modes.Unasked held ahead of wire p) =
+    then_sends h held i (switched_sent h held a ahead (switch_to wanted said known) (opcode_to said) (to_harmless said) wire)
+    (stops_status held i ahead b ask of p)
+stops_mode h i a b ask wanted said known why (modes.Otherwise held ahead after wire read other) =
+    then_sends h held i (switched_sent h held a ahead (switch_to wanted said known) (opcode_to said) (to_harmless said) wire)
+    (whole_sent held i (status_sent ask.part held i ahead b after ask.turns read))
 
-stops_asked : (most : ℕ) (h i : Option (List ℕ)) (a b : Ahead) (by : Known) (why : Unread) → StopsAsked most h i a b by why → SendsHarmless h i
-stops_asked most h i a b known.Own why p = stops_own most h i a b why p
-stops_asked most h i a b (known.Tables file) why (inl p) = stops_own most h i a b why p
-stops_asked most h i a b (known.Tables file) why (inr p) = whole_sent h i (tables_sent most h i a b p.0 p.1)
-stops_asked most h i a b (known.Uniform size) why p = absurd p
+stops_content : (most : ℕ) (h i : Option (List ℕ)) (a b : Ahead) (m : Parameters) (start : Start) (sure : Bool) (why : Unread)
+    → StopsContent most h i a b m start sure why → SendsHarmless h i
+stops_content most h i a b m start sure why (stops.Unreadable un same none) = whole_sent h i (stays h i same)
+stops_content most h i a b m start sure why (stops.NoMemory same none) = whole_sent h i (stays h i same)
+stops_content most h i a b m start sure why (stops.Lost content fault p) =
+    twice_sends most h i a b (first_by m start) (second_by m start sure) content (Exchange fault) p
+stops_content most h i a b m start sure why (stops.Other content d p) =
+    twice_sends most h i a b (first_by m start) (second_by m start sure) content (Differs d) p
+stops_content most h i a b m start sure why (stops.Hidden content unsure twice hides) =
+    whole_sent h i (twice_sent most h i a b (first_by m start) (second_by m start sure) content twice)
 
-stops_content : (most : ℕ) (h i : Option (List ℕ)) (a b : Ahead) (m : Parameters) (start : Start) (why : Unread)
-    → StopsContent most h i a b m start why → SendsHarmless h i
-stops_content most h i a b m start (Refused refusal.Usage) p = absurd p
-stops_content most h i a b m start (Refused (refusal.Text words)) p = absurd p
-stops_content most h i a b m start (Refused (refusal.File name)) p = absurd p
-stops_content most h i a b m start (Refused refusal.Page) p = absurd p
-stops_content most h i a b m start (Refused (refusal.Script why)) p = absurd p
-stops_content most h i a b m start (Refused refusal.BinSize) p = absurd p
-stops_content most h i a b m start (Refused (refusal.Steps number)) p = absurd p
-stops_content most h i a b m start (Refused (refusal.EmptyRegion index)) p = absurd p
-stops_content most h i a b m start (Refused (refusal.Log line)) p = absurd p
-stops_content most h i a b m start (Refused (refusal.Build build.Memory)) p = whole_sent h i (stays h i p.0)
-stops_content most h i a b m start (Refused (refusal.Build (build.Sfdp why))) p = absurd p
-stops_content most h i a b m start (Refused (refusal.Build (build.Contradiction number))) p = absurd p
-stops_content most h i a b m start (Refused (refusal.Build (build.Hex why))) p = absurd p
-stops_content most h i a b m start (Refused (refusal.Build (build.Layout why))) p = absurd p
-stops_content most h i a b m start (Refused (refusal.Build (build.Status number))) p = absurd p
-stops_content most h i a b m start (Refused (refusal.Build build.ModeImpossible)) p = absurd p
-stops_content most h i a b m start (Refused (refusal.Build build.ContentSize)) p = absurd p
-stops_content most h i a b m start (Refused (refusal.Build (build.Plan why))) p = absurd p
-stops_content most h i a b m start (Refused (refusal.Build build.ContentShort)) p = absurd p
-stops_content most h i a b m start (Refused (refusal.Build build.Read)) p = absurd p
-stops_content most h i a b m start (Refused (refusal.Build build.Write)) p = absurd p
-stops_content most h i a b m start (Unlike (unlike.Asking why)) p =
-    twice_sends most h i a b (first_by m start) (second_by m start) p.0 (Exchange why) p.1
-stops_content most h i a b m start (Unlike (unlike.At address)) p =
-    twice_sends most h i a b (first_by m start) (second_by m start) p.0 (Differs p.1) p.3
-stops_content most h i a b m start (Unlike unlike.Unreadable) p = whole_sent h i (stays h i p.1)
-stops_content most h i a b m start (Unlike (unlike.Id id)) p = absurd p
-stops_content most h i a b m start (Unlike unlike.Busy) p = absurd p
-stops_content most h i a b m start (Unlike (unlike.Mode status)) p = absurd p
-stops_content most h i a b m start (Unlike unlike.Line) p = absurd p
-stops_content most h i a b m start (Unlike (unlike.Tables d)) p = absurd p
-stops_content most h i a b m start (Device why) p = absurd p
+identified : (h i : Option (List ℕ)) (a b : Ahead) (ask : Ask) → IsIdentified h i a b ask → HasSentHarmless h i
+identified h i a b ask p =
+    both_sent h p.held i (status_sent ask.part h p.held a p.ahead p.status ask.turns p.idle) (id_sent p.held i p.ahead b p.id p.read)
 
--- what was read before it stopped
-shows_sent : (h i : Option (List ℕ)) (a b : Ahead) (ask : Ask) → ShowsMode h i a b ask → HasSentHarmless h i
-shows_sent h i a b ask p = status_sent ask.part h i a b p.status ask.turns p.read
+known : (most : ℕ) (h i : Option (List ℕ)) (a b : Ahead) (ask : Ask) → IsKnown most h i a b ask → HasSentHarmless h i
+known most h i a b ask p =
+    both_sent h p.held i (identified h p.held a p.ahead ask p.identified) (gives_tables most p.held i p.ahead b ask.known p.chip p.read)
 
-identified_sent : (h i : Option (List ℕ)) (a b : Ahead) (ask : Ask) (id : List ℕ) → IsIdentified h i a b ask id → HasSentHarmless h i
-identified_sent h i a b ask id p = both_sent h p.held i (shows_sent h p.held a p.ahead ask p.shows) (id_sent p.held i p.ahead b id p.read)
+ready : (most : ℕ) (h i : Option (List ℕ)) (a b : Ahead) (ask : Ask) → IsReady most h i a b ask → HasSentHarmless h i
+ready most h i a b ask p =
+    both_sent h p.held i (known most h p.held a p.ahead ask p.known)
+    (both_sent p.held p.held_made i (made_sent p.held p.held_made p.ahead p.ahead_made ask ask.content (begins4 p.m (start_of (chip_task ask p.known.chip)))
+    (modes.modes_of ask.known p.known.chip p.m) p.known.identified.status p.after p.made)
+    (unmoved_sent p.held_made i p.ahead_made b (asked_register ask.content p.known.chip) p.unmoved))
 
-known_sent : (most : ℕ) (h i : Option (List ℕ)) (a b : Ahead) (ask : Ask) (id chip : List ℕ) → IsKnown most h i a b ask id chip → HasSentHarmless h i
-known_sent most h i a b ask id chip p =
-    both_sent h p.held i (identified_sent h p.held a p.ahead ask id p.identified) (gives_tables most p.held i p.ahead b ask.known chip p.read)
-
-held_sent : (most : ℕ) (h i : Option (List ℕ)) (a b : Ahead) (ask : Ask) (id : List ℕ) → IsHeld most h i a b ask id → HasSentHarmless h i
-held_sent most h i a b ask id p =
-    both_sent h p.held i (known_sent most h p.held a p.ahead ask id p.chip p.known)
-    (gives_content most p.held i p.ahead b p.m (start_of (chip_task ask p.chip)) ask.content p.content p.read)
+held : (most : ℕ) (h i : Option (List ℕ)) (a b : Ahead) (ask : Ask) → IsHeld most h i a b ask → HasSentHarmless h i
+held most h i a b ask p =
+    both_sent h p.held i (ready most h p.held a p.ahead ask p.ready)
+    (gives_content most p.held i p.ahead b p.ready.m (start_of (chip_task ask p.ready.known.chip))
+    (modes.is_sure ask (begins4 p.ready.m (start_of (chip_task ask p.ready.known.chip))) (modes.modes_of ask.known p.ready.known.chip p.ready.m))
+    ask.content p.content p.read)
 
 chip_sends : (most : ℕ) (h i : Option (List ℕ)) (a b : Ahead) (ask : Ask) (why : Unread) → StopsChip most h i a b ask why → SendsHarmless h i
-chip_sends most h i a b ask why (inl (inl p)) = whole_sent h i (stays h i p.0)
-chip_sends most h i a b ask why (inl (inr p)) = stops_status h i a b ask why p
-chip_sends most h i a b ask why (inr (inl p)) =
-    then_sends h p.held i (shows_sent h p.held a p.ahead ask p.shows) (stops_id p.held i p.ahead b why p.stop)
-chip_sends most h i a b ask why (inr (inr (inl p))) =
-    then_sends h p.held i (identified_sent h p.held a p.ahead ask p.id p.identified) (stops_asked most p.held i p.ahead b ask.known why p.stop)
-chip_sends most h i a b ask why (inr (inr (inr (inl p)))) = whole_sent h i (known_sent most h i a b ask p.id p.chip p.known)
-chip_sends most h i a b ask why (inr (inr (inr (inr (inl p))))) =
-    then_sends h p.held i (known_sent most h p.held a p.ahead ask p.id p.chip p.known)
-    (stops_content most p.held i p.ahead b p.m (start_of (chip_task ask p.chip)) why p.stop)
-chip_sends most h i a b ask why (inr (inr (inr (inr (inr (inl p)))))) =
-    then_sends h p.held i (held_sent most h p.held a p.ahead ask p.id p.is_held) (elim p.stop [
-      | inl stop ↦ stops_id p.held i p.ahead b why stop
-      | inr other ↦ other_id p.held i p.ahead b p.id why other
-    ])
-chip_sends most h i a b ask why (inr (inr (inr (inr (inr (inr p)))))) =
-    whole_sent h i (both_sent h p.held i (held_sent most h p.held a p.ahead ask p.id p.is_held) (id_sent p.held i p.ahead b p.id p.again))
+chip_sends most h i a b ask why (stops.AtFile of same none p) = whole_sent h i (stays h i same)
+chip_sends most h i a b ask why (stops.AtStatus of p) = stops_status h i a b ask of p
+chip_sends most h i a b ask why (stops.AtId j c status of idle p) =
+    then_sends h j i (status_sent ask.part h j a c status ask.turns idle) (stops_id j i c b of p)
+chip_sends most h i a b ask why (stops.AtTables j c said of p) =
+    then_sends h j i (identified h j a c ask said) (stops_asked most j i c b ask.known said.id of p)
+chip_sends most h i a b ask why (stops.AtMeaning is of refusal refused told) = whole_sent h i (known most h i a b ask is)
+chip_sends most h i a b ask why (stops.AtSize is of told) = whole_sent h i (known most h i a b ask is)
+chip_sends most h i a b ask why (stops.AtRegister j k c d is m after of means made p) =
+    then_sends h j i (known most h j a c ask is)
+    (then_sends j k i (made_sent j k c d ask ask.content (begins4 m (start_of (chip_task ask is.chip))) (modes.modes_of ask.known is.chip m)
+    is.identified.status after made) (stops_moved k i d b (asked_register ask.content is.chip) of p))
+chip_sends most h i a b ask why (stops.AtMode j c is m of means p) =
+    then_sends h j i (known most h j a c ask is) (stops_mode j i c b ask ask.content (begins4 m (start_of (chip_task ask is.chip))) (modes.modes_of ask.known is.chip m) of p)
+chip_sends most h i a b ask why (stops.AtContent j c is of wanted p) =
+    then_sends h j i (ready most h j a c ask is) (stops_content most j i c b is.m (start_of (chip_task ask is.known.chip))
+    (modes.is_sure ask (begins4 is.m (start_of (chip_task ask is.known.chip))) (modes.modes_of ask.known is.known.chip is.m)) of p)
+chip_sends most h i a b ask why (stops.AtEnd j c is of p) = then_sends h j i (held most h j a c ask is) (stops_id j i c b of p)
+chip_sends most h i a b ask why (stops.OtherId j c is other p differs) =
+    then_sends h j i (held most h j a c ask is) (whole_sent j i (id_sent j i c b other p))
+chip_sends most h i a b ask why (stops.AtLine j c is p hides) =
+    then_sends h j i (held most h j a c ask is) (whole_sent j i (id_sent j i c b is.ready.known.identified.id p))
 
--- whatever the result
 pub reading_sends : (most : ℕ) (h i : Option (List ℕ)) (a b : Ahead) (ask : Ask) (r : Result Reading Unread)
-    → IfOk r (HasReadChip most h i a b ask) → IfErr r (StopsChip most h i a b ask)
-    → MatchResult r (λ x. HasSentHarmless h i) (λ x. SendsHarmless h i)
-reading_sends most h i a b ask (Ok r) read stops = read_sent most h i a b ask r read
-reading_sends most h i a b ask (Err why) read stops = chip_sends most h i a b ask why stops
+    → IfOk r (λ reading. HasReadChip most h i a b ask reading) → IfErr r (StopsChip most h i a b ask)
+    → MatchResult r (λ _. HasSentHarmless h i) (λ _. SendsHarmless h i)
+reading_sends most h i a b ask (Ok reading) read stopped = read_sent most h i a b ask reading read
+reading_sends most h i a b ask (Err why) read stopped = chip_sends most h i a b ask why stopped

@@ -1,5 +1,6 @@
 pub mod BlameLemmas
 mod WayLemmas
+mod ChipLemmas
 mod CameLemmas
 mod LawLemmas
 pub mod ReadLemmas

@@ -1,5 +1,5 @@
 -- What was read, and from which reading it follows.
-use Rattle.std.proofs.Common.{◌≡◌, ◌≤◌, ◌<◌, inl, inr, ℕ, Bool, true, false, not, ◌&&◌, List, ◌++◌, length, take, drop, Option, Some, None, Result, Ok, Err, IfOk, IfErr, ◌∙◌, ap, refl, subst, arith}
+use Rattle.std.proofs.Common.{◌≡◌, ◌≤◌, ◌<◌, ℕ, Bool, true, false, not, ◌&&◌, List, ◌++◌, length, take, drop, Option, Some, None, Result, Ok, Err, IfOk, IfErr, ◌∙◌, ap, refl, sym, subst, arith}
 use Rattle.std.proofs.Math.Seq.{take-append_seam}
 use Rattle.nor_base.specs.Device.{Ahead}
 use Rattle.nor_serprog.specs.declared.fault.Fault.{Fault}
@@ -7,7 +7,18 @@ use Rattle.nor_serprog.specs.declared.fault.Fault.TheVariants.{Read, Write, Sile
 use Rattle.nor_serprog.specs.declared.limits.Limits.{Limits}
 use Rattle.nor_serprog.specs.Greeting.{Greeted}
 use Rattle.nor_serprog.specs.Line.{TestsLine}
+use Rattle.nor_base.specs.declared.meaning.Start.{Start}
+use Rattle.nor_base.specs.Parameters.{Parameters}
 use Rattle.nor_job.specs.declared.fault.BuildFault.TheVariants as fault
+use Rattle.nor_job.specs.Status.{start_of}
+use Rattle.nor_job.specs.Task.{Task}
+use Rattle.nor_loop.specs.Log.{Operation}
+use Rattle.nor_probe.specs.declared.difference.Mismatch.TheVariants as mismatch
+use Rattle.nor_probe.specs.declared.own.AddressRegister.{AddressRegister}
+use Rattle.nor_reader.specs.declared.tables.TablesFault.{TablesFault}
+use Rattle.nor_reader.specs.declared.tables.TablesFault.TheVariants.{Memory, NoSignature, Unread as Unread_}
+use Rattle.norprog_common.specs.Setup.{RefusesChipOf}
+use Rattle.norprog_common.specs.declared.faults.Refusal.{Refusal}
 use Rattle.norprog_common.specs.declared.faults.Refusal.TheVariants.{Build}
 use Rattle.norprog_read.specs.declared.asked.Ask.{Ask}
 use Rattle.norprog_read.specs.declared.asked.Known.{Known}
@@ -15,12 +26,19 @@ use Rattle.norprog_read.specs.declared.asked.Known.TheVariants as known
 use Rattle.norprog_read.specs.declared.asked.Reading.{Reading}
 use Rattle.norprog_read.specs.declared.fault.Unread.{Unread}
 use Rattle.norprog_read.specs.declared.fault.Unread.TheVariants.{Refused, Device, Unlike}
-use Rattle.norprog_device.specs.declared.fault.DeviceFault.{DeviceFault}
 use Rattle.norprog_device.specs.declared.fault.DeviceFault.TheVariants.{Greet, Line}
 use Rattle.norprog_device.specs.Blame.{is_cut}
 use Rattle.norprog_device.specs.Opened.{LetsGo}
+use Rattle.norprog_read.specs.Asked as asked
+use Rattle.norprog_read.specs.Asked.{StopsId, StopsStatus}
 use Rattle.norprog_read.specs.Blame.{fault_in, fault_of_stop, CountsFault}
-use Rattle.norprog_read.specs.Stops.{RefusesFile, StopsAsked, StopsChip}
+use Rattle.norprog_read.specs.Chip.{chip_task}
+use Rattle.norprog_read.specs.Modes as modes
+use Rattle.norprog_read.specs.Modes.{StopsMode}
+use Rattle.norprog_read.specs.Size as size
+use Rattle.norprog_read.specs.Size.{asked_register, other_size, StopsMoved, TellsSize}
+use Rattle.norprog_read.specs.Stops as stops
+use Rattle.norprog_read.specs.Stops.{stop_of, told_of, DiffersFrom, StopsAsked, StopsChip, StopsContent}
 use Rattle.norprog_read.specs.Opened.{HasReadOpened, HasReadTested, StopsGreeted, StopsOpened, StopsTested}
 
 -- a vector whose slice was written whole
@@ -96,54 +114,87 @@ stops_by Unsent h i j k a b c d limits ask (Err (Refused why)) pins greeted stop
 stops_by Unsent h i j k a b c d limits ask (Err (Unlike why)) pins greeted stops is released =
     greeted_stops Unsent h i j k a b c d limits ask (Unlike why) pins greeted stops is released
 
--- a chip that is asked never stops at the device
-no_file : (ask : Ask) (by : Known) (why : DeviceFault) → RefusesFile ask by (Device why) → ⊥
-no_file ask known.Own why p = p
-no_file ask (known.Tables file) why p = p
-no_file ask (known.Uniform size) why p = p
+-- a chip that is asked never stops at the device, nor because an output can't be written
+abbrev pub IsOfChip : Unread → Type 0
+IsOfChip (Device why) = ⊥
+IsOfChip (Refused (Build fault.Write)) = ⊥
+IsOfChip other = Unit {0}
 
-no_tables : (most : ℕ) (h i : Option (List ℕ)) (a b : Ahead) (by : Known) (why : DeviceFault) → StopsAsked most h i a b by (Device why) → ⊥
-no_tables most h i a b known.Own why p = p
-no_tables most h i a b (known.Tables file) why (inl p) = p
-no_tables most h i a b (known.Tables file) why (inr p) = p.2
-no_tables most h i a b (known.Uniform size) why p = p
+of_meaning : (t : Task) (why : Refusal) → RefusesChipOf t why → IsOfChip (Refused why)
+of_meaning t (Build fault.Write) refused = refused
+of_meaning t other refused = tt
 
-no_device : (most : ℕ) (h i : Option (List ℕ)) (a b : Ahead) (ask : Ask) (why : DeviceFault) → StopsChip most h i a b ask (Device why) → ⊥
-no_device most h i a b ask why (inl (inl p)) = no_file ask ask.known why p.2
-no_device most h i a b ask why (inl (inr p)) = p
-no_device most h i a b ask why (inr (inl p)) = p.stop
-no_device most h i a b ask why (inr (inr (inl p))) = no_tables most p.held i p.ahead b ask.known why p.stop
-no_device most h i a b ask why (inr (inr (inr (inl p)))) = p.refused
-no_device most h i a b ask why (inr (inr (inr (inr (inl p))))) = p.stop
-no_device most h i a b ask why (inr (inr (inr (inr (inr (inl p)))))) = elim p.stop [ inl stop ↦ stop | inr other ↦ other ]
-no_device most h i a b ask why (inr (inr (inr (inr (inr (inr p)))))) = p.stop
+of_told : (by : Known) (id : List ℕ) (why : Refusal) → IsOfChip (Refused why) → IsOfChip (told_of by id why)
+of_told (known.Uniform size) id why is = is
+of_told known.Own id (Build (fault.Sfdp why)) is = tt
+of_told known.Own id why is = is
+of_told (known.Tables file) id (Build (fault.Sfdp why)) is = tt
+of_told (known.Tables file) id why is = is
 
--- nor because an output can't be written
-no_file_write : (ask : Ask) (by : Known) → RefusesFile ask by (Refused (Build fault.Write)) → ⊥
-no_file_write ask known.Own p = p
-no_file_write ask (known.Tables file) p = p
-no_file_write ask (known.Uniform size) p = p
+of_stop : (id : List ℕ) (why : TablesFault) → IsOfChip (stop_of id why)
+of_stop id NoSignature = tt
+of_stop id Memory = tt
+of_stop id (Unread_ (mismatch.Exchange why)) = tt
+of_stop id (Unread_ (mismatch.Differs d)) = tt
 
-no_tables_write : (most : ℕ) (h i : Option (List ℕ)) (a b : Ahead) (by : Known) → StopsAsked most h i a b by (Refused (Build fault.Write)) → ⊥
-no_tables_write most h i a b known.Own p = p
-no_tables_write most h i a b (known.Tables file) (inl p) = p
-no_tables_write most h i a b (known.Tables file) (inr p) = p.2
-no_tables_write most h i a b (known.Uniform size) p = p
+of_other : (chip file : List ℕ) (why : Unread) → DiffersFrom chip file why → IsOfChip why
+of_other chip file (Unlike why) differs = tt
+of_other chip file (Device why) differs = differs
+of_other chip file (Refused why) differs = absurd differs
 
-pub no_write : (most : ℕ) (h i : Option (List ℕ)) (a b : Ahead) (ask : Ask) → StopsChip most h i a b ask (Refused (Build fault.Write)) → ⊥
-no_write most h i a b ask (inl (inl p)) = no_file_write ask ask.known p.2
-no_write most h i a b ask (inl (inr p)) = p
-no_write most h i a b ask (inr (inl p)) = p.stop
-no_write most h i a b ask (inr (inr (inl p))) = no_tables_write most p.held i p.ahead b ask.known p.stop
-no_write most h i a b ask (inr (inr (inr (inl p)))) = p.refused
-no_write most h i a b ask (inr (inr (inr (inr (inl p))))) = p.stop
-no_write most h i a b ask (inr (inr (inr (inr (inr (inl p)))))) = elim p.stop [ inl stop ↦ stop | inr other ↦ other ]
-no_write most h i a b ask (inr (inr (inr (inr (inr (inr p)))))) = p.stop
+of_status : (h i : Option (List ℕ)) (a b : Ahead) (ask : Ask) (why : Unread) → StopsStatus h i a b ask why → IsOfChip why
+of_status h i a b ask why (asked.Busy p) = tt
+of_status h i a b ask why (asked.Lost fault p) = tt
+
+of_id : (h i : Option (List ℕ)) (a b : Ahead) (why : Unread) → StopsId h i a b why → IsOfChip why
+of_id h i a b why (asked.Unsaid fault p) = tt
+of_id h i a b why (asked.Undriven id p undriven) = tt
+
+of_tables : (most : ℕ) (h i : Option (List ℕ)) (a b : Ahead) (by : Known) (id : List ℕ) (why : Unread) → StopsAsked most h i a b by id why
+    → IsOfChip why
+of_tables most h i a b by id why (stops.Uncome fault of p is none) = subst IsOfChip (sym is) (of_stop id fault)
+of_tables most h i a b by id why (stops.Other file chip of is read differs) = of_other chip file of differs
+
+of_mode : (h i : Option (List ℕ)) (a b : Ahead) (ask : Ask) (ops : List Operation) (why : Unread) → StopsMode h i a b ask ops why → IsOfChip why
+of_mode h i a b ask ops why (modes.Unsent fault p) = tt
+of_mode h i a b ask ops why (modes.Unasked held ahead of wire p) = of_status held i ahead b ask of p
+of_mode h i a b ask ops why (modes.Otherwise held ahead after wire read other) = tt
+
+of_size : (told : Option ℕ) (why : Unread) → TellsSize told why → IsOfChip why
+of_size (Some size) why is = subst IsOfChip (sym is) tt
+of_size None why is = absurd is
+
+of_moved : (h i : Option (List ℕ)) (a b : Ahead) (asked : Option AddressRegister) (why : Unread) → StopsMoved h i a b asked why → IsOfChip why
+of_moved h i a b asked why (size.Lost register fault is p) = tt
+of_moved h i a b asked why (size.Moved register value is read away) = tt
+
+of_content : (most : ℕ) (h i : Option (List ℕ)) (a b : Ahead) (m : Parameters) (start : Start) (sure : Bool) (why : Unread)
+    → StopsContent most h i a b m start sure why → IsOfChip why
+of_content most h i a b m start sure why (stops.Unreadable un same none) = tt
+of_content most h i a b m start sure why (stops.NoMemory same none) = tt
+of_content most h i a b m start sure why (stops.Lost content fault p) = tt
+of_content most h i a b m start sure why (stops.Other content d p) = tt
+of_content most h i a b m start sure why (stops.Hidden content unsure twice hides) = tt
+
+pub of_chip : (most : ℕ) (h i : Option (List ℕ)) (a b : Ahead) (ask : Ask) (why : Unread) → StopsChip most h i a b ask why → IsOfChip why
+of_chip most h i a b ask why (stops.AtFile of same none (stops.Meaningless file refusal is refused)) = of_meaning (chip_task ask file) refusal refused
+of_chip most h i a b ask why (stops.AtStatus of p) = of_status h i a b ask of p
+of_chip most h i a b ask why (stops.AtId j c status of idle p) = of_id j i c b of p
+of_chip most h i a b ask why (stops.AtTables j c said of p) = of_tables most j i c b ask.known said.id of p
+of_chip most h i a b ask why (stops.AtMeaning is of refusal refused told) =
+    subst IsOfChip (sym told) (of_told ask.known is.identified.id refusal (of_meaning (chip_task ask is.chip) refusal refused))
+of_chip most h i a b ask why (stops.AtSize is of told) = of_size (other_size ask is.chip) of told
+of_chip most h i a b ask why (stops.AtRegister j k c d is m after of means made p) = of_moved k i d b (asked_register ask.content is.chip) of p
+of_chip most h i a b ask why (stops.AtMode j c is m of means p) = of_mode j i c b ask _ of p
+of_chip most h i a b ask why (stops.AtContent j c is of wanted p) = of_content most j i c b is.m (start_of (chip_task ask is.known.chip)) _ of p
+of_chip most h i a b ask why (stops.AtEnd j c is of p) = of_id j i c b of p
+of_chip most h i a b ask why (stops.OtherId j c is other p differs) = tt
+of_chip most h i a b ask why (stops.AtLine j c is p hides) = tt
 
 -- the line was tested, and then that stopped
 pub tested_stops : (h i j : Option (List ℕ)) (a b c : Ahead) (limits : Limits) (ask : Ask) (r : Result Reading Unread) → TestsLine h i a b (Ok tt) limits
     → IfErr r (StopsChip limits.asked i j b c ask) → IfErr r (StopsTested h j a c limits ask)
 tested_stops h i j a b c limits ask (Ok reading) tested stops = tt
-tested_stops h i j a b c limits ask (Err (Device why)) tested stops = absurd (no_device limits.asked i j b c ask why stops)
+tested_stops h i j a b c limits ask (Err (Device why)) tested stops = absurd (of_chip limits.asked i j b c ask (Device why) stops)
 tested_stops h i j a b c limits ask (Err (Refused why)) tested stops = record { held = i; ahead = b; tested = tested; stops = stops }
 tested_stops h i j a b c limits ask (Err (Unlike why)) tested stops = record { held = i; ahead = b; tested = tested; stops = stops }

@@ -65,6 +65,8 @@ module _ (files : FileFacts) (given : ReadArgs) (request : ReadRequest) (file : 
     turns = asks.limit ∙ ap Some (sym of.turns);
     content = of.content ∙ ap (λ s. is_some s) asks.out;
     raw = of.raw ∙ asks.raw;
+    fresh = of.fresh ∙ asks.fresh;
+    any_size = of.any_size ∙ asks.any_size;
   }
 
   pub was_read : (r : Reading) → IsReadOn files request.device.now ask r → IsReadOf files given r

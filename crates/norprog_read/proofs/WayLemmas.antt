@@ -1,15 +1,19 @@
 -- How a chip is read is a way to read it.
-use Rattle.std.proofs.Common.{◌≡◌, ◌≤◌, ◌⊎◌, inl, inr, ℕ, ◌^◌, Bool, true, false, not, ◌&&◌, ◌||◌, refl, leb-true}
+use Rattle.std.proofs.Common.{◌≡◌, ◌≤◌, ◌⊎◌, inl, inr, ℕ, ◌^◌, Bool, true, false, not, ◌&&◌, ◌||◌, refl, leb-true, List, length, Option, ap, subst}
 use Rattle.std.specs.Prelude.{if◌then◌else◌, nat_le}
 use Rattle.nor_base.specs.declared.meaning.Start.{Start}
+use Rattle.nor_base.specs.declared.meaning.Switch.{Switch}
 use Rattle.nor_base.specs.Chip.{begins4}
+use Rattle.nor_base.specs.Device.{Ahead}
 use Rattle.nor_base.specs.Instructions.{is_there}
 use Rattle.nor_base.specs.Parameters.{Parameters}
 use Rattle.nor_loop.specs.Laws.{IsReadable}
 use Rattle.nor_reader.specs.declared.by.ReadBy.{ReadBy}
 use Rattle.nor_reader.specs.declared.by.ReadBy.TheVariants.{Content, FourBytes, Entered}
+use Rattle.nor_reader.specs.Cut.{ReadApart}
 use Rattle.nor_reader.specs.Laws.{GivesBy}
-use Rattle.norprog_read.specs.Way.{first_by, has_both, is_near, is_readable, is_small, may_enter, second_by}
+use Rattle.nor_reader.specs.Telling.{ApartKnows, GivesSaid, KnowsMode, ShowsMode, SureKnows}
+use Rattle.norprog_read.specs.Way.{first_by, has_both, is_near, is_readable, is_small, may_enter, second_by, IsShownBy}
 
 choose : (P : ReadBy → Type 0) (b : Bool) (x y : ReadBy) → (b ≡ true → P x) → (b ≡ false → P y) → P (if b then x else y)
 choose P true x y p q = p refl
@@ -51,10 +55,38 @@ first_gives m start readable =
     choose (GivesBy m start) (is_near m start) (Content (begins4 m start)) (Entered m.enter m.leave) (λ p. (refl, near_reads m start p))
     (λ q. entered_gives m start (or_right (is_near m start) (may_enter m start) readable q))
 
-pub second_gives : (m : Parameters) (start : Start) → is_readable m start ≡ true → GivesBy m start (second_by m start)
-second_gives m start readable =
+pub second_gives : (m : Parameters) (start : Start) (sure : Bool) → is_readable m start ≡ true → GivesBy m start (second_by m start sure)
+second_gives m start sure readable =
     let first = first_gives m start readable in
     let late = if may_enter m start then Entered m.enter m.leave else first_by m start in
-    choose (GivesBy m start) (is_small m && not (has_both m.width)) (first_by m start) (if m.read4 then FourBytes else late) (λ p. first)
+    choose (GivesBy m start) (not sure || (is_small m && not (has_both m.width))) (first_by m start) (if m.read4 then FourBytes else late) (λ p. first)
     (λ q. choose (GivesBy m start) m.read4 FourBytes late (λ p. p)
     (λ q. choose (GivesBy m start) (may_enter m start) (Entered m.enter m.leave) (first_by m start) (λ p. entered_gives m start p) (λ q. first)))
+
+-- the first reading gives the content to a chip in the mode that is said
+said_way : (near may mode4 : Bool) (enter leave : Switch) → near || may ≡ true → (may ≡ true → is_there enter ≡ true)
+    → GivesSaid (if near then Content mode4 else Entered enter leave) mode4
+said_way true may mode4 enter leave readable there = refl
+said_way false may mode4 enter leave readable there = there readable
+
+first_said : (m : Parameters) (start : Start) → is_readable m start ≡ true → GivesSaid (first_by m start) (begins4 m start)
+first_said m start readable =
+    said_way (is_near m start) (may_enter m start) (begins4 m start) m.enter m.leave readable
+    (λ may. (and_both (is_there m.enter) (is_there m.leave) (and_both (not (begins4 m start)) (is_there m.enter && is_there m.leave) may).1).0)
+
+-- what shows the mode came by its address bytes
+shown_near : (near mode4 : Bool) (enter leave : Switch) (most : ℕ) (content : List ℕ)
+    → IsShownBy (if near then Content mode4 else Entered enter leave) most content → (near ≡ true) × ShowsMode mode4 most content
+shown_near true mode4 enter leave most content shows = (refl, shows)
+shown_near false mode4 enter leave most content shows = absurd shows
+
+-- so each chip that gave the content was in that mode, and has it
+pub mode_known : ApartKnows → SureKnows → (most : ℕ) (h i : Option (List ℕ)) (a b : Ahead) (m : Parameters) (start : Start) (sure : Bool)
+    (content : List ℕ) → length content ≤ 2 ^ 32 → is_readable m start ≡ true → (sure ≡ false → IsShownBy (first_by m start) most content)
+    → ReadApart most h i a b (first_by m start) (second_by m start sure) content → KnowsMode h i a b sure (begins4 m start) content
+mode_known apart sure_ most h i a b m start true content fits readable shown read =
+    sure_ most h i a b (first_by m start) (second_by m start true) (begins4 m start) content fits (first_said m start readable) read
+mode_known apart sure_ most h i a b m start false content fits readable shown read =
+    let near = shown_near (is_near m start) (begins4 m start) m.enter m.leave most content (shown refl) in
+    let by : first_by m start ≡ Content (begins4 m start) = ap (λ (n : Bool). if n then Content (begins4 m start) else Entered m.enter m.leave) near.0 in
+    apart most h i a b (begins4 m start) content fits near.1 (subst (λ (x : ReadBy). ReadApart most h i a b x x content) by read)

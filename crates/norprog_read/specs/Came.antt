@@ -5,9 +5,6 @@ use Rattle.std.specs.List.{list_any}
 use Rattle.norprog_read.specs.declared.asked.Ask.{Ask}
 use Rattle.norprog_read.specs.declared.came.Kind.{Kind}
 use Rattle.norprog_read.specs.declared.came.Kind.TheVariants.{High, Feed, Return, Capital, Small}
-use Rattle.norprog_read.specs.declared.fault.Unlike.TheVariants.{Line}
-use Rattle.norprog_read.specs.declared.fault.Unread.{Unread}
-use Rattle.norprog_read.specs.declared.fault.Unread.TheVariants.{Unlike}
 
 -- a byte is from 80h on, a line feed, a carriage return, a capital letter, or a small one that is made of a capital (letters as Linux's
 -- `tolower` has them, in ASCII and Latin-1: D7h is no capital, and so F7h is made of none)
@@ -38,6 +35,7 @@ abbrev pub ShowsLine : Ask → List ℕ → List ℕ → Type 0
 ShowsLine ask id read = ask.content ≡ true → ask.raw ≡ false → shows_line id read ≡ true
 
 -- so it is wanted, and what came doesn't show it
-abbrev pub HidesLine : Ask → List ℕ → List ℕ → Unread → Type 0
-HidesLine ask id read (Unlike Line) = (ask.content ≡ true) × (ask.raw ≡ false) × (shows_line id read ≡ false)
-HidesLine ask id read other = ⊥
+pub record HidesLine (ask : Ask) (id read : List ℕ) : Type 0 where
+  pub content : ask.content ≡ true
+  pub raw : ask.raw ≡ false
+  pub hidden : shows_line id read ≡ false

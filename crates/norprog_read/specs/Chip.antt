@@ -1,9 +1,7 @@
 -- What the chip behind a device said and gave (this project's).
-use Rattle.std.specs.Prelude.{◌≡◌, ◌≢◌, ◌⊎◌, ◌∷◌, ⊤, ℕ, ◌/◌, ◌%◌, ◌==◌, min, not, Bool, true, false, List, [], ◌++◌, length, take, Option, None, Ok}
-use Rattle.std.proofs.Math.Bool.{beq}
-use Rattle.nor_base.specs.declared.meaning.Part.{Part}
-use Rattle.nor_base.specs.declared.meaning.Part.TheVariants.{Generic, W25q256jv}
+use Rattle.std.specs.Prelude.{◌≡◌, ⊤, ℕ, min, Bool, true, false, List, [], ◌++◌, length, take, Option, None, Ok}
 use Rattle.nor_base.specs.declared.meaning.Start.{Start}
+use Rattle.nor_base.specs.Chip.{begins4}
 use Rattle.nor_base.specs.Device.{Ahead}
 use Rattle.nor_base.specs.Parameters.{Parameters}
 use Rattle.nor_job.specs.Chip.{HasChip}
@@ -11,14 +9,19 @@ use Rattle.nor_job.specs.Status.{start_of}
 use Rattle.nor_job.specs.Task.{Task, Origin, Sfdp, Uniform as of_size}
 use Rattle.nor_probe.specs.Status.{ReadsStatus}
 use Rattle.nor_probe.specs.Tables.{tables_reach}
+use Rattle.nor_reader.specs.declared.tables.TablesFault.{TablesFault}
+use Rattle.nor_reader.specs.declared.tables.TablesFault.TheVariants.{NoSignature}
 use Rattle.nor_reader.specs.Id.{Identifies}
-use Rattle.nor_reader.specs.Tables.{HasReadTables}
+use Rattle.nor_reader.specs.Tables.{HasReadTables, StopsTables}
 use Rattle.norprog_read.specs.declared.asked.Ask.{Ask}
 use Rattle.norprog_read.specs.declared.asked.Known.{Known}
 use Rattle.norprog_read.specs.declared.asked.Known.TheVariants.{Tables, Uniform}
 use Rattle.norprog_read.specs.declared.asked.Reading.{Reading}
+use Rattle.norprog_read.specs.Asked.{IsDriven}
 use Rattle.norprog_read.specs.Came.{ShowsLine}
 use Rattle.norprog_read.specs.Content.{HoldsWhole}
+use Rattle.norprog_read.specs.Modes.{is_sure, mode_ops, modes_of, MakesMode}
+use Rattle.norprog_read.specs.Size.{asked_register, noted_size, other_size, IsUnmoved}
 
 -- where its meaning comes from: the tables that came, or its size
 abbrev pub task_chip : Known → List ℕ → List ℕ → Origin
@@ -41,33 +44,35 @@ chip_task ask tables = record {
   erased_only = ask.erased_only;
 }
 
--- its tables came twice alike, by reads of no more than so many bytes; a chip of a size was asked for none
-abbrev pub GivesTables : ℕ → Option (List ℕ) → Option (List ℕ) → Ahead → Ahead → Known → List ℕ → Type 0
-GivesTables most held_before held_after ahead_before ahead_after (Uniform size) tables =
-    (tables ≡ []) × (held_after ≡ held_before) × (ahead_after ≡ ahead_before)
-GivesTables most held_before held_after ahead_before ahead_after other tables =
-    HasReadTables most held_before held_after ahead_before ahead_after tables
+-- a chip is known by its size
+abbrev pub is_uniform : Known → Bool
+is_uniform (Uniform size) = true
+is_uniform other = false
+
+-- tables aren't read since there is no signature
+abbrev pub is_unsigned : TablesFault → Bool
+is_unsigned NoSignature = true
+is_unsigned other = false
+
+-- it is known by a file of tables, which has these bytes
+abbrev pub IsFile : Known → List ℕ → Type 0
+IsFile (Tables bytes) file = bytes.now ≡ file
+IsFile other file = ⊥
+
+-- its tables came twice alike, by reads of no more than so many bytes; a chip of a size may have none
+pub data GivesTables (most : ℕ) (held_before held_after : Option (List ℕ)) (ahead_before ahead_after : Ahead) (by : Known)
+    : List ℕ → Type 0 where
+  Come : (tables : List ℕ) → HasReadTables most held_before held_after ahead_before ahead_after tables
+      → GivesTables most held_before held_after ahead_before ahead_after by tables
+  Unsigned : is_uniform by ≡ true → StopsTables most held_before held_after ahead_before ahead_after NoSignature
+      → GivesTables most held_before held_after ahead_before ahead_after by []
 
 -- its content came twice alike, by such reads, where it was wanted
-abbrev pub GivesContent : ℕ → Option (List ℕ) → Option (List ℕ) → Ahead → Ahead → Parameters → Start → Bool → List ℕ → Type 0
-GivesContent most held_before held_after ahead_before ahead_after m start true content =
-    HoldsWhole most held_before held_after ahead_before ahead_after m start content
-GivesContent most held_before held_after ahead_before ahead_after m start false content =
+abbrev pub GivesContent : ℕ → Option (List ℕ) → Option (List ℕ) → Ahead → Ahead → Parameters → Start → Bool → Bool → List ℕ → Type 0
+GivesContent most held_before held_after ahead_before ahead_after m start sure true content =
+    HoldsWhole most held_before held_after ahead_before ahead_after m start sure content
+GivesContent most held_before held_after ahead_before ahead_after m start sure false content =
     (content ≡ []) × (held_after ≡ held_before) × (ahead_after ≡ ahead_before)
-
--- an identification isn't what a line gives that no chip drives: only clear bits, or only set ones
-pub record IsDriven (id : List ℕ) : Type 0 where
-  pub low : id ≢ 0x00 ∷ 0x00 ∷ 0x00 ∷ []
-  pub high : id ≢ 0xFF ∷ 0xFF ∷ 0xFF ∷ []
-
--- or it is
-abbrev pub IsUndriven : List ℕ → Type 0
-IsUndriven id = (id ≡ 0x00 ∷ 0x00 ∷ 0x00 ∷ []) ⊎ (id ≡ 0xFF ∷ 0xFF ∷ 0xFF ∷ [])
-
--- the status of a part that is known to have it, S16 (ADS), says another address mode
-abbrev pub is_otherwise : Part → Bool → ℕ → Bool
-is_otherwise Generic mode4 status = false
-is_otherwise W25q256jv mode4 status = not (beq (status / 65536 % 2 == 1) mode4)
 
 -- as far as the tables of a chip and of a file go, the file's as far as its headers reach
 abbrev pub both_go : List ℕ → List ℕ → ℕ
@@ -83,29 +88,41 @@ abbrev pub AreAlike : Known → List ℕ → Type 0
 AreAlike (Tables file) tables = take (both_go tables file.now) tables ≡ take (both_go tables file.now) file.now
 AreAlike other tables = ⊤
 
--- in this order, and nothing else was sent: its status until it was idle, which shows the mode that was said, its identification, its
--- tables, its content, and its identification again, which was the same and that of a chip; each read of tables and content was of no more
+-- in this order, and nothing else was sent: its status until it was idle, its identification, its tables, what puts it into the mode that was
+-- said, the register that moves addresses where they name one, its content, and its identification again, which was the same and that of a chip; each read of tables and content was of no more
 -- than so many bytes; its meaning is that of the tables that came, or of its size; where the content was wanted, and the terminal isn't said
 -- to hand on each byte as it comes, what came shows that it changed nothing of tables and content
-pub record HasReadChip (most : ℕ) (h0 h5 : Option (List ℕ)) (a0 a5 : Ahead) (ask : Ask) (r : Reading) : Type 0 where
+pub record HasReadChip (most : ℕ) (h0 h6 : Option (List ℕ)) (a0 a6 : Ahead) (ask : Ask) (r : Reading) : Type 0 where
   pub part : r.part ≡ ask.part
   pub wanted : r.whole ≡ ask.content
   pub h1 : Option (List ℕ)
   pub h2 : Option (List ℕ)
   pub h3 : Option (List ℕ)
   pub h4 : Option (List ℕ)
+  pub h5 : Option (List ℕ)
+  pub hr : Option (List ℕ)
   pub a1 : Ahead
   pub a2 : Ahead
   pub a3 : Ahead
   pub a4 : Ahead
-  pub status : ReadsStatus ask.part h0 h1 a0 a1 (Ok r.status) ask.turns
+  pub a5 : Ahead
+  pub ar : Ahead
+  pub first : ℕ
+  pub idle : ReadsStatus ask.part h0 h1 a0 a1 (Ok first) ask.turns
   pub id : Identifies h1 h2 a1 a2 (Ok r.id)
+  pub note : r.note ≡ noted_size ask.known r.id
   pub driven : IsDriven r.id
   pub tables : GivesTables most h2 h3 a2 a3 ask.known r.tables.items
-  pub mode : is_otherwise ask.part ask.mode4 r.status ≡ false
   pub file : HasMeaning ask ask.known
   pub alike : AreAlike ask.known r.tables.items
   pub means : HasChip (chip_task ask r.tables.items) r.meaning
-  pub content : GivesContent most h3 h4 a3 a4 r.meaning (start_of (chip_task ask r.tables.items)) ask.content r.content.items
-  pub again : Identifies h4 h5 a4 a5 (Ok r.id)
+  pub sized : other_size ask r.tables.items ≡ None
+  pub made : MakesMode h3 hr a3 ar ask
+      (mode_ops ask.content (begins4 r.meaning (start_of (chip_task ask r.tables.items))) (modes_of ask.known r.tables.items r.meaning)) first
+      r.status
+  pub unmoved : IsUnmoved hr h4 ar a4 (asked_register ask.content r.tables.items)
+  pub content : GivesContent most h4 h5 a4 a5 r.meaning (start_of (chip_task ask r.tables.items))
+      (is_sure ask (begins4 r.meaning (start_of (chip_task ask r.tables.items))) (modes_of ask.known r.tables.items r.meaning)) ask.content
+      r.content.items
+  pub again : Identifies h5 h6 a5 a6 (Ok r.id)
   pub shown : ShowsLine ask r.id (r.tables.items ++ r.content.items)

@@ -2,6 +2,9 @@ pub mod Way
 pub mod Content
 pub mod Came
 pub mod Laws
+pub mod Asked
+pub mod Modes
+pub mod Size
 pub mod Chip
 pub mod Stops
 pub mod Saved

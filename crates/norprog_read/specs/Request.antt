@@ -51,6 +51,8 @@ pub record AsksFor (given : ReadArgs) (request : ReadRequest) : Type 0 where
   pub tables : request.tables ≡ given.tables
   pub out : request.out ≡ given.out
   pub raw : request.raw ≡ given.raw
+  pub fresh : request.fresh ≡ given.fresh
+  pub any_size : request.any_size ≡ given.any_size
 
 -- the chip is known by its own tables, by those of a file, which are these bytes, or by its size
 abbrev pub IsKnownBy : Option Origin → List ℕ → Known → Type 0
@@ -68,3 +70,5 @@ pub record IsAskOf (request : ReadRequest) (file : List ℕ) (ask : Ask) : Type 
   pub turns : ask.turns ≡ request.limit
   pub content : ask.content ≡ is_some request.out
   pub raw : ask.raw ≡ request.raw
+  pub fresh : ask.fresh ≡ request.fresh
+  pub any_size : ask.any_size ≡ request.any_size

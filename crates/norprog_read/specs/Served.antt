@@ -47,3 +47,5 @@ pub record Serves (files : FileFacts) (given : ReadArgs) (ask : Ask) : Type 0 wh
   pub turns : limit_of (asked_limit given) ≡ Some ask.turns
   pub content : ask.content ≡ is_some given.out
   pub raw : ask.raw ≡ given.raw
+  pub fresh : ask.fresh ≡ given.fresh
+  pub any_size : ask.any_size ≡ given.any_size

@@ -1,73 +1,55 @@
 -- Why a chip isn't read (this project's).
-use Rattle.std.specs.Prelude.{◌≡◌, ◌≢◌, ◌⊎◌, ◌<◌, ℕ, true, false, List, ◌++◌, take, slice_index, Option, Ok, Err}
+use Rattle.std.specs.Prelude.{◌≡◌, ◌≢◌, ◌<◌, ◌&&◌, ℕ, Bool, true, false, List, ◌++◌, take, slice_index, Option, Ok}
 use Rattle.nor_base.specs.declared.meaning.Start.{Start}
+use Rattle.nor_base.specs.Chip.{begins4}
 use Rattle.nor_base.specs.Device.{Ahead}
 use Rattle.nor_base.specs.Parameters.{Parameters}
 use Rattle.nor_job.specs.declared.fault.BuildFault.TheVariants.{Memory, Sfdp}
 use Rattle.nor_job.specs.Chip.{HasChip}
 use Rattle.nor_job.specs.Status.{start_of}
-use Rattle.nor_job.specs.Task.{Task}
 use Rattle.nor_probe.specs.declared.difference.Difference.{Difference}
 use Rattle.nor_probe.specs.declared.difference.Mismatch.TheVariants.{Exchange, Differs}
 use Rattle.nor_probe.specs.Status.{ReadsStatus}
+use Rattle.nor_reader.specs.declared.tables.TablesFault.{TablesFault}
 use Rattle.nor_reader.specs.declared.tables.TablesFault.TheVariants as tables
 use Rattle.nor_reader.specs.Id.{Identifies}
 use Rattle.nor_reader.specs.Tables.{HasReadTables, StopsTables}
-use Rattle.nor_reader.specs.Twice.{StopsTwice}
-use Rattle.nor_serprog.specs.declared.fault.Reason.TheVariants as reason
+use Rattle.nor_reader.specs.Twice.{ReadTwice, StopsTwice}
+use Rattle.nor_serprog.specs.declared.fault.Fault.{Fault}
 use Rattle.nor_sfdp.specs.declared.fault.SfdpFault.TheVariants.{Signature}
 use Rattle.norprog_common.specs.Setup.{RefusesChipOf}
+use Rattle.norprog_common.specs.declared.faults.Refusal.{Refusal}
 use Rattle.norprog_common.specs.declared.faults.Refusal.TheVariants.{Build}
 use Rattle.norprog_read.specs.declared.asked.Ask.{Ask}
 use Rattle.norprog_read.specs.declared.asked.Known.{Known}
-use Rattle.norprog_read.specs.declared.asked.Known.TheVariants.{Own, Tables as OfFile}
-use Rattle.norprog_read.specs.declared.fault.Unlike.TheVariants.{Busy, Asking, Mode, At, Tables, Id, Unreadable}
+use Rattle.norprog_read.specs.declared.asked.Known.TheVariants.{Uniform}
+use Rattle.norprog_read.specs.declared.fault.Unlike.TheVariants as unlike
 use Rattle.norprog_read.specs.declared.fault.Unread.{Unread}
 use Rattle.norprog_read.specs.declared.fault.Unread.TheVariants.{Refused, Unlike}
+use Rattle.norprog_read.specs.Asked.{IsDriven, StopsId, StopsStatus}
 use Rattle.norprog_read.specs.Came.{HidesLine}
-use Rattle.norprog_read.specs.Chip.{both_go, chip_task, is_otherwise, AreAlike, GivesContent, GivesTables, IsDriven, IsUndriven}
-use Rattle.norprog_read.specs.Way.{first_by, is_readable, second_by}
+use Rattle.norprog_read.specs.Chip.{both_go, chip_task, is_uniform, is_unsigned, AreAlike, IsFile, GivesContent, GivesTables}
+use Rattle.norprog_read.specs.Modes.{is_sure, mode_ops, modes_of, MakesMode, StopsMode}
+use Rattle.norprog_read.specs.Size.{asked_register, other_size, IsUnmoved, StopsMoved, TellsSize}
+use Rattle.norprog_read.specs.Way.{first_by, is_readable, second_by, IsShownBy}
 
--- the inputs give the chip no meaning
-abbrev pub RefusesMeaning : Task → Unread → Type 0
-RefusesMeaning t (Refused why) = RefusesChipOf t why
-RefusesMeaning t other = ⊥
+-- a file of tables has no meaning
+pub data RefusesFile (ask : Ask) : Unread → Type 0 where
+  Meaningless : (file : List ℕ) (why : Refusal) → IsFile ask.known file → RefusesChipOf (chip_task ask file) why → RefusesFile ask (Refused why)
 
--- a file of tables has none
-abbrev pub RefusesFile : Ask → Known → Unread → Type 0
-RefusesFile ask (OfFile file) why = RefusesMeaning (chip_task ask file.now) why
-RefusesFile ask other why = ⊥
+-- how it is told that the bytes that came from a chip of this identification aren't accepted as its tables; a size that isn't is the
+-- person's
+abbrev pub told_of : Known → List ℕ → Refusal → Unread
+told_of (Uniform size) id why = Refused why
+told_of other id (Build (Sfdp fault)) = Unlike (unlike.NoTables id fault)
+told_of other id why = Refused why
 
--- the status didn't come, stayed busy, or says another mode
-abbrev pub StopsStatus : Option (List ℕ) → Option (List ℕ) → Ahead → Ahead → Ask → Unread → Type 0
-StopsStatus held_before held_after ahead_before ahead_after ask (Unlike Busy) =
-    ReadsStatus ask.part held_before held_after ahead_before ahead_after (Err reason.Busy) ask.turns
-StopsStatus held_before held_after ahead_before ahead_after ask (Unlike (Asking why)) =
-    ReadsStatus ask.part held_before held_after ahead_before ahead_after (Err (reason.Exchange why)) ask.turns
-StopsStatus held_before held_after ahead_before ahead_after ask (Unlike (Mode status)) =
-    ReadsStatus ask.part held_before held_after ahead_before ahead_after (Ok status) ask.turns
-    × (is_otherwise ask.part ask.mode4 status ≡ true)
-StopsStatus held_before held_after ahead_before ahead_after ask other = ⊥
-
--- the identification didn't come, or is that of a line which no chip drives
-abbrev pub StopsId : Option (List ℕ) → Option (List ℕ) → Ahead → Ahead → Unread → Type 0
-StopsId held_before held_after ahead_before ahead_after (Unlike (Asking why)) =
-    Identifies held_before held_after ahead_before ahead_after (Err why)
-StopsId held_before held_after ahead_before ahead_after (Unlike (Id id)) =
-    Identifies held_before held_after ahead_before ahead_after (Ok id) × IsUndriven id
-StopsId held_before held_after ahead_before ahead_after other = ⊥
-
--- the tables have no signature, or didn't come twice alike; each read of them is of no more than so many bytes
-abbrev pub StopsOwn : ℕ → Option (List ℕ) → Option (List ℕ) → Ahead → Ahead → Unread → Type 0
-StopsOwn most held_before held_after ahead_before ahead_after (Refused (Build Memory)) =
-    StopsTables most held_before held_after ahead_before ahead_after tables.Memory
-StopsOwn most held_before held_after ahead_before ahead_after (Refused (Build (Sfdp Signature))) =
-    StopsTables most held_before held_after ahead_before ahead_after tables.NoSignature
-StopsOwn most held_before held_after ahead_before ahead_after (Unlike (Asking why)) =
-    StopsTables most held_before held_after ahead_before ahead_after (tables.Unread (Exchange why))
-StopsOwn most held_before held_after ahead_before ahead_after (Unlike (At address)) =
-    (d : Difference) × (d.address ≡ address) × StopsTables most held_before held_after ahead_before ahead_after (tables.Unread (Differs d))
-StopsOwn most held_before held_after ahead_before ahead_after other = ⊥
+-- and that they weren't read
+abbrev pub stop_of : List ℕ → TablesFault → Unread
+stop_of id tables.NoSignature = Unlike (unlike.NoTables id Signature)
+stop_of id tables.Memory = Refused (Build Memory)
+stop_of id (tables.Unread (Exchange why)) = Unlike (unlike.Asking why)
+stop_of id (tables.Unread (Differs d)) = Unlike (unlike.At d.address)
 
 -- at this address the bytes of a chip and of a file differ first, as far as both go
 pub record IsOther (chip file : List ℕ) (d : Difference) : Type 0 where
@@ -78,142 +60,120 @@ pub record IsOther (chip file : List ℕ) (d : Difference) : Type 0 where
   pub other : d.chip ≢ d.want
 
 abbrev pub DiffersFrom : List ℕ → List ℕ → Unread → Type 0
-DiffersFrom chip file (Unlike (Tables d)) = IsOther chip file d
+DiffersFrom chip file (Unlike (unlike.Tables d)) = IsOther chip file d
 DiffersFrom chip file other = ⊥
 
--- so, or they aren't as the file's
-abbrev pub StopsAsked : ℕ → Option (List ℕ) → Option (List ℕ) → Ahead → Ahead → Known → Unread → Type 0
-StopsAsked most held_before held_after ahead_before ahead_after Own why = StopsOwn most held_before held_after ahead_before ahead_after why
-StopsAsked most held_before held_after ahead_before ahead_after (OfFile file) why =
-    StopsOwn most held_before held_after ahead_before ahead_after why
-    ⊎ ((chip : List ℕ) × HasReadTables most held_before held_after ahead_before ahead_after chip × DiffersFrom chip file.now why)
-StopsAsked most held_before held_after ahead_before ahead_after other why = ⊥
+-- its tables have no signature, didn't come twice alike, or aren't as the file's; each read of them is of no more than so many bytes. A chip
+-- of a size may have none
+pub data StopsAsked (most : ℕ) (held_before held_after : Option (List ℕ)) (ahead_before ahead_after : Ahead) (by : Known) (id : List ℕ)
+    : Unread → Type 0 where
+  Uncome : (fault : TablesFault) (why : Unread) → StopsTables most held_before held_after ahead_before ahead_after fault → why ≡ stop_of id fault
+      → is_uniform by && is_unsigned fault ≡ false → StopsAsked most held_before held_after ahead_before ahead_after by id why
+  Other : (file chip : List ℕ) (why : Unread) → IsFile by file → HasReadTables most held_before held_after ahead_before ahead_after chip
+      → DiffersFrom chip file why → StopsAsked most held_before held_after ahead_before ahead_after by id why
 
--- the content can't be read whole, or didn't come twice alike; each read of it is of no more than so many bytes
-abbrev pub StopsContent : ℕ → Option (List ℕ) → Option (List ℕ) → Ahead → Ahead → Parameters → Start → Unread → Type 0
-StopsContent most held_before held_after ahead_before ahead_after m start (Unlike Unreadable) =
-    (is_readable m start ≡ false) × (held_after ≡ held_before) × (ahead_after ≡ ahead_before)
-StopsContent most held_before held_after ahead_before ahead_after m start (Refused (Build Memory)) =
-    (held_after ≡ held_before) × (ahead_after ≡ ahead_before)
-StopsContent most held_before held_after ahead_before ahead_after m start (Unlike (Asking why)) =
-    (content : List ℕ)
-    × StopsTwice most held_before held_after ahead_before ahead_after (first_by m start) (second_by m start) content (Exchange why)
-StopsContent most held_before held_after ahead_before ahead_after m start (Unlike (At address)) =
-    (content : List ℕ) × (d : Difference) × (d.address ≡ address)
-    × StopsTwice most held_before held_after ahead_before ahead_after (first_by m start) (second_by m start) content (Differs d)
-StopsContent most held_before held_after ahead_before ahead_after m start other = ⊥
+-- the content can't be read whole, didn't come twice alike, or doesn't show the mode, which isn't sure; each read of it is of no more than so
+-- many bytes
+pub data StopsContent (most : ℕ) (held_before held_after : Option (List ℕ)) (ahead_before ahead_after : Ahead) (m : Parameters) (start : Start)
+    (sure : Bool) : Unread → Type 0 where
+  Unreadable : is_readable m start ≡ false → held_after ≡ held_before → ahead_after ≡ ahead_before
+      → StopsContent most held_before held_after ahead_before ahead_after m start sure (Unlike unlike.Unreadable)
+  NoMemory : held_after ≡ held_before → ahead_after ≡ ahead_before
+      → StopsContent most held_before held_after ahead_before ahead_after m start sure (Refused (Build Memory))
+  Lost : (content : List ℕ) (why : Fault)
+      → StopsTwice most held_before held_after ahead_before ahead_after (first_by m start) (second_by m start sure) content (Exchange why)
+      → StopsContent most held_before held_after ahead_before ahead_after m start sure (Unlike (unlike.Asking why))
+  Other : (content : List ℕ) (d : Difference)
+      → StopsTwice most held_before held_after ahead_before ahead_after (first_by m start) (second_by m start sure) content (Differs d)
+      → StopsContent most held_before held_after ahead_before ahead_after m start sure (Unlike (unlike.At d.address))
+  Hidden : (content : List ℕ) → sure ≡ false
+      → ReadTwice most held_before held_after ahead_before ahead_after (first_by m start) (second_by m start sure) content
+      → (IsShownBy (first_by m start) most content → ⊥)
+      → StopsContent most held_before held_after ahead_before ahead_after m start sure (Unlike unlike.Hidden)
 
--- the chip gave another identification than before
-abbrev pub GivesOtherId : Option (List ℕ) → Option (List ℕ) → Ahead → Ahead → List ℕ → Unread → Type 0
-GivesOtherId held_before held_after ahead_before ahead_after id (Unlike (Id other)) =
-    Identifies held_before held_after ahead_before ahead_after (Ok other) × (other ≢ id)
-GivesOtherId held_before held_after ahead_before ahead_after id why = ⊥
-
--- the status came, and shows the mode that was said
-pub record ShowsMode (held_before held_after : Option (List ℕ)) (ahead_before ahead_after : Ahead) (ask : Ask) : Type 0 where
+-- the status came, of an idle chip; then the identification, of a line that a chip drives
+pub record IsIdentified (held_before held_after : Option (List ℕ)) (ahead_before ahead_after : Ahead) (ask : Ask) : Type 0 where
   pub status : ℕ
-  pub read : ReadsStatus ask.part held_before held_after ahead_before ahead_after (Ok status) ask.turns
-  pub mode : is_otherwise ask.part ask.mode4 status ≡ false
-
--- then the identification came, of a line that a chip drives
-pub record IsIdentified (held_before held_after : Option (List ℕ)) (ahead_before ahead_after : Ahead) (ask : Ask) (id : List ℕ)
-    : Type 0 where
+  pub id : List ℕ
   pub held : Option (List ℕ)
   pub ahead : Ahead
-  pub shows : ShowsMode held_before held ahead_before ahead ask
+  pub idle : ReadsStatus ask.part held_before held ahead_before ahead (Ok status) ask.turns
   pub read : Identifies held held_after ahead ahead_after (Ok id)
   pub driven : IsDriven id
 
 -- then the tables, which are as the file's
-pub record IsKnown (most : ℕ) (held_before held_after : Option (List ℕ)) (ahead_before ahead_after : Ahead) (ask : Ask) (id chip : List ℕ)
-    : Type 0 where
+pub record IsKnown (most : ℕ) (held_before held_after : Option (List ℕ)) (ahead_before ahead_after : Ahead) (ask : Ask) : Type 0 where
+  pub chip : List ℕ
   pub held : Option (List ℕ)
   pub ahead : Ahead
-  pub identified : IsIdentified held_before held ahead_before ahead ask id
+  pub identified : IsIdentified held_before held ahead_before ahead ask
   pub read : GivesTables most held held_after ahead ahead_after ask.known chip
   pub alike : AreAlike ask.known chip
 
+-- then it was put into the mode that was said, and no register moves its addresses
+pub record IsReady (most : ℕ) (held_before held_after : Option (List ℕ)) (ahead_before ahead_after : Ahead) (ask : Ask) : Type 0 where
+  pub m : Parameters
+  pub after : ℕ
+  pub held : Option (List ℕ)
+  pub ahead : Ahead
+  pub held_made : Option (List ℕ)
+  pub ahead_made : Ahead
+  pub known : IsKnown most held_before held ahead_before ahead ask
+  pub means : HasChip (chip_task ask known.chip) m
+  pub made : MakesMode held held_made ahead ahead_made ask
+      (mode_ops ask.content (begins4 m (start_of (chip_task ask known.chip))) (modes_of ask.known known.chip m)) known.identified.status after
+  pub unmoved : IsUnmoved held_made held_after ahead_made ahead_after (asked_register ask.content known.chip)
+
 -- then the content, where it was wanted
-pub record IsHeld (most : ℕ) (held_before held_after : Option (List ℕ)) (ahead_before ahead_after : Ahead) (ask : Ask) (id : List ℕ)
-    : Type 0 where
-  pub held : Option (List ℕ)
-  pub ahead : Ahead
-  pub chip : List ℕ
-  pub m : Parameters
+pub record IsHeld (most : ℕ) (held_before held_after : Option (List ℕ)) (ahead_before ahead_after : Ahead) (ask : Ask) : Type 0 where
   pub content : List ℕ
-  pub known : IsKnown most held_before held ahead_before ahead ask id chip
-  pub means : HasChip (chip_task ask chip) m
-  pub read : GivesContent most held held_after ahead ahead_after m (start_of (chip_task ask chip)) ask.content content
-
--- where it stopped: at the file, before the chip was asked; at the status
-abbrev pub StopsEarly : Option (List ℕ) → Option (List ℕ) → Ahead → Ahead → Ask → Unread → Type 0
-StopsEarly held_before held_after ahead_before ahead_after ask why =
-    ((held_after ≡ held_before) × (ahead_after ≡ ahead_before) × RefusesFile ask ask.known why)
-    ⊎ StopsStatus held_before held_after ahead_before ahead_after ask why
-
--- at the identification
-pub record StopsAtId (held_before held_after : Option (List ℕ)) (ahead_before ahead_after : Ahead) (ask : Ask) (why : Unread) : Type 0 where
   pub held : Option (List ℕ)
   pub ahead : Ahead
-  pub shows : ShowsMode held_before held ahead_before ahead ask
-  pub stop : StopsId held held_after ahead ahead_after why
+  pub ready : IsReady most held_before held ahead_before ahead ask
+  pub read : GivesContent most held held_after ahead ahead_after ready.m (start_of (chip_task ask ready.known.chip))
+      (is_sure ask (begins4 ready.m (start_of (chip_task ask ready.known.chip))) (modes_of ask.known ready.known.chip ready.m)) ask.content content
 
--- at the tables
-pub record StopsAtTables (most : ℕ) (held_before held_after : Option (List ℕ)) (ahead_before ahead_after : Ahead) (ask : Ask) (why : Unread)
-    : Type 0 where
-  pub id : List ℕ
-  pub held : Option (List ℕ)
-  pub ahead : Ahead
-  pub identified : IsIdentified held_before held ahead_before ahead ask id
-  pub stop : StopsAsked most held held_after ahead ahead_after ask.known why
-
--- they came, and the chip has no meaning
-pub record StopsAtMeaning (most : ℕ) (held_before held_after : Option (List ℕ)) (ahead_before ahead_after : Ahead) (ask : Ask) (why : Unread)
-    : Type 0 where
-  pub id : List ℕ
-  pub chip : List ℕ
-  pub known : IsKnown most held_before held_after ahead_before ahead_after ask id chip
-  pub refused : RefusesMeaning (chip_task ask chip) why
-
--- at the content
-pub record StopsAtContent (most : ℕ) (held_before held_after : Option (List ℕ)) (ahead_before ahead_after : Ahead) (ask : Ask) (why : Unread)
-    : Type 0 where
-  pub id : List ℕ
-  pub chip : List ℕ
-  pub m : Parameters
-  pub held : Option (List ℕ)
-  pub ahead : Ahead
-  pub known : IsKnown most held_before held ahead_before ahead ask id chip
-  pub means : HasChip (chip_task ask chip) m
-  pub wanted : ask.content ≡ true
-  pub stop : StopsContent most held held_after ahead ahead_after m (start_of (chip_task ask chip)) why
-
--- at the second identification
-pub record StopsAtEnd (most : ℕ) (held_before held_after : Option (List ℕ)) (ahead_before ahead_after : Ahead) (ask : Ask) (why : Unread)
-    : Type 0 where
-  pub id : List ℕ
-  pub held : Option (List ℕ)
-  pub ahead : Ahead
-  pub is_held : IsHeld most held_before held ahead_before ahead ask id
-  pub stop : StopsId held held_after ahead ahead_after why ⊎ GivesOtherId held held_after ahead ahead_after id why
-
--- after all came: it doesn't show that the terminal changed nothing of what was read
-pub record StopsAtLine (most : ℕ) (held_before held_after : Option (List ℕ)) (ahead_before ahead_after : Ahead) (ask : Ask) (why : Unread)
-    : Type 0 where
-  pub id : List ℕ
-  pub held : Option (List ℕ)
-  pub ahead : Ahead
-  pub is_held : IsHeld most held_before held ahead_before ahead ask id
-  pub again : Identifies held held_after ahead ahead_after (Ok id)
-  pub stop : HidesLine ask id (is_held.chip ++ is_held.content) why
-
--- in the order in which the chip is asked
-abbrev pub StopsChip : ℕ → Option (List ℕ) → Option (List ℕ) → Ahead → Ahead → Ask → Unread → Type 0
-StopsChip most held_before held_after ahead_before ahead_after ask why =
-    StopsEarly held_before held_after ahead_before ahead_after ask why
-    ⊎ (StopsAtId held_before held_after ahead_before ahead_after ask why
-    ⊎ (StopsAtTables most held_before held_after ahead_before ahead_after ask why
-    ⊎ (StopsAtMeaning most held_before held_after ahead_before ahead_after ask why
-    ⊎ (StopsAtContent most held_before held_after ahead_before ahead_after ask why
-    ⊎ (StopsAtEnd most held_before held_after ahead_before ahead_after ask why
-    ⊎ StopsAtLine most held_before held_after ahead_before ahead_after ask why)))))
+-- where it stopped, in the order in which the chip is asked: at the file, before anything was sent; at the status; at the identification; at
+-- the tables; at what they mean; at the size that they say; as the mode was made; at the register that moves addresses; at the content; at the second identification, which didn't come or is another; or
+-- after all came, which doesn't show that the terminal changed nothing of what was read
+pub data StopsChip (most : ℕ) (held_before held_after : Option (List ℕ)) (ahead_before ahead_after : Ahead) (ask : Ask) : Unread → Type 0 where
+  AtFile : (why : Unread) → held_after ≡ held_before → ahead_after ≡ ahead_before → RefusesFile ask why
+      → StopsChip most held_before held_after ahead_before ahead_after ask why
+  AtStatus : (why : Unread) → StopsStatus held_before held_after ahead_before ahead_after ask why
+      → StopsChip most held_before held_after ahead_before ahead_after ask why
+  AtId : (held : Option (List ℕ)) (ahead : Ahead) (status : ℕ) (why : Unread)
+      → ReadsStatus ask.part held_before held ahead_before ahead (Ok status) ask.turns → StopsId held held_after ahead ahead_after why
+      → StopsChip most held_before held_after ahead_before ahead_after ask why
+  AtTables : (held : Option (List ℕ)) (ahead : Ahead) (identified : IsIdentified held_before held ahead_before ahead ask) (why : Unread)
+      → StopsAsked most held held_after ahead ahead_after ask.known identified.id why
+      → StopsChip most held_before held_after ahead_before ahead_after ask why
+  AtMeaning : (known : IsKnown most held_before held_after ahead_before ahead_after ask) (why : Unread) (refusal : Refusal)
+      → RefusesChipOf (chip_task ask known.chip) refusal → why ≡ told_of ask.known known.identified.id refusal
+      → StopsChip most held_before held_after ahead_before ahead_after ask why
+  AtSize : (known : IsKnown most held_before held_after ahead_before ahead_after ask) (why : Unread) → TellsSize (other_size ask known.chip) why
+      → StopsChip most held_before held_after ahead_before ahead_after ask why
+  AtMode : (held : Option (List ℕ)) (ahead : Ahead) (known : IsKnown most held_before held ahead_before ahead ask) (m : Parameters) (why : Unread)
+      → HasChip (chip_task ask known.chip) m
+      → StopsMode held held_after ahead ahead_after ask
+      (mode_ops ask.content (begins4 m (start_of (chip_task ask known.chip))) (modes_of ask.known known.chip m)) why
+      → StopsChip most held_before held_after ahead_before ahead_after ask why
+  AtRegister : (held held_made : Option (List ℕ)) (ahead ahead_made : Ahead) (known : IsKnown most held_before held ahead_before ahead ask)
+      (m : Parameters) (after : ℕ) (why : Unread) → HasChip (chip_task ask known.chip) m
+      → MakesMode held held_made ahead ahead_made ask
+      (mode_ops ask.content (begins4 m (start_of (chip_task ask known.chip))) (modes_of ask.known known.chip m)) known.identified.status after
+      → StopsMoved held_made held_after ahead_made ahead_after (asked_register ask.content known.chip) why
+      → StopsChip most held_before held_after ahead_before ahead_after ask why
+  AtContent : (held : Option (List ℕ)) (ahead : Ahead) (ready : IsReady most held_before held ahead_before ahead ask) (why : Unread)
+      → ask.content ≡ true
+      → StopsContent most held held_after ahead ahead_after ready.m (start_of (chip_task ask ready.known.chip))
+      (is_sure ask (begins4 ready.m (start_of (chip_task ask ready.known.chip))) (modes_of ask.known ready.known.chip ready.m)) why
+      → StopsChip most held_before held_after ahead_before ahead_after ask why
+  AtEnd : (held : Option (List ℕ)) (ahead : Ahead) → IsHeld most held_before held ahead_before ahead ask → (why : Unread)
+      → StopsId held held_after ahead ahead_after why → StopsChip most held_before held_after ahead_before ahead_after ask why
+  OtherId : (held : Option (List ℕ)) (ahead : Ahead) (all : IsHeld most held_before held ahead_before ahead ask) (other : List ℕ)
+      → Identifies held held_after ahead ahead_after (Ok other) → other ≢ all.ready.known.identified.id
+      → StopsChip most held_before held_after ahead_before ahead_after ask (Unlike (unlike.Id other))
+  AtLine : (held : Option (List ℕ)) (ahead : Ahead) (all : IsHeld most held_before held ahead_before ahead ask)
+      → Identifies held held_after ahead ahead_after (Ok all.ready.known.identified.id)
+      → HidesLine ask all.ready.known.identified.id (all.ready.known.chip ++ all.content)
+      → StopsChip most held_before held_after ahead_before ahead_after ask (Unlike unlike.Line)

@@ -1,5 +1,5 @@
 -- How a chip's content is read, the first time and again (this project's).
-use Rattle.std.specs.Prelude.{◌^◌, nat_le, not, ◌&&◌, ◌||◌, Bool, true, false, if◌then◌else◌}
+use Rattle.std.specs.Prelude.{◌^◌, ℕ, nat_le, not, ◌&&◌, ◌||◌, Bool, true, false, if◌then◌else◌, List}
 use Rattle.nor_base.specs.declared.meaning.Start.{Start}
 use Rattle.nor_base.specs.declared.meaning.Width.{Width}
 use Rattle.nor_base.specs.declared.meaning.Width.TheVariants.{Both}
@@ -8,6 +8,7 @@ use Rattle.nor_base.specs.Instructions.{is_there}
 use Rattle.nor_base.specs.Parameters.{Parameters}
 use Rattle.nor_reader.specs.declared.by.ReadBy.{ReadBy}
 use Rattle.nor_reader.specs.declared.by.ReadBy.TheVariants.{Content, FourBytes, Entered}
+use Rattle.nor_reader.specs.Telling.{ShowsMode}
 
 -- a chip of this width has both address modes
 abbrev pub has_both : Width → Bool
@@ -34,10 +35,16 @@ is_readable m start = is_near m start || may_enter m start
 abbrev pub first_by : Parameters → Start → ReadBy
 first_by m start = if is_near m start then Content (begins4 m start) else Entered m.enter m.leave
 
--- by four address bytes, where a chip that is in the other mode than was said could give the same bytes twice, or three address bytes
--- don't reach all of it: by 13h where it has that, else in four-byte mode, which is entered and left; else as the first time
-abbrev pub second_by : Parameters → Start → ReadBy
-second_by m start =
-    if is_small m && not (has_both m.width) then first_by m start
+-- where the mode isn't sure, again as the first time, so that the content shows it; else by four address bytes, where a chip that is in the
+-- other mode than was said could give the same bytes twice, or three address bytes don't reach all of it: by 13h where it has that, else in
+-- four-byte mode, which is entered and left; else as the first time
+abbrev pub second_by : Parameters → Start → Bool → ReadBy
+second_by m start sure =
+    if not sure || (is_small m && not (has_both m.width)) then first_by m start
     else if m.read4 then FourBytes
     else if may_enter m start then Entered m.enter m.leave else first_by m start
+
+-- a content that came by the address bytes of a mode shows it, in pieces of so many bytes
+abbrev pub IsShownBy : ReadBy → ℕ → List ℕ → Type 0
+IsShownBy (Content mode4) most content = ShowsMode mode4 most content
+IsShownBy other most content = ⊥

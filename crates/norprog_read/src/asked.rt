@@ -10,7 +10,7 @@ pub enum Known<'a> {
     /// Its own tables have it, and are to be as these bytes of a file, as far as their headers
     /// reach.
     Tables(&'a [u8]),
-    /// Its size in bytes; it has no tables.
+    /// Its size in bytes; what its own tables say, if it has any, has no part in its meaning.
     Uniform(u32),
 }
 
@@ -23,7 +23,7 @@ pub struct Ask<'a> {
     pub bits: &'a str,
     /// Its family, which says what its status registers mean.
     pub part: Part,
-    /// Whether it is in four-byte address mode, where it has both.
+    /// Whether it is put into four-byte address mode, where it has both, else into three-byte mode.
     pub mode4: bool,
     /// Most status reads until it is idle, 1 or more.
     pub turns: u64,
@@ -34,6 +34,11 @@ pub struct Ask<'a> {
     /// Whether the terminal is said to hand on each byte as it comes. Else what comes with the
     /// content has to show that the terminal changed nothing of what is read.
     pub raw: bool,
+    /// Whether the chip's power is said to have been switched on just before, so that it is in the
+    /// mode that was said.
+    pub fresh: bool,
+    /// Whether the tables of a chip of a size may say another size.
+    pub any_size: bool,
 }
 
 /// What a chip gave.
@@ -45,9 +50,11 @@ pub struct Reading {
     pub whole: bool,
     /// Its identification (9Fh).
     pub id: [u8; 3],
+    /// The size that its identification says, where its size was said and is another one.
+    pub note: Option<u32>,
     /// S7 to S0; of a W25Q256JV S23 to S0.
     pub status: u32,
-    /// Its SFDP bytes; none of a chip of a size.
+    /// Its SFDP bytes; none where a chip of a size has none.
     pub tables: Vec<u8>,
     /// What they, or its size, mean.
     pub meaning: Meaning,

@@ -38,6 +38,8 @@ pub fn fault_of_unlike(why: Unlike) -> Option<Fault>
     match why {
         Unlike::Asking(fault) => Some(fault),
         Unlike::Busy | Unlike::Mode(_) | Unlike::At(_) => None,
-        Unlike::Tables(_) | Unlike::Id(_) | Unlike::Line | Unlike::Unreadable => None,
+        Unlike::Tables(_) | Unlike::NoTables { .. } | Unlike::Id(_) => None,
+        Unlike::Size(_) | Unlike::Moved(_) => None,
+        Unlike::Line | Unlike::Unreadable | Unlike::Hidden => None,
     }
 }

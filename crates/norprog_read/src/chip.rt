@@ -1,7 +1,7 @@
 //! What the chip behind a device says and holds.
 
 ghost use Rattle.std.specs.Prelude.{◌≡◌, ◌≢◌, ◌<◌, ◌≤◌, ◌+◌, ◌-◌, ◌^◌, ◌∷◌, [], ◌++◌, true, false};
-ghost use Rattle.std.specs.Prelude.{length, take, IfOk, IfErr, MatchResult, Ok};
+ghost use Rattle.std.specs.Prelude.{length, take, IfOk, IfErr, MatchResult, List, ℕ, Ok};
 ghost use Rattle.nor_base.specs.Device.{HaveRoom};
 ghost use Rattle.nor_job.specs.Chip.{HasChip};
 ghost use Rattle.nor_job.specs.Status.{start_of};
@@ -10,21 +10,24 @@ ghost use Rattle.nor_reader.specs.Harmless.{HasSentHarmless, SendsHarmless};
 ghost use Rattle.nor_reader.specs.Id.{Identifies};
 ghost use Rattle.nor_reader.specs.Tables.{HasReadTables};
 ghost use Rattle.norprog_device.specs.Blame.{Blames};
+ghost use Rattle.norprog_common.specs.Setup.{RefusesChipOf};
+ghost use Rattle.norprog_common.specs.declared.faults.Refusal.{Refusal};
+ghost use Rattle.norprog_read.specs.Asked.{IsDriven, IsUndriven, StopsId, StopsStatus};
 ghost use Rattle.norprog_read.specs.Blame.{fault_in, CountsBoth};
 ghost use Rattle.norprog_read.specs.Came.{HidesLine, ShowsLine};
-ghost use Rattle.norprog_read.specs.Chip.{is_otherwise, AreAlike, GivesContent, GivesTables};
-ghost use Rattle.norprog_read.specs.Chip.{HasMeaning, HasReadChip, IsDriven, IsUndriven, both_go};
-ghost use Rattle.norprog_read.specs.Chip.{chip_task};
-ghost use Rattle.norprog_read.specs.declared.fault.Unlike.TheVariants.{Line};
-ghost use Rattle.norprog_read.specs.declared.fault.Unread.TheVariants as unread;
-ghost use Rattle.norprog_read.specs.Stops.{DiffersFrom, RefusesFile, RefusesMeaning, StopsAsked};
-ghost use Rattle.norprog_read.specs.Stops.{StopsChip, StopsContent, StopsId, StopsOwn, StopsStatus};
+ghost use Rattle.norprog_read.specs.Chip.{both_go, chip_task, is_uniform, is_unsigned, AreAlike};
+ghost use Rattle.norprog_read.specs.Chip.{GivesContent, GivesTables, HasMeaning, HasReadChip};
+ghost use Rattle.norprog_read.specs.Chip.{IsFile};
+ghost use Rattle.norprog_read.specs.Stops.{stop_of, told_of, DiffersFrom, RefusesFile};
+ghost use Rattle.norprog_read.specs.Stops.{StopsAsked, StopsChip, StopsContent};
 
 use crate::asked::{Ask, Known, Reading};
 use crate::came::shows_line;
 use crate::content::read_whole;
 use crate::fault::{Unlike, Unread};
-use nor_base::{ByteIn, ByteOut, Meaning, Part, Start};
+use crate::mode::{is_sure, make_mode, modes_of};
+use crate::size::{asked_register, noted_size, see_register, see_size};
+use nor_base::{ByteIn, ByteOut, Meaning, Start};
 use nor_job::{BuildFault, Inputs, Source};
 use nor_probe::{Difference, Mismatch, chip_status, first_difference, tables_reach};
 use nor_reader::{TablesFault, read_id, read_tables};
@@ -83,11 +86,17 @@ fn ask_chip<R: ByteIn, W: ByteOut>(
         (W.count to.new) (fault_in result) }
 {
     check_file(ask)?;
-    let status = ask_status(from, to, ask)?;
+    let first = ask_status(from, to, ask)?;
     let id = ask_id(from, to)?;
-    let tables = ask_tables(alloc, from, to, limits, ask)?;
-    let (meaning, start) = meaning_of(ask, tables.as_slice())?;
-    let content = ask_content(alloc, from, to, limits, &meaning, start, ask.content)?;
+    let tables = ask_tables(alloc, from, to, limits, ask, id)?;
+    let (meaning, start) = known_meaning(ask, id, tables.as_slice())?;
+    see_size(ask, tables.as_slice())?;
+    let said = meaning.begins4(&start);
+    let modes = modes_of(ask.known, tables.as_slice(), &meaning);
+    let status = make_mode(from, to, ask, said, modes, first)?;
+    see_register(from, to, asked_register(ask.content, tables.as_slice()))?;
+    let sure = is_sure(ask, said, modes);
+    let content = ask_content(alloc, from, to, limits, &meaning, start, sure, ask.content)?;
     let again = ask_id(from, to)?;
     if !is_same(again, id) {
         return Err(Unread::Unlike(Unlike::Id(again)));
@@ -99,6 +108,7 @@ fn ask_chip<R: ByteIn, W: ByteOut>(
         part: ask.part,
         whole: ask.content,
         id,
+        note: noted_size(ask.known, id),
         status,
         tables,
         meaning,
@@ -109,8 +119,7 @@ fn ask_chip<R: ByteIn, W: ByteOut>(
 /// Whether what came has to show that the terminal changed nothing of what was read, and doesn't.
 fn hides_line(ask: &Ask<'_>, id: [u8; 3], tables: &[u8], content: &[u8]) -> bool
     ensures shown { result ≡ false → ShowsLine ask.now id (tables.now ++ content.now) }
-    ensures hidden { result ≡ true
-        → HidesLine ask.now id (tables.now ++ content.now) (unread.Unlike Line) }
+    ensures hidden { result ≡ true → HidesLine ask.now id (tables.now ++ content.now) }
 {
     ask.content && !ask.raw && !shows_line(&id, tables, content)
 }
@@ -152,15 +161,17 @@ fn ask_id<R: ByteIn, W: ByteOut>(from: &mut R, to: &mut W) -> Result<[u8; 3], Un
     }
 }
 
-/// Its status, once it is idle. Of a part whose registers are known it has to be in the address
-/// mode that was said.
-fn ask_status<R: ByteIn, W: ByteOut>(from: &mut R, to: &mut W, ask: &Ask<'_>) -> Result<u32, Unread>
+/// Its status, once it is idle.
+pub(crate) fn ask_status<R: ByteIn, W: ByteOut>(
+    from: &mut R,
+    to: &mut W,
+    ask: &Ask<'_>,
+) -> Result<u32, Unread>
     requires room { HaveRoom (R.count from.old) (W.count to.old) }
     ensures status { IfOk result
         (λ status. ReadsStatus ask.now.part (W.held to.old) (W.held to.new) (R.ahead from.old)
         (R.ahead from.new)
         (Ok status) ask.now.turns) }
-    ensures mode { IfOk result (λ status. is_otherwise ask.now.part ask.now.mode4 status ≡ false) }
     ensures stops { IfErr result
         (StopsStatus (W.held to.old) (W.held to.new) (R.ahead from.old) (R.ahead from.new)
         ask.now) }
@@ -168,9 +179,6 @@ fn ask_status<R: ByteIn, W: ByteOut>(from: &mut R, to: &mut W, ask: &Ask<'_>) ->
         (W.count to.new) (fault_in result) }
 {
     match chip_status(from, to, ask.part, ask.turns) {
-        Ok(status) if is_otherwise(ask.part, ask.mode4, status) => {
-            Err(Unread::Unlike(Unlike::Mode(status)))
-        }
         Ok(status) => Ok(status),
         Err(Reason::Exchange(why)) => Err(Unread::Unlike(Unlike::Asking(why))),
         Err(Reason::Busy) => Err(Unread::Unlike(Unlike::Busy)),
@@ -178,24 +186,15 @@ fn ask_status<R: ByteIn, W: ByteOut>(from: &mut R, to: &mut W, ask: &Ask<'_>) ->
     }
 }
 
-/// Whether S16 (ADS) of a part that is known to have it says another address mode.
-fn is_otherwise(part: Part, mode4: bool, status: u32) -> bool
-    ensures { result ≡ is_otherwise part mode4 status }
-{
-    match part {
-        Part::Generic => false,
-        Part::W25q256jv => (status / 65536 % 2 == 1) != mode4,
-    }
-}
-
-/// Its tables, which came twice alike and, as far as a file's are given, are the same; none of a
-/// chip of a size.
+/// Its tables, which came twice alike and, as far as a file's are given, are the same; none where a
+/// chip of a size has none.
 fn ask_tables<R: ByteIn, W: ByteOut>(
     alloc: Global,
     from: &mut R,
     to: &mut W,
     limits: &Limits,
     ask: &Ask<'_>,
+    id: [u8; 3],
 ) -> Result<Vec<u8>, Unread>
     requires room { HaveRoom (R.count from.old) (W.count to.old) }
     ensures tables { IfOk result
@@ -204,51 +203,70 @@ fn ask_tables<R: ByteIn, W: ByteOut>(
     ensures alike { IfOk result (λ tables. AreAlike ask.now.known tables.items) }
     ensures stops { IfErr result
         (StopsAsked limits.now.asked (W.held to.old) (W.held to.new) (R.ahead from.old)
-        (R.ahead from.new) ask.now.known) }
-    ensures counts { CountsBoth (R.count from.old) (R.count from.new) (W.count to.old)
-        (W.count to.new) (fault_in result) }
-{
-    match ask.known {
-        Known::Uniform(_) => Ok(Vec::new(alloc)),
-        Known::Own => own_tables(alloc, from, to, limits),
-        Known::Tables(file) => {
-            let tables = own_tables(alloc, from, to, limits)?;
-            compare_file(tables.as_slice(), file)?;
-            Ok(tables)
-        }
-    }
-}
-
-/// Its tables, which came twice alike.
-fn own_tables<R: ByteIn, W: ByteOut>(
-    alloc: Global,
-    from: &mut R,
-    to: &mut W,
-    limits: &Limits,
-) -> Result<Vec<u8>, Unread>
-    requires room { HaveRoom (R.count from.old) (W.count to.old) }
-    ensures tables { IfOk result
-        (λ tables. HasReadTables limits.now.asked (W.held to.old) (W.held to.new)
-        (R.ahead from.old) (R.ahead from.new)
-        tables.items) }
-    ensures stops { IfErr result
-        (StopsOwn limits.now.asked (W.held to.old) (W.held to.new) (R.ahead from.old)
-        (R.ahead from.new)) }
+        (R.ahead from.new) ask.now.known id) }
     ensures counts { CountsBoth (R.count from.old) (R.count from.new) (W.count to.old)
         (W.count to.new) (fault_in result) }
 {
     match read_tables(alloc, from, to, limits) {
-        Ok(tables) => Ok(tables),
-        Err(TablesFault::Memory) => Err(Unread::Refused(Refusal::MEMORY)),
-        Err(TablesFault::NoSignature) => Err(Unread::Refused(Refusal::Build(BuildFault::Sfdp(
-            SfdpFault::Signature,
-        )))),
-        Err(TablesFault::Unread(Mismatch::Exchange(why))) => {
-            Err(Unread::Unlike(Unlike::Asking(why)))
+        Ok(tables) => {
+            compare_known(tables.as_slice(), ask.known)?;
+            Ok(tables)
         }
-        Err(TablesFault::Unread(Mismatch::Differs(d))) => {
-            Err(Unread::Unlike(Unlike::At(d.address)))
+        Err(why) => {
+            if is_uniform(ask.known) && is_unsigned(why) {
+                Ok(Vec::new(alloc))
+            } else {
+                Err(stop_of(id, why))
+            }
         }
+    }
+}
+
+/// Whether there is no signature.
+fn is_unsigned(why: TablesFault) -> bool
+    ensures { result ≡ is_unsigned why }
+{
+    match why {
+        TablesFault::NoSignature => true,
+        TablesFault::Memory | TablesFault::Unread(_) => false,
+    }
+}
+
+/// Whether a chip is known by its size.
+fn is_uniform(known: Known<'_>) -> bool
+    ensures { result ≡ is_uniform known.entry }
+{
+    match known {
+        Known::Uniform(_) => true,
+        Known::Own | Known::Tables(_) => false,
+    }
+}
+
+/// Why a chip of this identification whose tables weren't read isn't.
+fn stop_of(id: [u8; 3], why: TablesFault) -> Unread
+    ensures { result ≡ stop_of id why }
+{
+    match why {
+        TablesFault::Memory => Unread::Refused(Refusal::MEMORY),
+        TablesFault::NoSignature => Unread::Unlike(Unlike::NoTables {
+            id,
+            fault: SfdpFault::Signature,
+        }),
+        TablesFault::Unread(Mismatch::Exchange(why)) => Unread::Unlike(Unlike::Asking(why)),
+        TablesFault::Unread(Mismatch::Differs(d)) => Unread::Unlike(Unlike::At(d.address)),
+    }
+}
+
+/// Compares the bytes of the chip's tables with those of a file, where one is given.
+fn compare_known(chip: &[u8], known: Known<'_>) -> Result<(), Unread>
+    requires { length chip.now ≤ 2 ^ 24 }
+    ensures alike { IfOk result (λ _. AreAlike known.entry chip.now) }
+    ensures stops { IfErr result (λ why. (file : List ℕ) × IsFile known.entry file
+        × DiffersFrom chip.now file why) }
+{
+    match known {
+        Known::Own | Known::Uniform(_) => Ok(()),
+        Known::Tables(file) => compare_file(chip, file),
     }
 }
 
@@ -273,22 +291,48 @@ fn compare_file(chip: &[u8], file: &[u8]) -> Result<(), Unread>
 /// Sees that a file of tables, where one is given, has a meaning.
 fn check_file(ask: &Ask<'_>) -> Result<(), Unread>
     ensures file { IfOk result (λ _. HasMeaning ask.now ask.now.known) }
-    ensures stops { IfErr result (RefusesFile ask.now ask.now.known) }
+    ensures stops { IfErr result (RefusesFile ask.now) }
 {
     match ask.known {
         Known::Own | Known::Uniform(_) => Ok(()),
-        Known::Tables(file) => {
-            meaning_of(ask, file)?;
-            Ok(())
+        Known::Tables(file) => match meaning_of(ask, file) {
+            Ok(_) => Ok(()),
+            Err(why) => Err(Unread::Refused(why)),
+        },
+    }
+}
+
+/// What the tables that came from a chip of this identification, or its size, mean.
+fn known_meaning(ask: &Ask<'_>, id: [u8; 3], tables: &[u8]) -> Result<(Meaning, Start), Unread>
+    ensures means { IfOk result (λ chip. HasChip (chip_task ask.now tables.now) chip.0) }
+    ensures start { IfOk result (λ chip. chip.1 ≡ start_of (chip_task ask.now tables.now)) }
+    ensures refused { IfErr result (λ why. (refusal : Refusal)
+        × RefusesChipOf (chip_task ask.now tables.now) refusal
+        × (why ≡ told_of ask.now.known id refusal)) }
+{
+    match meaning_of(ask, tables) {
+        Ok(chip) => Ok(chip),
+        Err(why) => Err(told_of(ask.known, id, why)),
+    }
+}
+
+/// How it is told that what came from a chip of this identification isn't accepted.
+fn told_of(known: Known<'_>, id: [u8; 3], why: Refusal) -> Unread
+    ensures { result ≡ told_of known.entry id why }
+{
+    match (known, why) {
+        (Known::Own | Known::Tables(_), Refusal::Build(BuildFault::Sfdp(fault))) => {
+            Unread::Unlike(Unlike::NoTables { id, fault })
         }
+        (_, why) => Unread::Refused(why),
     }
 }
 
 /// What the tables or the size mean, and how the chip begins.
-fn meaning_of(ask: &Ask<'_>, tables: &[u8]) -> Result<(Meaning, Start), Unread>
+fn meaning_of(ask: &Ask<'_>, tables: &[u8]) -> Result<(Meaning, Start), Refusal>
     ensures means { IfOk result (λ chip. HasChip (chip_task ask.now tables.now) chip.0) }
     ensures start { IfOk result (λ chip. chip.1 ≡ start_of (chip_task ask.now tables.now)) }
-    ensures refused { IfErr result (RefusesMeaning (chip_task ask.now tables.now)) }
+    ensures refused { IfErr result (RefusesChipOf (chip_task ask.now tables.now)) }
 {
     let chip = match ask.known {
         Known::Uniform(size) => Source::Uniform(size),
@@ -310,10 +354,7 @@ fn meaning_of(ask: &Ask<'_>, tables: &[u8]) -> Result<(Meaning, Start), Unread>
         verify: false,
         erased_only: ask.erased_only,
     };
-    match known_chip(&inputs) {
-        Ok(known) => Ok(known),
-        Err(refusal) => Err(Unread::Refused(refusal)),
-    }
+    known_chip(&inputs)
 }
 
 /// Its content, where it is wanted; else none.
@@ -324,21 +365,22 @@ fn ask_content<R: ByteIn, W: ByteOut>(
     limits: &Limits,
     meaning: &Meaning,
     start: Start,
+    sure: bool,
     wanted: bool,
 ) -> Result<Vec<u8>, Unread>
     requires room { HaveRoom (R.count from.old) (W.count to.old) }
     ensures content { IfOk result (λ content.
         GivesContent limits.now.asked (W.held to.old) (W.held to.new) (R.ahead from.old)
-        (R.ahead from.new) meaning.now start wanted content.items) }
+        (R.ahead from.new) meaning.now start sure wanted content.items) }
     ensures stops { IfErr result
         (StopsContent limits.now.asked (W.held to.old) (W.held to.new) (R.ahead from.old)
-        (R.ahead from.new) meaning.now start) }
+        (R.ahead from.new) meaning.now start sure) }
     ensures wanted { IfErr result (λ _. wanted ≡ true) }
     ensures counts { CountsBoth (R.count from.old) (R.count from.new) (W.count to.old)
         (W.count to.new) (fault_in result) }
 {
     if wanted {
-        read_whole(alloc, from, to, limits, meaning, start)
+        read_whole(alloc, from, to, limits, meaning, start, sure)
     } else {
         Ok(Vec::new(alloc))
     }

@@ -1,30 +1,34 @@
 //! The content of the chip behind a device.
 
-ghost use Rattle.std.specs.Prelude.{◌≡◌, ◌<◌, ◌≤◌, ◌+◌, ◌-◌, ◌^◌, IfOk, IfErr};
+ghost use Rattle.std.specs.Prelude.{◌≡◌, ◌↔◌, ◌<◌, ◌≤◌, ◌+◌, ◌-◌, ◌^◌, true, false};
+ghost use Rattle.std.specs.Prelude.{length, IfOk, IfErr};
+ghost use Rattle.std.specs.Bool.{OnFalse, OnTrue};
+ghost use Rattle.nor_base.specs.Chip.{begins4};
 ghost use Rattle.nor_base.specs.Device.{HaveRoom};
-ghost use Rattle.nor_base.specs.Instructions.{is_there};
 ghost use Rattle.nor_reader.specs.declared.by.ReadBy.TheVariants.{Entered};
 ghost use Rattle.norprog_read.specs.Blame.{fault_in, CountsBoth};
 ghost use Rattle.norprog_read.specs.Content.{HoldsWhole};
 ghost use Rattle.norprog_read.specs.Stops.{StopsContent};
-ghost use Rattle.norprog_read.specs.Way.{first_by, has_both, is_near, is_readable, is_small};
-ghost use Rattle.norprog_read.specs.Way.{may_enter, second_by};
+ghost use Rattle.norprog_read.specs.Way.{first_by, is_near, is_readable, is_small, may_enter};
+ghost use Rattle.norprog_read.specs.Way.{second_by, IsShownBy};
 
 use crate::fault::{Unlike, Unread};
-use nor_base::{ByteIn, ByteOut, Meaning, Start, Switch, Width};
+use crate::mode::{has_both, is_there};
+use nor_base::{ByteIn, ByteOut, Meaning, Start};
 use nor_probe::Mismatch;
-use nor_reader::{ReadBy, read_content, twice_knows};
+use nor_reader::{ReadBy, mode_is_shown, read_content, shows_mode, twice_knows};
 use nor_serprog::Limits;
 use std::alloc::Global;
 
 /// What three address bytes reach.
 const REACH: u32 = 1 << 24;
 
-/// Reads the content of the chip behind a device twice, where it has to be in four-byte mode, which
-/// is entered and left. The second reading is by four address bytes where there is a way and a
-/// doubt. Memory is taken for it.
+/// Has the device read its whole chip twice, in the mode that was said, or in four-byte mode, which
+/// is entered and left. Where the mode isn't sure the content has to show it; else the second
+/// reading is by four address bytes where there is a way and a doubt. Memory is taken for it.
 ///
-/// `Unlike` where the chip can't be read whole or a byte came otherwise; `Refused` for `Memory`.
+/// `Unlike` where the chip can't be read whole, a byte came otherwise, or the content doesn't show
+/// that the chip is in the mode that was said; `Refused` for `Memory`.
 pub(crate) fn read_whole<R: ByteIn, W: ByteOut>(
     alloc: Global,
     from: &mut R,
@@ -32,14 +36,16 @@ pub(crate) fn read_whole<R: ByteIn, W: ByteOut>(
     limits: &Limits,
     meaning: &Meaning,
     start: Start,
+    sure: bool,
 ) -> Result<Vec<u8>, Unread>
     requires room { HaveRoom (R.count from.old) (W.count to.old) }
     ensures whole { IfOk result
         (λ content. HoldsWhole limits.now.asked (W.held to.old) (W.held to.new) (R.ahead from.old)
-        (R.ahead from.new) meaning.now start content.items) }
+        (R.ahead from.new)
+        meaning.now start sure content.items) }
     ensures stops { IfErr result
         (StopsContent limits.now.asked (W.held to.old) (W.held to.new) (R.ahead from.old)
-        (R.ahead from.new) meaning.now start) }
+        (R.ahead from.new) meaning.now start sure) }
     ensures counts { CountsBoth (R.count from.old) (R.count from.new) (W.count to.old)
         (W.count to.new) (fault_in result) }
 {
@@ -47,13 +53,41 @@ pub(crate) fn read_whole<R: ByteIn, W: ByteOut>(
         return Err(Unread::Unlike(Unlike::Unreadable));
     }
     let by = first_by(meaning, start);
-    let again = second_by(meaning, start);
+    let again = second_by(meaning, start, sure);
     let mut content = vec![in alloc; 0; size_in(meaning)]?;
     twice_knows();
+    mode_is_shown();
     match read_content(from, to, limits, by, again, content.as_mut_slice()) {
-        Ok(()) => Ok(content),
+        Ok(()) => {
+            if is_certain(limits, by, sure, content.as_slice()) {
+                Ok(content)
+            } else {
+                Err(Unread::Unlike(Unlike::Hidden))
+            }
+        }
         Err(Mismatch::Exchange(why)) => Err(Unread::Unlike(Unlike::Asking(why))),
         Err(Mismatch::Differs(d)) => Err(Unread::Unlike(Unlike::At(d.address))),
+    }
+}
+
+/// Whether the mode is sure, or a content that was read twice so shows it.
+fn is_certain(limits: &Limits, by: ReadBy, sure: bool, content: &[u8]) -> bool
+    requires size { length content.now ≤ 2 ^ 32 }
+    ensures shown { OnTrue result (sure ≡ false → IsShownBy by limits.now.asked content.now) }
+    ensures hidden { OnFalse result ((sure ≡ false)
+        × (IsShownBy by limits.now.asked content.now → ⊥)) }
+{
+    sure || is_shown(limits, by, content)
+}
+
+/// Whether a content that was read twice so shows the address mode.
+fn is_shown(limits: &Limits, by: ReadBy, content: &[u8]) -> bool
+    requires size { length content.now ≤ 2 ^ 32 }
+    ensures { (result ≡ true) ↔ IsShownBy by limits.now.asked content.now }
+{
+    match by {
+        ReadBy::Content { mode4 } => shows_mode(limits, mode4, content),
+        ReadBy::Tables | ReadBy::FourBytes | ReadBy::Entered { .. } => false,
     }
 }
 
@@ -93,18 +127,9 @@ fn may_enter(meaning: &Meaning, start: Start) -> bool
     !meaning.begins4(&start) && is_there(meaning.enter) && is_there(meaning.leave)
 }
 
-/// Whether a mode can be switched.
-fn is_there(switch: Switch) -> bool
-    ensures { result ≡ is_there switch }
-{
-    match switch {
-        Switch::Absent => false,
-        Switch::Plain | Switch::Latched => true,
-    }
-}
-
-/// How a chip is read the first time.
-fn first_by(meaning: &Meaning, start: Start) -> ReadBy
+/// How a chip that begins so is read the first time, and read back: by the address bytes of its
+/// mode, or in four-byte mode, which is entered and left.
+pub fn first_by(meaning: &Meaning, start: Start) -> ReadBy
     ensures { result ≡ first_by meaning.now start }
 {
     if is_near(meaning, start) {
@@ -117,10 +142,10 @@ fn first_by(meaning: &Meaning, start: Start) -> ReadBy
 }
 
 /// How it is read the second time.
-fn second_by(meaning: &Meaning, start: Start) -> ReadBy
-    ensures { result ≡ second_by meaning.now start }
+fn second_by(meaning: &Meaning, start: Start, sure: bool) -> ReadBy
+    ensures { result ≡ second_by meaning.now start sure }
 {
-    if is_small(meaning) && !has_both(meaning.width) {
+    if !sure || (is_small(meaning) && !has_both(meaning.width)) {
         first_by(meaning, start)
     } else if meaning.read4 {
         ReadBy::FourBytes
@@ -138,15 +163,5 @@ fn entered(meaning: &Meaning) -> ReadBy
     ReadBy::Entered {
         enter: meaning.enter,
         leave: meaning.leave,
-    }
-}
-
-/// Whether a chip of this width has both address modes.
-fn has_both(width: Width) -> bool
-    ensures { result ≡ has_both width }
-{
-    match width {
-        Width::Both => true,
-        Width::Three | Width::Four => false,
     }
 }

@@ -7,6 +7,7 @@ ghost use Rattle.norprog_read.specs.declared.fault.Unread.TheVariants as unread;
 
 use nor_probe::Difference;
 use nor_serprog::Fault;
+use nor_sfdp::SfdpFault;
 use norprog_common::Refusal;
 use norprog_device::DeviceFault;
 use std::alloc::AllocError;
@@ -35,12 +36,25 @@ pub enum Unlike {
     At(u32),
     /// Its SFDP bytes and those of the file differ.
     Tables(Difference),
+    /// It has no SFDP tables that are accepted.
+    NoTables {
+        /// Its identification (9Fh).
+        id: [u8; 3],
+        /// Why they aren't.
+        fault: SfdpFault,
+    },
+    /// Its tables say another size than was said: so many bytes.
+    Size(u32),
+    /// A register of it, which has this value, moves all addresses.
+    Moved(u8),
     /// At the end it gave another identification.
     Id([u8; 3]),
     /// What came doesn't show that the terminal changed nothing of what was read.
     Line,
-    /// It can't be read whole in the mode that it is in.
+    /// It can't be read whole in the mode that was said.
     Unreadable,
+    /// What it holds doesn't show that it is in that mode, and nothing else does.
+    Hidden,
 }
 
 impl From<Refusal> for Unread {

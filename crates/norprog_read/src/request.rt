@@ -26,6 +26,10 @@ pub struct ReadRequest<'a> {
     pub out: Option<&'a str>,
     /// The terminal is said to hand on each byte as it comes.
     pub raw: bool,
+    /// The chip's power was just switched on.
+    pub fresh: bool,
+    /// Its tables may say another size.
+    pub any_size: bool,
 }
 
 /// The request that the values spell. None where one isn't of its form, where no device is named,
@@ -47,6 +51,8 @@ pub fn request_of<'a>(given: ReadArgs<'a>) -> Option<ReadRequest<'a>>
         tables: given.tables,
         out: given.out,
         raw: given.raw,
+        fresh: given.fresh,
+        any_size: given.any_size,
     })
 }
 
@@ -95,5 +101,7 @@ pub fn ask_of<'a>(request: ReadRequest<'a>, file: &'a [u8]) -> Ask<'a>
         content: request.out.is_some(),
         erased_only: false,
         raw: request.raw,
+        fresh: request.fresh,
+        any_size: request.any_size,
     }
 }

@@ -28,11 +28,31 @@ use test_samples::texts::IMAGE;
 /// The identification is read; what comes.
 const ID: &[u8] = b"\x13\x01\x00\x00\x03\x00\x00\x9f";
 
-const IS: &[u8] = b"\x06\xef\x40\x17";
+const IS: &[u8] = b"\x06\xef\x40\x0d";
+
+/// The header of its tables is read; what comes of a chip without tables.
+const TABLES: &[u8] = b"\x13\x05\x00\x00\x08\x00\x00\x5a\x00\x00\x00\x00";
+
+const NONE: &[u8] = b"\x06\xff\xff\xff\xff\xff\xff\xff\xff";
 
 /// The chip is read, as many bytes at once as the device gives.
 const WHOLE: &[u8] = b"\x13\x04\x00\x00\x00\x10\x00\x03\x00\x00\x00\
     \x13\x04\x00\x00\x00\x10\x00\x03\x00\x10\x00";
+
+/// It is read again in pieces that begin two bytes further on: the first two bytes, as many as the
+/// device gives, the rest.
+const FIRST_TWO: &[u8] = b"\x13\x04\x00\x00\x02\x00\x00\x03\x00\x00\x00";
+
+const SECOND: &[u8] = b"\x13\x04\x00\x00\x00\x10\x00\x03\x00\x00\x02";
+
+const AGAIN: &[u8] = b"\x13\x04\x00\x00\x02\x00\x00\x03\x00\x00\x00\
+    \x13\x04\x00\x00\x00\x10\x00\x03\x00\x00\x02\
+    \x13\x04\x00\x00\xfe\x0f\x00\x03\x00\x10\x02";
+
+/// Two bytes of FFh, and as many as the last piece has.
+const TWO: &[u8] = b"\x06\xff\xff";
+
+const LESS: &[u8] = &[0xFF; 4094];
 
 /// One byte is read at 0.
 const READ_ONE: &[u8] = b"\x13\x04\x00\x00\x01\x00\x00\x03\x00\x00\x00";
@@ -41,19 +61,21 @@ const READ_ONE: &[u8] = b"\x13\x04\x00\x00\x01\x00\x00\x03\x00\x00\x00";
 const ACK: &[u8] = b"\x06";
 
 /// What goes out to read the chip; what one gives, with its end, that is idle and empty.
-const READ: &[&[u8]] = &[STATUS, ID, WHOLE, WHOLE, ID];
+const READ: &[&[u8]] = &[STATUS, ID, TABLES, WHOLE, AGAIN, ID];
 
 const EMPTY: &[&[u8]] = &[
     b"\x06\x00",
     IS,
+    NONE,
     ACK,
     MANY,
     ACK,
     MANY,
+    TWO,
     ACK,
     MANY,
     ACK,
-    MANY,
+    LESS,
     IS,
     ACK,
     MANY,
@@ -245,6 +267,8 @@ fn no_texts(alloc: Global) -> FlashArgs<'static> {
         strict: false,
         dry_run: false,
         raw: false,
+        fresh: false,
+        any_size: false,
         regions: Vec::new(alloc),
     }
 }
@@ -264,6 +288,8 @@ fn job_of<'a>(row: &Row, old: &'a [u8], texts: &'a FlashArgs<'a>) -> Job<'a>
             content: true,
             erased_only: false,
             raw: false,
+            fresh: true,
+            any_size: false,
         },
         hex: row.hex.as_bytes(),
         layout: None,

@@ -189,7 +189,7 @@ fn devices_that_are_none(rt: HostRuntime) {
     let at = Command::SyncNop;
     for (answers, why, put) in [
         (b"".as_slice(), Fault::Silent, 2),
-        (&[0x15; 5000], Fault::Silent, 2),
+        (&[0x15; 4000], Fault::Silent, 2),
     ] {
         let row = Row { answers, ..GOOD };
         stops(&rt, rt.alloc(), &row, GreetFault::Command { at, why }, put);
@@ -199,11 +199,11 @@ fn devices_that_are_none(rt: HostRuntime) {
     }
 }
 
-/// So many NAKs and then ACK: the last two of 65536 bytes may be the word, and none after them.
+/// So many NAKs and then ACK: the last two of 4096 bytes may be the word, and none after them.
 static NOISE: [(usize, GreetFault, usize); 2] = [
-    (65535, CUT, 2),
+    (4095, CUT, 2),
     (
-        65536,
+        4096,
         GreetFault::Command {
             at: Command::SyncNop,
             why: Fault::Differs,

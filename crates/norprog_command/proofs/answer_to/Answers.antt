@@ -22,6 +22,15 @@ returns-in-List-clause-answer g c = rw c.in-List.is (record { held = refl; count
 pub returns-in-Hex-clause-answer : goal.returns-in-Hex-clause-answer
 returns-in-Hex-clause-answer g c = rw c.in-Hex.is (record { held = refl; count = refl }, refl, c.hex.ensures.answer)
 
+pub returns-in-Play-clause-answer : goal.returns-in-Play-clause-answer
+returns-in-Play-clause-answer g c = rw c.in-Play.is c.play_waited.ensures.answer
+
+pub returns-in-Read-clause-answer : goal.returns-in-Read-clause-answer
+returns-in-Read-clause-answer g c = rw c.in-Read.is c.read_waited.ensures.answer
+
+pub returns-in-Flash-clause-answer : goal.returns-in-Flash-clause-answer
+returns-in-Flash-clause-answer g c = rw c.in-Flash.is c.flash_waited.ensures.answer
+
 pub returns-in-Build-clause-opened : goal.returns-in-Build-clause-opened
 returns-in-Build-clause-opened g c = rw c.in-Build.is c.build.ensures.opened
 
@@ -41,13 +50,13 @@ pub returns-in-Draw-clause-opened : goal.returns-in-Draw-clause-opened
 returns-in-Draw-clause-opened g c = rw c.in-Draw.is c.draw.ensures.opened
 
 pub returns-in-Play-clause-opened : goal.returns-in-Play-clause-opened
-returns-in-Play-clause-opened g c = rw c.in-Play.is c.play.ensures.opened
+returns-in-Play-clause-opened g c = rw c.in-Play.is c.play_waited.ensures.opened
 
 pub returns-in-Read-clause-opened : goal.returns-in-Read-clause-opened
-returns-in-Read-clause-opened g c = rw c.in-Read.is c.read.ensures.opened
+returns-in-Read-clause-opened g c = rw c.in-Read.is c.read_waited.ensures.opened
 
 pub returns-in-Flash-clause-opened : goal.returns-in-Flash-clause-opened
-returns-in-Flash-clause-opened g c = rw c.in-Flash.is c.flash.ensures.opened
+returns-in-Flash-clause-opened g c = rw c.in-Flash.is c.flash_waited.ensures.opened
 
 pub returns-in-Sfdp-clause-opened : goal.returns-in-Sfdp-clause-opened
 returns-in-Sfdp-clause-opened g c = rw c.in-Sfdp.is c.sfdp.ensures.opened

@@ -5,6 +5,13 @@ ghost use Rattle.norprog_explain.specs.Explained.{told};
 
 use super::Topic;
 
+/// What is told of a chip of another size, by either words.
+const UNLIKE_SIZE: &str =
+    "The size of --uniform isn't the one that the chip's own tables say. Leave\n\
+     --uniform out: then its tables count. Or correct the size. Where it is meant\n\
+     so, as for the first part of a larger chip, add --any-size. The content wasn't\n\
+     read, and the chip is as it was.";
+
 pub(crate) const TOPICS: &[Topic] = &[
     (
         "device silent",
@@ -75,6 +82,16 @@ pub(crate) const TOPICS: &[Topic] = &[
          and build anew.",
     ),
     (
+        "unlike register",
+        "An address bit of the chip's extended address register, or of its bank\n\
+         register, is set: three address bytes reach another part of it than the first\n\
+         16 MiB. Another tool, or the board that the chip is on, set it. Switch the\n\
+         chip's power off and on, or clear the register by the tool that set it. Nothing\n\
+         was sent that changes the chip.",
+    ),
+    ("unlike size:", UNLIKE_SIZE),
+    ("unlike size", UNLIKE_SIZE),
+    (
         "unlike tables",
         "The chip's SFDP bytes aren't those of the --sfdp file: at this address of the\n\
          tables it has another byte. It is another chip than the file's, or the device\n\
@@ -84,11 +101,13 @@ pub(crate) const TOPICS: &[Topic] = &[
     (
         "unlike at",
         "The byte of this address, of the tables or of the content, came otherwise the\n\
-         second time. The clip sits badly, the wires are too long, or the clock is too\n\
-         fast. No file was made. Seat the clip anew, and read again. Or the chip isn't in\n\
-         the address mode that the options say: --mode4 is for one in four-byte mode, and\n\
-         power off and on takes it out of that. At an address past the chip's end it is\n\
-         larger than --uniform says.",
+         second time: the clip sits badly, the wires are too long, or the clock is too\n\
+         fast. Seat the clip anew, and try again. If it stays so, and nothing says how\n\
+         the chip's address mode is set (it has no tables, or sfdp says `enter absent`),\n\
+         it may be in the other one than was said: switch its power off and on, and\n\
+         leave --mode4 out. At an address past the chip's end it is larger than\n\
+         --uniform says. No file was made, and nothing was sent that changes what it\n\
+         holds.",
     ),
     (
         "unlike id",
@@ -102,6 +121,18 @@ pub(crate) const TOPICS: &[Topic] = &[
          maker, and two bytes of the maker's, of which the last often says its size.",
     ),
     (
+        "note: the identification",
+        "The size of --uniform isn't the one that the chip's identification says, as most\n\
+         makers write it: 2 to the power of its last byte. Look into its data sheet. If\n\
+         the size there is another than --uniform's, correct that. norprog goes on.",
+    ),
+    (
+        "waiting for",
+        "norprog waits for the device's first answer. If nothing follows within seconds,\n\
+         its tty isn't set, and reading it never ends: end norprog by Ctrl-C, give the\n\
+         stty line, and the command again. Nothing was sent to the chip yet.",
+    ),
+    (
         "unlike line",
         "What came from the chip doesn't show that its tty hands on each byte as it is:\n\
          it has 0Ah without 0Dh (or 0Dh without 0Ah), small letters without capitals, or\n\
@@ -110,11 +141,18 @@ pub(crate) const TOPICS: &[Topic] = &[
          time 20. Where it is set so, the chip holds just such bytes: add --raw.",
     ),
     (
+        "unreadable: what the chip holds",
+        "What the chip holds doesn't show its address mode, and nothing says how that is\n\
+         set: it is blank, it holds the same again and again, or the programmer gives\n\
+         fewer than 769 bytes at once. In the other mode it could give the same, and be\n\
+         changed elsewhere. Switch its power off and on, and add --fresh: then it is in\n\
+         the mode that it begins in. Nothing was sent that changes it.",
+    ),
+    (
         "unreadable",
         "The chip can't be read whole: it is larger than three address bytes reach, and\n\
-         its tables offer no read with four and no way into four-byte address mode. Or\n\
-         --mode4 says that it is in that mode, and no read shows whether it is: switch\n\
-         it off and on, and leave --mode4 out. Nothing was sent that changes it.",
+         its tables offer no read with four and no way into four-byte address mode. If\n\
+         it is in that mode already, give --mode4. Nothing was sent that changes it.",
     ),
     (
         "unlike differs",
@@ -141,16 +179,18 @@ pub(crate) const TOPICS: &[Topic] = &[
     (
         "failed",
         "The number after `at` is the step, from 0, that the device didn't do.\n\
-         `carried`: the step needs four lanes, or more bytes than the device takes. No\n\
-         step was sent: build without --quad, and with bit 9 of --status as 0. Else the\n\
-         steps before it are done, and of it and of up to two steps after it the chip\n\
-         may have done some: `nak` the device refused it, `silent` no answer came,\n\
-         `read` or `write` failed, `differs` another byte came than `want`. After `write`\n\
-         power the device off and on: it may wait for the rest of a request. Where the\n\
-         number is that of all steps, all were sent, and then the chip was read back:\n\
-         at the address it doesn't hold what it must. If no step touches that address,\n\
-         the chip is smaller or larger than --uniform says, or an erase of it takes more\n\
-         than it should. Ask for `the chip`.",
+         `differs`: another byte came than `want`. Mostly the chip ignores changes,\n\
+         since it is protected: by bits of its status (block protection) or by its WP#\n\
+         pin; or the clip moved. `carried`: the step needs four lanes, or more bytes\n\
+         than the device takes; no step was sent: build without --quad, and with bit 9\n\
+         of --status as 0. Else the steps before it are done, and of it and of up to two\n\
+         steps after it the chip may have done some: `nak` the device refused it,\n\
+         `silent` no answer came, `read` or `write` failed. After `write` power the\n\
+         device off and on: it may wait for the rest of a request. Where the number is\n\
+         that of all steps, all were sent, and then the chip was read back: at the\n\
+         address it doesn't hold what it must. If no step touches that address, the chip\n\
+         is smaller or larger than --uniform says, or an erase of it takes more than it\n\
+         should. Ask for `the chip`.",
     ),
     (
         "the chip",

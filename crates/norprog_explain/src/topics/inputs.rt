@@ -209,9 +209,10 @@ pub(crate) const TOPICS: &[Topic] = &[
     (
         "write",
         "Writing a file or standard output failed, or its last flush did. Make room on\n\
-         the disk, and delete the output: it may be cut, or whole. But of `flash` keep\n\
-         the file of --before: the chip may be done, half done, or as it was. Do what\n\
-         the lines before this one say; where there are none, read the chip.",
+         the disk, and delete the output: it may be cut, or whole. Of `flash`: if it\n\
+         printed no line `if this stops on the way`, the chip is as it was: delete the\n\
+         file of --before too, and give the command again. Else keep that file, and give\n\
+         the command of that line.",
     ),
     (
         "memory",

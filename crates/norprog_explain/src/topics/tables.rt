@@ -5,22 +5,31 @@ ghost use Rattle.norprog_explain.specs.Explained.{told};
 
 use super::Topic;
 
+/// What is told of a chip without tables, by either words.
+const NO_TABLES: &str =
+    "The chip has no SFDP tables that norprog accepts; `sfdp` and the number says\n\
+     what is wrong with them, as of a file (11: give --bits). If its data sheet says\n\
+     that 20h erases 4 KiB and that a page has 256 bytes, and it has at most 16 MiB,\n\
+     give its size by --uniform. Else only a script serves it, built by a file of\n\
+     tables (--sfdp) and played with --trust. The chip is as it was.";
+
 pub(crate) const TOPICS: &[Topic] = &[
     (
         "sfdp 1",
-        "The SFDP bytes don't begin with their signature, 53 46 44 50. It is another\n\
-         file, or the dump began at another address. Read them again, from address 0.",
+        "The --sfdp file doesn't begin with SFDP's signature, 53 46 44 50. It is another\n\
+         file, or the dump began at another address. Read the tables again, from\n\
+         address 0.",
     ),
     (
         "sfdp 2",
-        "The SFDP bytes end too early: inside the headers, or inside a table that the\n\
-         headers name. Read more of them; mostly 256 bytes are enough.",
+        "The --sfdp file ends too early: inside the headers, or inside a table that the\n\
+         headers name. Read more of the tables; mostly 256 bytes are enough.",
     ),
     (
         "sfdp 3",
-        "The SFDP bytes have no basic table (ID FF00h) of major revision 1. Read them\n\
-         again. If they are right, norprog can't use this chip's tables: give its size\n\
-         with --uniform, if it is at most 16 MiB and erases 4 KiB by 20.",
+        "The --sfdp file has no basic table (ID FF00h) of major revision 1. Read the\n\
+         tables again. If the file is right, norprog can't use them: give the chip's size\n\
+         by --uniform, if it is at most 16 MiB and erases 4 KiB by 20.",
     ),
     (
         "sfdp 4",
@@ -83,9 +92,11 @@ pub(crate) const TOPICS: &[Topic] = &[
     ),
     (
         "sfdp",
-        "norprog can't use the SFDP bytes, or the size of --uniform; the number says\n\
-         why. Ask for the word with its number, 1 to 14.",
+        "norprog can't use the tables of the --sfdp file, or the size of --uniform; the\n\
+         number says why. Ask for the word with its number, 1 to 14.",
     ),
+    ("no tables:", NO_TABLES),
+    ("no tables", NO_TABLES),
     (
         "plan 1",
         "The byte at this address needs an erase: it must get a 1 where the chip holds a\n\
@@ -97,9 +108,9 @@ pub(crate) const TOPICS: &[Topic] = &[
         "plan 2",
         "The byte at this address must change, but norprog can't reach past the chip's\n\
          first 16 MiB: the tables name neither four-byte opcodes nor a way to enter and\n\
-         leave four-byte mode. If the chip is in that mode already, give --mode4: so a\n\
-         script, though not flash, serves an MX25L25635F that flashrom left in four-byte\n\
-         mode. Else choose regions below 16 MiB. The output holds no script.",
+         leave four-byte mode. If the chip is in that mode already, as an MX25L25635F\n\
+         that flashrom left in it, give --mode4. Else choose regions below 16 MiB. The\n\
+         output holds no script.",
     ),
     (
         "plan",

@@ -1,6 +1,9 @@
 //! Rows of jobs: chips that are flashed, and how each ends.
 
-use super::{ACK, FAR, ID, IS, PLAN, READ, READ_ONE, Row, WAY, WHOLE};
+use super::{
+    ACK, AGAIN, FAR, FIRST_TWO, ID, IS, LESS, NONE, PLAN, READ, READ_ONE, Row, SECOND, TABLES, TWO,
+    WAY, WHOLE,
+};
 use crate::line::ANSWERS;
 use crate::scripts::{
     AT_END, BUT_ONE, CELL, DONE, GREETED, GREETING, HALF_SENT, MANY, PAST, REST, STATUS, STEPS,
@@ -58,12 +61,12 @@ const OLD: &[u8] = b"\x00\xff\xff\xff\xff\xa5";
 
 const NEW: &[u8] = b"\x01\xff\xff\xff\xff\xa5";
 
-/// FFh to the end of a page of which six bytes came, and of a half of which six and eight came.
+/// FFh to the end of a page of which six bytes came, and of a half of which six and four came.
 const AFTER_SIX: &[u8] = &[0xFF; 250];
 
 const BUT_SIX: &[u8] = &[0xFF; 4090];
 
-const BUT_EIGHT: &[u8] = &[0xFF; 4088];
+const BUT_FOUR: &[u8] = &[0xFF; 4092];
 
 /// 00h is programmed at 0 of an empty chip.
 const GOOD: Row = Row {
@@ -76,14 +79,15 @@ const GOOD: Row = Row {
     opening: GREETING,
     tested: ANSWERS,
     empty: true,
-    put: &[STEPS, READ_ONE, WHOLE, PAST],
+    put: &[STEPS, READ_ONE, AGAIN, PAST],
     answers: &[
         DONE,
         b"\x06\x00",
-        b"\x06\x00",
-        BUT_ONE,
+        b"\x06\x00\xff",
         ACK,
         MANY,
+        ACK,
+        LESS,
         b"\x06\x00",
         BUT_ONE,
         ACK,
@@ -108,22 +112,23 @@ pub(super) static DONES: [Row; 4] = [
         hex: ONE,
         empty: false,
         put: &[
-            STATUS, ID, WHOLE, WHOLE, ID, PAST, ENABLE, ERASE, STATUS, ENABLE, RESTORE, STATUS,
-            PAGES, WHOLE, PAST,
+            STATUS, ID, TABLES, WHOLE, AGAIN, ID, PAST, ENABLE, ERASE, STATUS, ENABLE, RESTORE,
+            STATUS, PAGES, AGAIN, PAST,
         ],
         answers: &[
             b"\x06\x00",
             IS,
+            NONE,
             ACK,
             OLD,
             BUT_SIX,
             ACK,
             MANY,
+            b"\x06\x00\xff",
+            b"\x06\xff\xff\xff\xa5",
+            BUT_FOUR,
             ACK,
-            OLD,
-            BUT_SIX,
-            ACK,
-            MANY,
+            LESS,
             IS,
             ACK,
             OLD,
@@ -165,11 +170,11 @@ pub(super) static DONES: [Row; 4] = [
             CELL,
             ACK,
             CELL,
+            b"\x06\x01\xff",
+            b"\x06\xff\xff\xff\xa5",
+            BUT_FOUR,
             ACK,
-            NEW,
-            BUT_SIX,
-            ACK,
-            MANY,
+            LESS,
             ACK,
             NEW,
             BUT_SIX,
@@ -187,9 +192,21 @@ pub(super) static DONES: [Row; 4] = [
     Row {
         hex: ONE,
         old: Some((OLD, 8186)),
-        put: &[ENABLE, RESTORE, STATUS, READ_SIX, WHOLE, PAST],
+        put: &[ENABLE, RESTORE, STATUS, READ_SIX, AGAIN, PAST],
         answers: &[
-            DONE, ACK, NEW, ACK, NEW, BUT_SIX, ACK, MANY, ACK, NEW, BUT_SIX, ACK, MANY,
+            DONE,
+            ACK,
+            NEW,
+            b"\x06\x01\xff",
+            b"\x06\xff\xff\xff\xa5",
+            BUT_FOUR,
+            ACK,
+            LESS,
+            ACK,
+            NEW,
+            BUT_SIX,
+            ACK,
+            MANY,
         ],
         plan: b"program 00000000 6\nstrategy S2\nsteps 4\n\
             erases 0\nerased 0\nprograms 1\nignored 0\n",
@@ -199,27 +216,30 @@ pub(super) static DONES: [Row; 4] = [
     // the chip holds it, and is still read back
     Row {
         empty: false,
-        put: &[STATUS, ID, WHOLE, WHOLE, ID, PAST, WHOLE, PAST],
+        put: &[STATUS, ID, TABLES, WHOLE, AGAIN, ID, PAST, AGAIN, PAST],
         answers: &[
             b"\x06\x00",
             IS,
+            NONE,
             b"\x06\x00",
             BUT_ONE,
             ACK,
             MANY,
-            b"\x06\x00",
-            BUT_ONE,
+            b"\x06\x00\xff",
             ACK,
             MANY,
+            ACK,
+            LESS,
             IS,
             b"\x06\x00",
             BUT_ONE,
             ACK,
             MANY,
-            b"\x06\x00",
-            BUT_ONE,
+            b"\x06\x00\xff",
             ACK,
             MANY,
+            ACK,
+            LESS,
             b"\x06\x00",
             BUT_ONE,
             ACK,
@@ -294,14 +314,16 @@ pub(super) static UNLIKES: [Row; 15] = [
         answers: &[
             b"\x06\x0c",
             IS,
+            NONE,
             ACK,
             MANY,
             ACK,
             MANY,
+            TWO,
             ACK,
             MANY,
             ACK,
-            MANY,
+            LESS,
             IS,
         ],
         line: b"closed 0c\n",
@@ -313,14 +335,16 @@ pub(super) static UNLIKES: [Row; 15] = [
         answers: &[
             b"\x06\x00",
             IS,
+            NONE,
             ACK,
             MANY,
             ACK,
             MANY,
+            TWO,
             ACK,
             MANY,
             ACK,
-            MANY,
+            LESS,
             b"\x06\xef\x40\x18",
         ],
         line: b"unlike id ef4018\n",
@@ -334,36 +358,40 @@ pub(super) static UNLIKES: [Row; 15] = [
     },
     // another byte at the second reading
     Row {
-        put: &[STATUS, ID, WHOLE, WHOLE],
+        put: &[STATUS, ID, TABLES, WHOLE, AGAIN],
         answers: &[
             b"\x06\x00",
             IS,
+            NONE,
             ACK,
             MANY,
             ACK,
             MANY,
+            TWO,
             ACK,
             MANY,
-            b"\x06\xff\xff\xff\xff\xff\xfe\xff\xff",
-            BUT_EIGHT,
+            b"\x06\xff\xff\xff\xfe",
+            BUT_SIX,
         ],
         line: b"unlike at 00001005\n",
         ..UNLIKE
     },
     // a larger chip, which gives another byte at 8 KiB than at 0
     Row {
-        put: &[STATUS, ID, WHOLE, WHOLE, ID, AT_END],
+        put: &[STATUS, ID, TABLES, WHOLE, AGAIN, ID, AT_END],
         answers: &[
             b"\x06\x00",
             IS,
+            NONE,
             ACK,
             MANY,
             ACK,
             MANY,
+            TWO,
             ACK,
             MANY,
             ACK,
-            MANY,
+            LESS,
             IS,
             b"\x06\x00",
             BUT_ONE,
@@ -373,8 +401,8 @@ pub(super) static UNLIKES: [Row; 15] = [
     },
     // NAK, there and at the identification; silence in the first reading
     Row {
-        put: &[STATUS, ID, WHOLE, LOW],
-        answers: &[b"\x06\x00", IS, ACK, MANY, ACK, MANY, b"\x15"],
+        put: &[STATUS, ID, TABLES, WHOLE, FIRST_TWO],
+        answers: &[b"\x06\x00", IS, NONE, ACK, MANY, ACK, MANY, b"\x15"],
         line: b"unlike nak\n",
         ..UNLIKE
     },
@@ -385,16 +413,16 @@ pub(super) static UNLIKES: [Row; 15] = [
         ..UNLIKE
     },
     Row {
-        put: &[STATUS, ID, LOW],
-        answers: &[b"\x06\x00", IS, ACK, CELL],
+        put: &[STATUS, ID, TABLES, LOW],
+        answers: &[b"\x06\x00", IS, NONE, ACK, CELL],
         released_so: b"",
         line: b"unlike silent\n",
         ..UNLIKE
     },
     // the reader fails there
     Row {
-        put: &[STATUS, ID, LOW],
-        answers: &[b"\x06\x00", IS, ACK, CELL],
+        put: &[STATUS, ID, TABLES, LOW],
+        answers: &[b"\x06\x00", IS, NONE, ACK, CELL],
         released_so: b"",
         end: End::Fails,
         line: b"unlike read\n",
@@ -458,7 +486,7 @@ pub(super) static UNLIKES: [Row; 15] = [
 
 /// Work that stops after a step was sent.
 const HALF: Row = Row {
-    put: &[STEPS, READ_ONE, WHOLE],
+    put: &[STEPS, READ_ONE, AGAIN],
     far: b"",
     ..GOOD
 };
@@ -503,28 +531,23 @@ pub(super) static HALVES: [Row; 12] = [
     },
     // all steps are done, and a byte that none of them touches is another: a chip of 4 KiB
     Row {
-        answers: &[
-            DONE,
-            b"\x06\x00",
-            b"\x06\x00",
-            BUT_ONE,
-            b"\x06\x00",
-            BUT_ONE,
-        ],
+        put: &[STEPS, READ_ONE, FIRST_TWO, SECOND],
+        answers: &[DONE, b"\x06\x00", b"\x06\x00\xff", ACK, LESS, b"\x00\xff"],
         far: FAR,
         line: b"failed at 4 differs at 00001000 chip 00 want ff\n",
         ..HALF
     },
     // a larger one, which has no such byte at 8 KiB
     Row {
-        put: &[STEPS, READ_ONE, WHOLE, AT_END],
+        put: &[STEPS, READ_ONE, AGAIN, AT_END],
         answers: &[
             DONE,
             b"\x06\x00",
-            b"\x06\x00",
-            BUT_ONE,
+            b"\x06\x00\xff",
             ACK,
             MANY,
+            ACK,
+            LESS,
             ACK,
             MANY,
         ],
@@ -534,20 +557,22 @@ pub(super) static HALVES: [Row; 12] = [
     },
     // NAK, silence, and a byte that serprog hasn't, as the chip is read back
     Row {
-        answers: &[DONE, b"\x06\x00", b"\x06\x00", BUT_ONE, b"\x15"],
+        put: &[STEPS, READ_ONE, FIRST_TWO, SECOND],
+        answers: &[DONE, b"\x06\x00", b"\x06\x00\xff", b"\x15"],
         far: FAR,
         line: b"failed at 4 nak\n",
         ..HALF
     },
     Row {
-        answers: &[DONE, b"\x06\x00", b"\x06\x00", BUT_ONE, ACK, REST],
+        put: &[STEPS, READ_ONE, FIRST_TWO, SECOND],
+        answers: &[DONE, b"\x06\x00", b"\x06\x00\xff", ACK, REST],
         released_so: b"",
         far: FAR,
         line: b"failed at 4 silent\n",
         ..HALF
     },
     Row {
-        put: &[STEPS, READ_ONE, LOW],
+        put: &[STEPS, READ_ONE, FIRST_TWO],
         answers: &[DONE, b"\x06\x00", b"\x07"],
         far: FAR,
         line: b"failed at 4 differs\n",

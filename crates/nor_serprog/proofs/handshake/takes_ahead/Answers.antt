@@ -1,5 +1,5 @@
 -- What the device takes ahead.
-use Rattle.std.proofs.Common.{refl, arith, rules}
+use Rattle.std.proofs.Common.{arith, rules}
 use Rattle.nor_serprog.proofs.GreetLemmas.{ahead_some}
 use Rattle.nor_serprog.proofs.handshake.takes_ahead.Goals as goal
 

@@ -1,5 +1,5 @@
 -- What went out ahead, and its answers.
-use Rattle.std.proofs.Common.{◌≡◌, ◌++◌, List, [], refl, ◌∙◌, ap, subst, arith, rules, Err}
+use Rattle.std.proofs.Common.{◌≡◌, [], refl, ◌∙◌, subst, arith, rules}
 use Rattle.std.specs.Prelude.{MatchResult}
 use Rattle.std.specs.Io.KnownBytes.{Appends}
 use Rattle.nor_base.specs.declared.step.Step.TheVariants.{Poll}
@@ -9,6 +9,7 @@ use Rattle.nor_serprog.specs.Done.{HasDoneAll}
 use Rattle.nor_serprog.specs.Follow.{status_requests}
 use Rattle.nor_serprog.specs.Row.{HasHalted}
 use Rattle.nor_serprog.proofs.RowLemmas.{IsTail, tail_some, tail_none, the_poll, done_upto, polled, all_front, sent_few, halts_front, halts_last, halts_cut}
+use Rattle.nor_serprog.proofs.WaitLemmas.{may_go_after}
 use Rattle.nor_serprog.proofs.row.do_ahead.Goals as goal
 use Rattle.nor_serprog.proofs.row.do_ahead.Goals.{then-polls, else-polls}
 
@@ -56,6 +57,20 @@ returns-in_err-take_answers-clause-done g c =
     c.args.turns c.args.row.now h))
     halt (halts_front _ _ _ _ c.args.limits.now c.args.turns c.if-polls.reads c.args.row.now c.args.front.now tail.polls halt c.args.requests.items (status_requests c.if-polls.reads)
     c.requires.row tail.whole tail.few tail.within c.requires.front.sent tail.asked tail.fits out c.in_err-take_answers.ensures.done) c.from_residual.ensures.1
+
+pub wait_on-requires-clause-few : goal.wait_on-requires-clause-few
+wait_on-requires-clause-few g c =
+    let tail : IsTail c.args.limits.now c.args.turns c.args.row.now c.args.front.now c.args.requests.items c.if-polls.requests.items c.if-polls.reads =
+    elim c.if-polls.branch [
+      | then-polls w ↦ rw (w.requests-is, w.reads-is)
+          (tail_some c.args.limits.now c.args.turns w.add_reads-reads.result c.args.row.now c.args.front.now c.args.requests.items w.add_reads-reads.new.requests.items
+          c.requires.front.parts w.if-polls.true c.requires.form w.add_reads-reads.ensures.few w.add_reads-reads.ensures.within w.add_reads-reads.ensures.added
+          w.add_reads-reads.ensures.fits c.requires.front.fits)
+      | else-polls w ↦ rw (w.requests-is, w.reads-is)
+          (tail_none c.args.limits.now c.args.turns c.args.row.now c.args.front.now c.args.requests.items c.requires.front.parts (λ h. absurd (omega (arith, h, w.if-polls.false)))
+          c.requires.front.fits)
+    ] in
+    may_go_after c.args.limits.now c.if-polls.reads c.args.requests.items tail.few tail.fits
 
 pub returns-in-Err-clause-done : goal.returns-in-Err-clause-done
 returns-in-Err-clause-done g c =

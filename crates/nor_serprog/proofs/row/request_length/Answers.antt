@@ -1,5 +1,5 @@
 -- A request by the bytes that its clocks send.
-use Rattle.std.proofs.Common.{arith, rules}
+use Rattle.std.proofs.Common.{rules}
 use Rattle.nor_base.specs.Decoding.{bytes_of_bits}
 use Rattle.nor_serprog.proofs.LengthLemmas.{asked_by}
 use Rattle.nor_serprog.proofs.row.request_length.Goals as goal

@@ -1,8 +1,5 @@
 -- One answer more.
-use Rattle.std.proofs.Common.{◌+◌, ◌∙◌, ap, subst, rules}
-use Rattle.nor_base.specs.Step.{expected}
-use Rattle.nor_base.specs.Device.{Gives}
-use Rattle.nor_serprog.specs.Exchange.{AnswersKnown}
+use Rattle.std.proofs.Common.{◌+◌, ◌∙◌, ap, rules}
 use Rattle.nor_serprog.proofs.RowLemmas.{taken_next, answers_stop}
 use Rattle.nor_serprog.proofs.row.take_answers.Goals as goal
 

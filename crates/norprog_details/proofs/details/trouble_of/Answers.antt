@@ -4,3 +4,6 @@ use Rattle.norprog_details.proofs.details.trouble_of.Goals as goal
 
 pub trouble-requires : goal.trouble-requires
 trouble-requires g c = c.requires (sym c.if-is_read.ensures)
+
+pub device_trouble-requires : goal.device_trouble-requires
+device_trouble-requires g c = c.requires (sym c.if-is_read.ensures)

@@ -6,7 +6,7 @@ use Rattle.nor_base.specs.Device.{Cuts}
 use Rattle.nor_base.proofs.FaultLaws.{handed_on}
 use Rattle.norprog_flash.specs.Stops.{CantPlan}
 use Rattle.norprog_flash.specs.Task.{dump_of}
-use Rattle.norprog_flash.specs.Way.{way_text}
+use Rattle.norprog_flash.specs.Way.{last_text}
 use Rattle.norprog_flash.proofs.ResumedLemmas.{of_dump}
 use Rattle.norprog_flash.proofs.begun.print_plan.Goals as goal
 
@@ -25,7 +25,7 @@ returns-in_err-print_way-clause-refused g c =
         steps = c.in_ok-work.work.steps.items;
         middle = middle;
         work = c.in_ok-work.ensures.work;
-        cut = subst (λ (steps : List Step). Cuts middle after (way_text job.dry steps job.texts.now)) c.as_slice-2.ensures.value refused.1;
+        cut = subst (λ (steps : List Step). Cuts middle after (last_text job c.args.reading.now steps)) c.as_slice-2.ensures.value refused.1;
       },
     ))))
 
@@ -39,6 +39,6 @@ returns-clause-plan g c =
       work = c.in_ok-work.ensures.work;
       kept = of_dump c.args.reading.now.meaning _ _ _ _ _ (dump_of job) c.as_slice-held.ensures.value c.older.ensures c.as_slice.ensures.value
           (c.is_of_dump.ensures.kept c.if-not-is_of_dump.false);
-      way = subst (λ (steps : List Step). Appends middle after (way_text job.dry steps job.texts.now)) c.as_slice-2.ensures.value
+      way = subst (λ (steps : List Step). Appends middle after (last_text job c.args.reading.now steps)) c.as_slice-2.ensures.value
           c.in_ok-print_way.ensures.way;
     }

@@ -8,7 +8,7 @@ use Rattle.nor_reader.specs.Laws.{GivesBy}
 use Rattle.nor_reader.proofs.HarmlessLemmas.{both_sent, then_sends}
 use Rattle.norprog_flash.specs.declared.ending.Unflashed.TheVariants.{Refused}
 use Rattle.norprog_flash.specs.Stops.{StopsBefore}
-use Rattle.norprog_flash.proofs.StopsLemmas.{closed, goes_past, unfilled, wayless}
+use Rattle.norprog_flash.proofs.StopsLemmas.{closed, goes_past, unfilled, way_there}
 use Rattle.norprog_flash.proofs.begun.read_suited.Goals as goal
 
 pub returns-then-not-suits-clause-stops : goal.returns-then-not-suits-clause-stops
@@ -17,39 +17,41 @@ returns-then-not-suits-clause-stops g c =
     c.start_at-start.ensures
     c.suits.ensures c.if-not-suits.true
 
-pub returns-in-None-clause-stops : goal.returns-in-None-clause-stops
-returns-in-None-clause-stops g c =
-    wayless c.args.limits.now.asked _ _ _ _ c.args.job.now c.in_ok-reading.reading c.in_ok-reading.ensures.read c.said_start.result
-    c.said_start.ensures c.in-None.ensures.way
-
-pub returns-in_err-refuse_unfilled-in-Some-clause-stops : goal.returns-in_err-refuse_unfilled-in-Some-clause-stops
-returns-in_err-refuse_unfilled-in-Some-clause-stops g c =
-    handed_on (StopsBefore c.args.limits.now.asked _ _ _ _ c.args.job.now) _ (Refused c.in_err-refuse_unfilled-in-Some.field-0.0)
-    c.from_residual-in_err-refuse_unfilled-in-Some.ensures.1
+pub returns-in_err-refuse_unfilled-clause-stops : goal.returns-in_err-refuse_unfilled-clause-stops
+returns-in_err-refuse_unfilled-clause-stops g c =
+    handed_on (StopsBefore c.args.limits.now.asked _ _ _ _ c.args.job.now) _ (Refused c.in_err-refuse_unfilled.field-0.0)
+    c.from_residual-in_err-refuse_unfilled.ensures.1
     (unfilled c.args.limits.now.asked (g.W.ByteOut.held c.args.to.now) (g.W.ByteOut.held c.read_chip.new.to) (g.R.ByteIn.ahead c.args.from.now)
-    (g.R.ByteIn.ahead c.read_chip.new.from) c.args.job.now c.in_ok-reading.reading c.in_ok-reading.ensures.read c.in_err-refuse_unfilled-in-Some.field-0.0
-    c.in_err-refuse_unfilled-in-Some.ensures.refused)
+    (g.R.ByteIn.ahead c.read_chip.new.from) c.args.job.now c.in_ok-reading.reading c.in_ok-reading.ensures.read c.in_err-refuse_unfilled.field-0.0
+    c.in_err-refuse_unfilled.ensures.refused)
 
-pub returns-in_err-see_end-in-Some-clause-stops : goal.returns-in_err-see_end-in-Some-clause-stops
-returns-in_err-see_end-in-Some-clause-stops g c =
-    handed_on (StopsBefore c.args.limits.now.asked _ _ _ _ c.args.job.now) _ c.in_err-see_end-in-Some.field-0.0
-    c.from_residual-in_err-see_end-in-Some.ensures.1
+pub returns-in_err-see_end-clause-stops : goal.returns-in_err-see_end-clause-stops
+returns-in_err-see_end-clause-stops g c =
+    handed_on (StopsBefore c.args.limits.now.asked _ _ _ _ c.args.job.now) _ c.in_err-see_end.field-0.0
+    c.from_residual-in_err-see_end.ensures.1
     (goes_past c.args.limits.now.asked (g.W.ByteOut.held c.args.to.now) (g.W.ByteOut.held c.read_chip.new.to) (g.W.ByteOut.held c.see_end.new.to)
     (g.R.ByteIn.ahead c.args.from.now) (g.R.ByteIn.ahead c.read_chip.new.from) (g.R.ByteIn.ahead c.see_end.new.from) c.args.job.now
-    c.in_ok-reading.reading c.in-Some.by c.as_slice.result.now c.as_slice.ensures.value c.in_ok-reading.ensures.read
-    (subst (λ (start : Start). GivesBy c.in_ok-reading.reading.meaning start c.in-Some.by) c.said_start.ensures c.in-Some.ensures.gives)
-    c.in_err-see_end-in-Some.field-0.0 c.in_err-see_end-in-Some.ensures.stops)
+    c.in_ok-reading.reading c.first_by-by.result c.as_slice.result.now c.as_slice.ensures.value c.in_ok-reading.ensures.read
+    (way_there c.args.limits.now.asked _ _ _ _ c.args.job.now c.in_ok-reading.reading c.in_ok-reading.ensures.read c.said_start.result
+    c.said_start.ensures c.requires.asked.0 c.first_by-by.result c.first_by-by.ensures)
+    c.in_err-see_end.field-0.0 c.in_err-see_end.ensures.stops)
 
-pub returns-in_err-see_end-in-Some-clause-harmless : goal.returns-in_err-see_end-in-Some-clause-harmless
-returns-in_err-see_end-in-Some-clause-harmless g c =
+pub returns-in_err-see_end-clause-harmless : goal.returns-in_err-see_end-clause-harmless
+returns-in_err-see_end-clause-harmless g c =
     let h = g.W.ByteOut.held c.args.to.now in
     let i = g.W.ByteOut.held c.read_chip.new.to in
     let j = g.W.ByteOut.held c.see_end.new.to in
-    answered c.from_residual-in_err-see_end-in-Some.result (λ r. MatchResult r (λ _. HasSentHarmless h j) (λ _. SendsHarmless h j))
-    c.in_err-see_end-in-Some.field-0.0 (then_sends h i j c.in_ok-reading.ensures.harmless c.in_err-see_end-in-Some.ensures.harmless)
-    c.from_residual-in_err-see_end-in-Some.ensures.1
+    answered c.from_residual-in_err-see_end.result (λ r. MatchResult r (λ _. HasSentHarmless h j) (λ _. SendsHarmless h j))
+    c.in_err-see_end.field-0.0 (then_sends h i j c.in_ok-reading.ensures.harmless c.in_err-see_end.ensures.harmless)
+    c.from_residual-in_err-see_end.ensures.1
 
-pub returns-in_ok-see_end-in-Some-clause-harmless : goal.returns-in_ok-see_end-in-Some-clause-harmless
-returns-in_ok-see_end-in-Some-clause-harmless g c =
+pub returns-clause-harmless : goal.returns-clause-harmless
+returns-clause-harmless g c =
     both_sent (g.W.ByteOut.held c.args.to.now) (g.W.ByteOut.held c.read_chip.new.to) (g.W.ByteOut.held c.see_end.new.to)
-    c.in_ok-reading.ensures.harmless c.in_ok-see_end-in-Some.ensures.harmless
+    c.in_ok-reading.ensures.harmless c.in_ok-see_end.ensures.harmless
+
+pub returns-clause-way : goal.returns-clause-way
+returns-clause-way g c =
+    way_there c.args.limits.now.asked (g.W.ByteOut.held c.args.to.now) (g.W.ByteOut.held c.read_chip.new.to) (g.R.ByteIn.ahead c.args.from.now)
+    (g.R.ByteIn.ahead c.read_chip.new.from) c.args.job.now c.in_ok-reading.reading c.in_ok-reading.ensures.read c.said_start.result c.said_start.ensures
+    c.requires.asked.0 c.first_by-by.result c.first_by-by.ensures

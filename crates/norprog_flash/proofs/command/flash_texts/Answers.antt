@@ -47,7 +47,17 @@ returns-clause-ends g c =
     (record {
       held = c.in_ok-files.files;
       given = c.in_ok-files.ensures.given;
-      ask = record { known = e.known; bits = e.bits; part = e.part; mode4 = e.mode4; turns = e.turns; content = e.content; raw = e.raw };
+      ask = record {
+        known = e.known;
+        bits = e.bits;
+        part = e.part;
+        mode4 = e.mode4;
+        turns = e.turns;
+        content = e.content;
+        raw = e.raw;
+        fresh = e.fresh;
+        any_size = e.any_size;
+      };
       erased_only = refl;
       hex = c.as_slice-2.ensures.value;
       layout = c.bytes_in.ensures;
@@ -71,7 +81,17 @@ returns-clause-unbegun g c =
     (record {
       held = c.in_ok-files.files;
       given = c.in_ok-files.ensures.given;
-      ask = record { known = e.known; bits = e.bits; part = e.part; mode4 = e.mode4; turns = e.turns; content = e.content; raw = e.raw };
+      ask = record {
+        known = e.known;
+        bits = e.bits;
+        part = e.part;
+        mode4 = e.mode4;
+        turns = e.turns;
+        content = e.content;
+        raw = e.raw;
+        fresh = e.fresh;
+        any_size = e.any_size;
+      };
       erased_only = refl;
       hex = c.as_slice-2.ensures.value;
       layout = c.bytes_in.ensures;

@@ -4,7 +4,7 @@ use Rattle.std.specs.Prelude.{codes}
 use Rattle.std.specs.Io.KnownBytes.{Appends}
 use Rattle.nor_base.specs.Device.{Cuts, Writes}
 use Rattle.norprog_flash.specs.State.{next_options, regions_text}
-use Rattle.norprog_flash.proofs.StateLemmas.{all_three, first_cut, second_cut}
+use Rattle.norprog_device.proofs.PartLemmas.{all_three, first_cut, second_cut}
 use Rattle.norprog_flash.proofs.options.write_command.Goals as goal
 
 pub returns-in_err-put_all-clause-bytes : goal.returns-in_err-put_all-clause-bytes

@@ -3,7 +3,7 @@ use Rattle.std.proofs.Common.{ℕ, List, subst}
 use Rattle.std.specs.Prelude.{codes}
 use Rattle.nor_base.specs.Device.{Writes}
 use Rattle.nor_base.proofs.DeviceLaws.{Writes-then}
-use Rattle.norprog_flash.specs.State.{shell_word}
+use Rattle.norprog_device.specs.Shell.{shell_word}
 use Rattle.norprog_flash.proofs.options.write_name.Goals as goal
 
 pub returns-clause-bytes : goal.returns-clause-bytes

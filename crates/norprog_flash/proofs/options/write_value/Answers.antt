@@ -2,8 +2,9 @@
 use Rattle.std.proofs.Common.{ℕ, List, ◌++◌, subst}
 use Rattle.std.specs.Io.KnownBytes.{Appends}
 use Rattle.nor_base.specs.Device.{Cuts}
-use Rattle.norprog_flash.specs.State.{option_front, shell_word}
-use Rattle.norprog_flash.proofs.StateLemmas.{all_three, first_cut, second_cut}
+use Rattle.norprog_device.specs.Shell.{shell_word}
+use Rattle.norprog_flash.specs.State.{option_front}
+use Rattle.norprog_device.proofs.PartLemmas.{all_three, first_cut, second_cut}
 use Rattle.norprog_flash.proofs.options.write_value.Goals as goal
 
 pub returns-in_err-write_front-clause-bytes : goal.returns-in_err-write_front-clause-bytes

@@ -3,6 +3,7 @@ use Rattle.std.proofs.Common.{ℕ, List, subst}
 use Rattle.std.specs.Prelude.{codes}
 use Rattle.nor_base.specs.Device.{Writes}
 use Rattle.norprog_read.specs.Line.{digits_line}
+use Rattle.norprog_read.proofs.LineLemmas.{moved_parts}
 use Rattle.norprog_read.proofs.line.write_unlike.Goals as goal
 
 pub returns-in-Busy-clause-bytes : goal.returns-in-Busy-clause-bytes
@@ -21,3 +22,14 @@ returns-in-Line-clause-bytes g c = rw c.in-Line.is c.put_all-in-Line.ensures.byt
 
 pub returns-in-Unreadable-clause-bytes : goal.returns-in-Unreadable-clause-bytes
 returns-in-Unreadable-clause-bytes g c = rw c.in-Unreadable.is c.put_all-in-Unreadable.ensures.bytes
+
+pub returns-in-Hidden-clause-bytes : goal.returns-in-Hidden-clause-bytes
+returns-in-Hidden-clause-bytes g c = rw c.in-Hidden.is c.put_all-in-Hidden.ensures.bytes
+
+pub returns-in-Size-clause-bytes : goal.returns-in-Size-clause-bytes
+returns-in-Size-clause-bytes g c = rw c.in-Size.is c.write_size.ensures.bytes
+
+pub returns-in-Moved-clause-bytes : goal.returns-in-Moved-clause-bytes
+returns-in-Moved-clause-bytes g c =
+    rw c.in-Moved.is (subst (Writes (g.W.ByteOut.held c.args.writer.now) (g.W.ByteOut.held c.put_parts-in-Moved.new.writer) c.put_parts-in-Moved.result)
+    (moved_parts c.in-Moved.value _ c.hex_pair.ensures) c.put_parts-in-Moved.ensures.bytes)

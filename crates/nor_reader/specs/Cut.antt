@@ -1,0 +1,46 @@
+-- Readings by pieces that are cut at known addresses (W25Q256JV datasheet: Read Data 03h, Read Data with 4-Byte Address 13h; the exchanges
+-- are the Serial Flasher Protocol's).
+use Rattle.std.specs.Prelude.{◌≡◌, ◌<◌, ℕ, min, List, [], ◌∷◌, ◌++◌, length, take, drop, Option}
+use Rattle.nor_base.specs.Device.{Ahead}
+use Rattle.nor_loop.specs.Log.{Operation, HasLogged}
+use Rattle.nor_reader.specs.declared.by.ReadBy.{ReadBy}
+use Rattle.nor_reader.specs.Reads.{ops_from}
+use Rattle.nor_reader.specs.Switched.{enter_ops, leave_ops}
+use Rattle.nor_reader.specs.Twice.{IsEntered, IsFollowed, IsLeft}
+
+-- bytes are cut into pieces: the first has so many bytes, each other one as many as a read asks for at most; what is left is the last
+abbrev pub AreCut : ℕ → ℕ → List ℕ → List (List ℕ) → Type 0
+AreCut first most bytes [] = bytes ≡ []
+AreCut first most bytes (piece ∷ pieces) = (0 < length piece) × (piece ≡ take first bytes) × AreCut most most (drop first bytes) pieces
+
+-- the log reads each address once, from 0 on, by pieces that are cut so, in four-byte mode where that is the way
+pub record ReadsCut (first most : ℕ) (by : ReadBy) (bytes : List ℕ) (log : List Operation) : Type 0 where
+  pub pieces : List (List ℕ)
+  pub cut : AreCut first most bytes pieces
+  pub those : log ≡ enter_ops by ++ (ops_from by 0 pieces ++ leave_ops by)
+
+-- bytes were read from an address on, by pieces that are cut so
+pub record HasReadCut (first most : ℕ) (held_before held_after : Option (List ℕ)) (ahead_before ahead_after : Ahead) (by : ReadBy) (at : ℕ)
+    (bytes : List ℕ) : Type 0 where
+  pub pieces : List (List ℕ)
+  pub cut : AreCut first most bytes pieces
+  pub wire : HasLogged held_before held_after ahead_before ahead_after (ops_from by at pieces)
+
+-- and so they were read whole, in four-byte mode where that is the way
+abbrev pub HasReadWholeCut : ℕ → ℕ → Option (List ℕ) → Option (List ℕ) → Ahead → Ahead → ReadBy → List ℕ → Type 0
+HasReadWholeCut first most held_before held_after ahead_before ahead_after by bytes =
+    IsEntered by (IsFollowed (λ h i a b. HasReadCut first most h i a b by 0 bytes) (IsLeft by)) held_before held_after ahead_before ahead_after
+
+-- by so many bytes further on a second reading is cut than the first
+abbrev pub shift : ℕ
+shift = 2
+
+-- the exchanges were just two readings of the whole, and these bytes are what both gave. The pieces of the second begin two bytes further
+-- on, after the first two bytes
+pub record ReadApart (most : ℕ) (held_before held_after : Option (List ℕ)) (ahead_before ahead_after : Ahead) (by again : ReadBy)
+    (bytes : List ℕ) : Type 0 where
+  pub first : List Operation
+  pub second : List Operation
+  pub reads : ReadsCut most most by bytes first
+  pub rereads : ReadsCut (min shift most) most again bytes second
+  pub wire : HasLogged held_before held_after ahead_before ahead_after (first ++ second)

@@ -1,0 +1,51 @@
+-- They came and are as the file's, there are none, or they weren't read.
+use Rattle.std.proofs.Common.{◌≡◌, ◌∙◌, ◌&&◌, Bool, true, false, ap, refl, sym, subst}
+use Rattle.nor_base.proofs.FaultLaws.{handed_on}
+use Rattle.nor_reader.specs.declared.tables.TablesFault.{TablesFault}
+use Rattle.nor_reader.specs.declared.tables.TablesFault.TheVariants.{Memory, NoSignature, Unread}
+use Rattle.nor_reader.specs.Tables.{StopsTables}
+use Rattle.norprog_read.specs.Chip.{is_uniform, is_unsigned, Come, GivesTables, Unsigned}
+use Rattle.norprog_read.specs.Stops.{DiffersFrom, Other, StopsAsked, Uncome}
+use Rattle.norprog_read.proofs.chip.ask_tables.Goals as goal
+use Rattle.norprog_read.proofs.chip.ask_tables.Goals.{else-is_uniform-via-then-is_uniform+else-is_unsigned, else-is_uniform-via-else-is_uniform}
+
+pub returns-in_err-compare_known-in-Ok-clause-stops : goal.returns-in_err-compare_known-in-Ok-clause-stops
+returns-in_err-compare_known-in-Ok-clause-stops g c =
+    let why = c.in_err-compare_known-in-Ok.field-0.0 in
+    let stops = c.in_err-compare_known-in-Ok.ensures.stops in
+    handed_on (StopsAsked c.args.limits.now.asked (g.W.ByteOut.held c.args.to.now) (g.W.ByteOut.held c.read_tables.new.to)
+    (g.R.ByteIn.ahead c.args.from.now) (g.R.ByteIn.ahead c.read_tables.new.from) c.args.ask.now.known c.args.id) _ why c.from_residual.ensures.1
+    (Other stops.0 c.in-Ok.tables.items why stops.1 c.in-Ok.ensures.tables
+    (subst (λ bytes. DiffersFrom bytes stops.0 why) c.as_slice.ensures.value stops.2))
+
+pub returns-in_ok-compare_known-in-Ok-clause-tables : goal.returns-in_ok-compare_known-in-Ok-clause-tables
+returns-in_ok-compare_known-in-Ok-clause-tables g c = Come _ c.in-Ok.ensures.tables
+
+and_false : (b : Bool) → b && false ≡ false
+and_false true = refl
+and_false false = refl
+
+-- there is no signature
+none_signed : (why : TablesFault) → is_unsigned why ≡ true → why ≡ NoSignature
+none_signed NoSignature is = refl
+none_signed Memory is = cc
+none_signed (Unread why) is = cc
+
+pub returns-then-is_unsigned-clause-tables : goal.returns-then-is_unsigned-clause-tables
+returns-then-is_unsigned-clause-tables g c =
+    let most = c.args.limits.now.asked in
+    let h = g.W.ByteOut.held c.args.to.now in
+    let i = g.W.ByteOut.held c.read_tables.new.to in
+    let a = g.R.ByteIn.ahead c.args.from.now in
+    let b = g.R.ByteIn.ahead c.read_tables.new.from in
+    subst (GivesTables most h i a b c.args.ask.now.known) (sym c.new.ensures.items)
+    (Unsigned (sym c.is_uniform.ensures ∙ c.if-is_uniform.true)
+    (subst (StopsTables most h i a b) (none_signed c.in-Err.why (sym c.is_unsigned.ensures ∙ c.if-is_unsigned.true)) c.in-Err.ensures.tables))
+
+pub returns-else-is_uniform-clause-stops : goal.returns-else-is_uniform-clause-stops
+returns-else-is_uniform-clause-stops g c =
+    Uncome c.in-Err.why _ c.in-Err.ensures.tables c.stop_of.ensures (elim c.else-is_uniform.branch [
+      | else-is_uniform-via-then-is_uniform+else-is_unsigned w ↦
+          ap (λ (b : Bool). is_uniform c.args.ask.now.known && b) (sym w.is_unsigned.ensures ∙ w.if-is_unsigned.false) ∙ and_false (is_uniform c.args.ask.now.known)
+      | else-is_uniform-via-else-is_uniform w ↦ ap (λ (b : Bool). b && is_unsigned c.in-Err.why) (sym c.is_uniform.ensures ∙ w.if-is_uniform.false)
+    ])

@@ -1,0 +1,91 @@
+-- What is known of a chip's address modes, and how the one that was said is made (JESD216B, basic table: DWORD 1, bits 18:17, and DWORD 16;
+-- W25Q256JV datasheet: Enter 4-Byte Address Mode B7h, Exit E9h, ADS).
+use Rattle.std.specs.Prelude.{◌≡◌, ℕ, ◌/◌, ◌%◌, ◌==◌, not, ◌||◌, Bool, true, false, if◌then◌else◌, List, [], Option, Result, Ok, Err}
+use Rattle.std.proofs.Math.Bool.{beq}
+use Rattle.nor_base.specs.declared.meaning.Part.{Part}
+use Rattle.nor_base.specs.declared.meaning.Part.TheVariants.{Generic, W25q256jv}
+use Rattle.nor_base.specs.declared.meaning.Switch.{Switch}
+use Rattle.nor_base.specs.declared.meaning.Switch.TheVariants.{Absent}
+use Rattle.nor_base.specs.declared.meaning.Width.{Width}
+use Rattle.nor_base.specs.declared.meaning.Width.TheVariants.{Three}
+use Rattle.nor_base.specs.Device.{Ahead}
+use Rattle.nor_base.specs.Instructions.{is_there}
+use Rattle.nor_base.specs.Parameters.{Parameters}
+use Rattle.nor_loop.specs.Log.{Operation, HasLogged}
+use Rattle.nor_loop.specs.Reads.{switch_ops}
+use Rattle.nor_probe.specs.Status.{ReadsStatus}
+use Rattle.nor_reader.specs.Switched.{StopsAmong}
+use Rattle.nor_reader.specs.Telling.{opcode_to}
+use Rattle.nor_serprog.specs.declared.fault.Fault.{Fault}
+use Rattle.nor_sfdp.specs.declared.fault.SfdpFault.{SfdpFault}
+use Rattle.nor_sfdp.specs.Reading.{meaning_of}
+use Rattle.norprog_read.specs.declared.asked.Ask.{Ask}
+use Rattle.norprog_read.specs.declared.asked.Known.{Known}
+use Rattle.norprog_read.specs.declared.asked.Known.TheVariants.{Uniform}
+use Rattle.norprog_read.specs.declared.mode.Modes.{Modes}
+use Rattle.norprog_read.specs.declared.fault.Unlike.TheVariants as unlike
+use Rattle.norprog_read.specs.declared.fault.Unread.{Unread}
+use Rattle.norprog_read.specs.declared.fault.Unread.TheVariants.{Unlike}
+use Rattle.norprog_read.specs.Asked.{StopsStatus}
+use Rattle.norprog_read.specs.Way.{has_both}
+
+-- a chip of this width takes three address bytes in any case
+abbrev pub has_three : Width → Bool
+has_three Three = true
+has_three other = false
+
+-- the tables of a chip of a size say that three is its only mode, and how another is entered and left; where they aren't accepted nothing is
+-- known of that
+abbrev pub own_modes : Result Parameters SfdpFault → Modes
+own_modes (Ok m) = record { one = has_three m.width; enter = m.enter; leave = m.leave }
+own_modes (Err why) = record { one = false; enter = Absent; leave = Absent }
+
+-- what is known of a chip's modes: by its meaning or, of a chip of a size, by the tables that came
+abbrev pub modes_of : Known → List ℕ → Parameters → Modes
+modes_of (Uniform size) tables m = own_modes (meaning_of tables [] Generic)
+modes_of other tables m = record { one = not (has_both m.width); enter = m.enter; leave = m.leave }
+
+-- how a chip whose content is wanted gets into the mode that is said
+abbrev pub switch_to : Bool → Bool → Modes → Switch
+switch_to wanted said modes = if wanted then (if said then modes.enter else modes.leave) else Absent
+
+-- its operations
+abbrev pub mode_ops : Bool → Bool → Modes → List Operation
+mode_ops wanted said modes = switch_ops (switch_to wanted said modes) (opcode_to said)
+
+-- the status of a part that is known to have it shows the mode, by S16 (ADS)
+abbrev pub shows_mode : Part → Bool
+shows_mode Generic = false
+shows_mode W25q256jv = true
+
+-- and says another one
+abbrev pub is_otherwise : Part → Bool → ℕ → Bool
+is_otherwise Generic mode4 status = false
+is_otherwise W25q256jv mode4 status = not (beq (status / 65536 % 2 == 1) mode4)
+
+-- the mode is sure: the chip's power was just switched on, it has only that one, its status shows it, or it was made so
+abbrev pub is_sure : Ask → Bool → Modes → Bool
+is_sure ask said modes = ask.fresh || (modes.one || (shows_mode ask.part || is_there (switch_to ask.content said modes)))
+
+-- the mode that was said is made by these operations, from one status to the next: they were sent to a part of which nothing is known; a
+-- status that shows the mode shows that one, and nothing was sent; or it showed the other one, they were sent, and the next status shows it
+pub data MakesMode (held_before held_after : Option (List ℕ)) (ahead_before ahead_after : Ahead) (ask : Ask) (ops : List Operation)
+    (before : ℕ) : ℕ → Type 0 where
+  Sent : shows_mode ask.part ≡ false → HasLogged held_before held_after ahead_before ahead_after ops
+      → MakesMode held_before held_after ahead_before ahead_after ask ops before before
+  Shown : shows_mode ask.part ≡ true → is_otherwise ask.part ask.mode4 before ≡ false → held_after ≡ held_before → ahead_after ≡ ahead_before
+      → MakesMode held_before held_after ahead_before ahead_after ask ops before before
+  Made : (held : Option (List ℕ)) (ahead : Ahead) (after : ℕ) → HasLogged held_before held ahead_before ahead ops
+      → ReadsStatus ask.part held held_after ahead ahead_after (Ok after) ask.turns → is_otherwise ask.part ask.mode4 after ≡ false
+      → MakesMode held_before held_after ahead_before ahead_after ask ops before after
+
+-- it isn't: the exchange of one of them ended early, or then the status didn't come, or it shows the other mode
+pub data StopsMode (held_before held_after : Option (List ℕ)) (ahead_before ahead_after : Ahead) (ask : Ask) (ops : List Operation)
+    : Unread → Type 0 where
+  Unsent : (why : Fault) → StopsAmong held_before held_after ahead_before ahead_after ops why
+      → StopsMode held_before held_after ahead_before ahead_after ask ops (Unlike (unlike.Asking why))
+  Unasked : (held : Option (List ℕ)) (ahead : Ahead) (why : Unread) → HasLogged held_before held ahead_before ahead ops
+      → StopsStatus held held_after ahead ahead_after ask why → StopsMode held_before held_after ahead_before ahead_after ask ops why
+  Otherwise : (held : Option (List ℕ)) (ahead : Ahead) (after : ℕ) → HasLogged held_before held ahead_before ahead ops
+      → ReadsStatus ask.part held held_after ahead ahead_after (Ok after) ask.turns → is_otherwise ask.part ask.mode4 after ≡ true
+      → StopsMode held_before held_after ahead_before ahead_after ask ops (Unlike (unlike.Mode after))

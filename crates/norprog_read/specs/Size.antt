@@ -1,0 +1,71 @@
+-- What a chip says of its size, and whether a register of it moves all addresses (JESD216B, basic table: DWORD 2, and DWORD 16, bits 26 and
+-- 27; JEDEC: Read Identification 9Fh, whose third byte is usually the power of two that the size is).
+use Rattle.std.specs.Prelude.{◌≡◌, ℕ, ◌==◌, ◌^◌, nat_le, ◌&&◌, Bool, true, false, if◌then◌else◌, List, [], ◌∷◌, Option, Some, None, Result, Ok, Err}
+use Rattle.nor_base.specs.Device.{Ahead}
+use Rattle.nor_probe.specs.declared.own.AddressRegister.{AddressRegister}
+use Rattle.nor_probe.specs.Own.{is_moved, opcode_of, register_of}
+use Rattle.nor_probe.specs.Status.{ReadsRegister}
+use Rattle.nor_serprog.specs.declared.fault.Fault.{Fault}
+use Rattle.nor_sfdp.specs.declared.fault.SfdpFault.{SfdpFault}
+use Rattle.nor_sfdp.specs.Reading.{density_of}
+use Rattle.norprog_read.specs.declared.asked.Ask.{Ask}
+use Rattle.norprog_read.specs.declared.asked.Known.{Known}
+use Rattle.norprog_read.specs.declared.asked.Known.TheVariants.{Uniform}
+use Rattle.norprog_read.specs.declared.fault.Unlike.TheVariants as unlike
+use Rattle.norprog_read.specs.declared.fault.Unread.{Unread}
+use Rattle.norprog_read.specs.declared.fault.Unread.TheVariants.{Unlike}
+
+-- a size that isn't another one
+abbrev pub unless : ℕ → ℕ → Option ℕ
+unless size own = if own == size then None else Some own
+
+abbrev pub size_unless : ℕ → Result ℕ SfdpFault → Option ℕ
+size_unless size (Ok own) = unless size own
+size_unless size (Err why) = None
+
+-- the size that the tables of a chip of a size say, where it is another one and none is allowed
+abbrev pub size_told : Known → Bool → List ℕ → Option ℕ
+size_told (Uniform size) false tables = size_unless size (density_of tables)
+size_told other any tables = None
+
+abbrev pub other_size : Ask → List ℕ → Option ℕ
+other_size ask tables = size_told ask.known ask.any_size tables
+
+abbrev pub TellsSize : Option ℕ → Unread → Type 0
+TellsSize (Some size) why = why ≡ Unlike (unlike.Size size)
+TellsSize None why = ⊥
+
+-- the bytes that are usual for the third byte of an identification: from 64 KiB to 64 MiB
+abbrev pub size_by : ℕ → Option ℕ
+size_by exponent = if nat_le 0x10 exponent && nat_le exponent 0x1A then Some (2 ^ exponent) else None
+
+abbrev pub noted : ℕ → Option ℕ → Option ℕ
+noted size (Some own) = unless size own
+noted size None = None
+
+-- the size that an identification says, where the size was said and is another one
+abbrev pub noted_size : Known → List ℕ → Option ℕ
+noted_size (Uniform size) (maker ∷ high ∷ exponent ∷ []) = noted size (size_by exponent)
+noted_size (Uniform size) other = None
+noted_size known id = None
+
+-- the register that moves all addresses of a chip whose content is wanted, where its tables name one
+abbrev pub asked_register : Bool → List ℕ → Option AddressRegister
+asked_register wanted tables = if wanted then register_of tables else None
+
+-- no register was asked for; or it was read, and moves none
+pub data IsUnmoved (held_before held_after : Option (List ℕ)) (ahead_before ahead_after : Ahead) : Option AddressRegister → Type 0 where
+  Unasked : held_after ≡ held_before → ahead_after ≡ ahead_before → IsUnmoved held_before held_after ahead_before ahead_after None
+  Unmoved : (register : AddressRegister) (value : ℕ)
+      → ReadsRegister held_before held_after ahead_before ahead_after (Ok value) (opcode_of register) → is_moved register value ≡ false
+      → IsUnmoved held_before held_after ahead_before ahead_after (Some register)
+
+-- its exchange ended early, or it moves some
+pub data StopsMoved (held_before held_after : Option (List ℕ)) (ahead_before ahead_after : Ahead) (asked : Option AddressRegister)
+    : Unread → Type 0 where
+  Lost : (register : AddressRegister) (why : Fault) → asked ≡ Some register
+      → ReadsRegister held_before held_after ahead_before ahead_after (Err why) (opcode_of register)
+      → StopsMoved held_before held_after ahead_before ahead_after asked (Unlike (unlike.Asking why))
+  Moved : (register : AddressRegister) (value : ℕ) → asked ≡ Some register
+      → ReadsRegister held_before held_after ahead_before ahead_after (Ok value) (opcode_of register) → is_moved register value ≡ true
+      → StopsMoved held_before held_after ahead_before ahead_after asked (Unlike (unlike.Moved value))
