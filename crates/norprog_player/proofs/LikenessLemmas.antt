@@ -1,5 +1,5 @@
 -- What was compared by marked cells was what was to be compared.
-use Rattle.std.proofs.Common.{◌≡◌, ◌∙◌, refl, ap, Bool, true, false, ℕ, ◌*◌, ◌/◌, ◌%◌, ◌<◌, inl, inr, List, [], ◌∷◌, length, Option, subst, arith}
+use Rattle.std.proofs.Common.{◌≡◌, ◌∙◌, refl, ap, Bool, true, false, ℕ, ◌*◌, ◌/◌, ◌%◌, ◌<◌, inl, inr, List, [], ◌∷◌, length, Option, Some, None, subst, arith}
 use Rattle.std.specs.Prelude.{◌↔◌, ◌⊎◌}
 use Rattle.nor_base.specs.declared.step.Step.{Step}
 use Rattle.nor_base.specs.Device.{Ahead}
@@ -8,6 +8,8 @@ use Rattle.nor_base.specs.Step.{step_clocks}
 use Rattle.nor_laws.proofs.EffectLaws.{keeps_size}
 use Rattle.nor_base.specs.Parameters.{Parameters}
 use Rattle.nor_probe.specs.declared.difference.Mismatch.{Mismatch}
+use Rattle.nor_probe.specs.declared.own.AddressRegister.{AddressRegister}
+use Rattle.nor_probe.specs.Own.{register_of}
 use Rattle.nor_serprog.specs.declared.limits.Limits.{Limits}
 use Rattle.norprog_player.specs.declared.access.Access.{Access}
 use Rattle.norprog_player.specs.declared.ending.Ending.{Ending}
@@ -16,7 +18,7 @@ use Rattle.norprog_failure.specs.declared.failure.Failure.{Failure}
 use Rattle.norprog_failure.specs.declared.failure.Failure.TheVariants as failure
 use Rattle.norprog_player.specs.declared.ending.Unlike.{Unlike as Unlikeness}
 use Rattle.norprog_player.specs.declared.ending.Unlike.TheVariants as unlike
-use Rattle.norprog_player.specs.Asked.{IsIdentified, BeginsWith, Begins, IsUnknown}
+use Rattle.norprog_player.specs.Asked.{IsIdentified, IsUnmoved, BeginsWith, Begins, IsUnknown}
 use Rattle.norprog_player.specs.Compared.{HasCompared, StopsComparing}
 use Rattle.norprog_player.specs.Expected.{Expectation}
 use Rattle.norprog_player.specs.Ending.{HasDoneAll, StopsOnDevice, IsUnlikeAfter, EndsComparing}
@@ -128,8 +130,13 @@ pub as_cells : (P : ℕ → Type 0) (marks : List Bool) (long size : ℕ) → Ar
 as_cells P marks long size are same whole = omega (arith, are.as_many, same, whole)
 
 -- what was asked before it too
+unmoved_keep : (named : Option AddressRegister) (before after : Moment) → IsUnmoved named before after → after.shown ≡ before.shown
+unmoved_keep None before after same = ap (λ (m : Moment). m.shown) same
+unmoved_keep (Some register) before after is = is.1.shown
+
 identified_keep : (x : Expectation) (limits : Limits) (turns : ℕ) (before after : Moment) → IsIdentified x limits turns before after → after.shown ≡ before.shown
-identified_keep x limits turns before after is = is.tables.shown ∙ is.suited.asked.shown
+identified_keep x limits turns before after is =
+    unmoved_keep (register_of x.tables) is.between after is.unmoved ∙ is.known.tables.shown ∙ is.known.suited.asked.shown
 
 begins_by : (trusted : Bool) (x : Expectation) (limits : Limits) (turns : ℕ) (access : Access) (Wanted : ℕ → Type 0) (before after : Moment)
     → BeginsWith trusted x limits turns access Wanted before after → after.shown ≡ before.shown
@@ -185,6 +192,7 @@ module _ (limits : Limits) (turns : ℕ) (x : Expectation) (m : Parameters) (acc
   unknown_alike (unlike.Status status) after is = is
   unknown_alike (unlike.Registers status) after is = is
   unknown_alike (unlike.Tables why) after is = is
+  unknown_alike (unlike.Moved value) after is = is
   unknown_alike (unlike.Content why) after is = (is.0, is.1, unlike_alike limits access V W is.0 after why (alike_then is.0 (size_known is.0 is.1)) is.2)
 
   done_alike : (after : Moment) → HasDoneAll limits turns x access V before steps after → HasDoneAll limits turns x access W before steps after

@@ -19,6 +19,7 @@ fault_of_unlike (unlike.Asking why) = Some why
 fault_of_unlike (unlike.Status status) = None
 fault_of_unlike (unlike.Registers status) = None
 fault_of_unlike (unlike.Tables why) = fault_of_mismatch why
+fault_of_unlike (unlike.Moved value) = None
 fault_of_unlike (unlike.Content why) = fault_of_mismatch why
 
 -- how the exchange did that ended the steps, if one did

@@ -38,6 +38,7 @@ unlike_line (unlike.Asking why) = exchange_line why
 unlike_line (unlike.Status status) = status_line status
 unlike_line (unlike.Registers status) = registers_line status
 unlike_line (unlike.Tables why) = mismatch_line (codes "unlike tables at ") (codes " file ") why
+unlike_line (unlike.Moved value) = codes "unlike register " ++ (hex_pair value ++ codes "\n")
 unlike_line (unlike.Content why) = mismatch_line (codes "unlike differs at ") (codes " dump ") why
 
 -- `ok N`, and `blank` on a line before it where the content says nothing of which chip it is

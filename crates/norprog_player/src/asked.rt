@@ -4,7 +4,7 @@ ghost use Rattle.std.specs.Prelude.{◌≡◌, ◌<◌, ◌≤◌, ◌+◌, ◌-
 ghost use Rattle.std.specs.Prelude.{IfOk};
 ghost use Rattle.nor_probe.specs.Tables.{Compares as ComparesTables};
 ghost use Rattle.norprog_player.specs.Asked.{Begins, IsUnknown, IsIdentified, IsSuited};
-ghost use Rattle.norprog_player.specs.Asked.{StopsAsking};
+ghost use Rattle.norprog_player.specs.Asked.{IsUnmoved, StopsAsking, StopsMoved};
 ghost use Rattle.norprog_device.specs.Blame.{CountsBoth, fault_of_mismatch};
 ghost use Rattle.norprog_player.specs.Blame.{fault_by, fault_of_unlike};
 ghost use Rattle.norprog_player.specs.Expected.{expectation_of};
@@ -16,12 +16,15 @@ use crate::ending::Unlike;
 use crate::expected::Expected;
 use crate::likeness::{compare_chip, reason_of};
 use nor_base::{ByteIn, ByteOut, Part};
-use nor_probe::{Mismatch, chip_status, compare_tables, suits};
+use nor_probe::{
+    AddressRegister, Mismatch, address_register, chip_status, compare_tables, is_moved, opcode_of,
+    read_register, suits,
+};
 use nor_serprog::{Reason, Shadowed};
 
 /// What comes before the steps: unless it is trusted, the chip behind the device is asked for its
-/// status until it is idle, its SFDP bytes are compared with those that it has to have, and its
-/// marked cells with the chip in memory.
+/// status until it is idle, its SFDP bytes are compared with those that it has to have, its address
+/// register is read, and its marked cells are compared with the chip in memory.
 pub(crate) fn begin<R: ByteIn + Drop, W: ByteOut + Drop>(
     port: &mut Shadowed<'_, R, W>,
     expected: Expected<'_>,
@@ -61,8 +64,8 @@ pub(crate) fn begin<R: ByteIn + Drop, W: ByteOut + Drop>(
     }
 }
 
-/// Asks the chip behind the device for its status until it is idle, and compares its SFDP bytes
-/// with those that it has to have.
+/// Asks the chip behind the device for its status until it is idle, compares its SFDP bytes with
+/// those that it has to have, and asks for the register that moves all addresses.
 fn identify<R: ByteIn + Drop, W: ByteOut + Drop>(
     port: &mut Shadowed<'_, R, W>,
     expected: Expected<'_>,
@@ -85,10 +88,10 @@ fn identify<R: ByteIn + Drop, W: ByteOut + Drop>(
         (W.count port.old.to) (W.count port.new.to) (fault_by fault_of_unlike result) }
 {
     ask_status(port, expected)?;
-    match ask_tables(port, expected.tables) {
-        Ok(()) => Ok(()),
-        Err(why) => Err(Unlike::Tables(why)),
+    if let Err(why) = ask_tables(port, expected.tables) {
+        return Err(Unlike::Tables(why));
     }
+    ask_register(port, address_register(expected.tables))
 }
 
 /// Asks the chip behind the device for its status until it is idle. A port where that stops has
@@ -161,4 +164,41 @@ fn ask_tables<R: ByteIn + Drop, W: ByteOut + Drop>(
         port.reason = Some(reason_of(why));
     }
     compared
+}
+
+/// Reads the register that moves all addresses, where the tables name one, and refuses a chip whose
+/// addresses it moves. A port where the exchange ended early has failed.
+fn ask_register<R: ByteIn + Drop, W: ByteOut + Drop>(
+    port: &mut Shadowed<'_, R, W>,
+    named: Option<AddressRegister>,
+) -> Result<(), Unlike>
+    requires count { port.old.failed < 2 ^ 64 - 1 }
+    ensures unmoved { MatchResult result
+        (λ _. IsUnmoved named
+        (moment port.old.chip (W.held port.old.to) (R.ahead port.old.from))
+        (moment port.new.chip (W.held port.new.to) (R.ahead port.new.from)))
+        (StopsMoved named
+        (moment port.old.chip (W.held port.old.to) (R.ahead port.old.from))
+        (moment port.new.chip (W.held port.new.to) (R.ahead port.new.from))) }
+    ensures kept { (port.new.chip ≡ port.old.chip)
+        × (port.new.limits ≡ port.old.limits)
+        × (port.new.turns ≡ port.old.turns) }
+    ensures failures { IfOk result (λ _. port.new.reason ≡ port.old.reason)
+        × IfOk result (λ _. port.new.failed ≡ port.old.failed)
+        × (port.new.failed ≤ port.old.failed + 1) }
+    ensures blamed { CountsBoth (R.count port.old.from) (R.count port.new.from)
+        (W.count port.old.to) (W.count port.new.to) (fault_by fault_of_unlike result) }
+{
+    let Some(register) = named else {
+        return Ok(());
+    };
+    match read_register(&mut port.from, &mut port.to, opcode_of(register)) {
+        Ok(value) if is_moved(register, value) => Err(Unlike::Moved(value)),
+        Ok(_) => Ok(()),
+        Err(why) => {
+            port.failed += 1;
+            port.reason = Some(Reason::Exchange(why));
+            Err(Unlike::Asking(why))
+        }
+    }
 }

@@ -39,6 +39,6 @@ fn fault_of_unlike(why: Unlike) -> Option<Fault>
     match why {
         Unlike::Asking(fault) => Some(fault),
         Unlike::Tables(stop) | Unlike::Content(stop) => fault_of_mismatch(stop),
-        Unlike::Busy | Unlike::Status(_) | Unlike::Registers(_) => None,
+        Unlike::Busy | Unlike::Status(_) | Unlike::Registers(_) | Unlike::Moved(_) => None,
     }
 }

@@ -53,7 +53,7 @@ pub enum Ending {
 pub enum Unlike {
     /// It stays busy.
     Busy,
-    /// An exchange ended early in which it was asked for its status.
+    /// An exchange ended early in which it was asked for its status or its address register.
     Asking(Fault),
     /// Its status, S7 to S0, shows that it can't take the steps.
     Status(u32),
@@ -61,6 +61,8 @@ pub enum Unlike {
     Registers(u32),
     /// Its SFDP bytes are others, or their reading stopped.
     Tables(Mismatch),
+    /// Its address register has this value: some address bit is set.
+    Moved(u8),
     /// A byte that it holds is another, or the reading of these stopped.
     Content(Mismatch),
 }

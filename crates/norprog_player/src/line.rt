@@ -56,8 +56,8 @@ fn write_done<W: ByteOut>(transactions: u128, blank: bool, writer: &mut W) -> Re
     }
 }
 
-/// Writes `unlike WHY`: `busy`, `status` and the status, `tables` or `differs` and the first byte
-/// that is another, or the word of an exchange.
+/// Writes `unlike WHY`: `busy`, `status` or `register` and its value, `tables` or `differs` and the
+/// first byte that is another, or the word of an exchange.
 fn write_unlike<W: ByteOut>(why: Unlike, writer: &mut W) -> Result<(), Failed>
     requires { W.count writer.old < 2 ^ 64 - 1 }
     ensures bytes { Writes (W.held writer.old) (W.held writer.new) result (unlike_line why) }
@@ -69,6 +69,9 @@ fn write_unlike<W: ByteOut>(why: Unlike, writer: &mut W) -> Result<(), Failed>
         Unlike::Status(status) => write_status(status, writer),
         Unlike::Registers(status) => write_registers(status, writer),
         Unlike::Tables(why) => write_mismatch(b"unlike tables at ", b" file ", why, writer),
+        Unlike::Moved(value) => {
+            put_parts(writer, &[b"unlike register ", &hex_pair(value), b"\n"])
+        }
         Unlike::Content(why) => write_mismatch(b"unlike differs at ", b" dump ", why, writer),
     }
 }

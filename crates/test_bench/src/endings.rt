@@ -16,7 +16,7 @@ const OTHER: Difference = Difference {
 };
 
 /// Endings, and the line of each.
-static LINES: [(Ending, &[u8]); 21] = [
+static LINES: [(Ending, &[u8]); 22] = [
     (
         Ending::Done {
             transactions: 3,
@@ -75,6 +75,12 @@ static LINES: [(Ending, &[u8]); 21] = [
             why: Unlike::Tables(Mismatch::Differs(OTHER)),
         },
         b"unlike tables at 000001fe chip a5 file 5a\n",
+    ),
+    (
+        Ending::Unlike {
+            why: Unlike::Moved(0x01),
+        },
+        b"unlike register 01\n",
     ),
     (
         Ending::Unlike {
