@@ -7,3 +7,4 @@ mod GiveLemmas
 mod GoodLemmas
 mod ReadLemmas
 mod WriteLemmas
+mod ConvertLemmas

@@ -1,3 +1,4 @@
 pub mod Records
 pub mod Segments
 pub mod Laws
+pub mod Converted

@@ -18,3 +18,4 @@ mod FindLemmas
 mod NoneLemmas
 mod FeedLemmas
 mod FaultLemmas
+mod StreamLemmas

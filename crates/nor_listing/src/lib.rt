@@ -4,8 +4,8 @@
 //!
 //! [`write_listing`] writes the listing of steps that are at hand. [`begin`], then [`write_line`]
 //! for each step as it comes, then [`finish`] with their number write the same. [`write_unended`]
-//! leaves the end line out. None of them takes memory. [`one_listing`] is the law that a listing
-//! has one list of steps.
+//! leaves the end line out. None of them takes memory. [`list_steps`] writes that of a script, each
+//! line as its step comes. [`one_listing`] is the law that a listing has one list of steps.
 //!
 //! [`read_listing`] reads a listing. That it refuses none is the law [`faultless_listings`], and
 //! that it gives the steps back [`listing_read_back`].
@@ -20,6 +20,7 @@ mod memory;
 mod parts;
 mod reader;
 mod sent;
+mod stream;
 mod told;
 mod verified;
 mod writer;
@@ -28,4 +29,5 @@ pub use fault::ListFault;
 pub use law::{faultless_listings, listing_read_back, one_listing};
 pub use line::write_line;
 pub use reader::read_listing;
+pub use stream::{Stop, list_steps};
 pub use writer::{begin, finish, write_listing, write_unended};

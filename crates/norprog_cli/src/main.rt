@@ -18,7 +18,9 @@ ghost use Rattle.nor_job.specs.declared.fault.BuildFault.TheVariants.{Memory};
 ghost use Rattle.norprog_common.specs.declared.faults.Refusal.TheVariants.{Build};
 ghost use Rattle.norprog_common.specs.FileStore.{Adds};
 ghost use Rattle.norprog_common.specs.Reading.{HasFailed};
-ghost use Rattle.norprog_command.specs.Answers.{AnswersWords};
+ghost use Rattle.norprog_command.specs.Answers.{AnswersWords, done_by};
+ghost use Rattle.norprog_files.specs.Files.{Did};
+ghost use Rattle.norprog_files.specs.Trace.{reports};
 ghost use Rattle.norprog_command.specs.Reads.{MayReadWords};
 ghost use Rattle.norprog_cli.specs.Ends.{EndsCommand, EndsGathered, EndsGiven, EndsProgram};
 ghost use Rattle.norprog_cli.specs.Ends.{IsWordless, one_more, OpensEnd, OpensGiven, texts_in};
@@ -30,10 +32,11 @@ use nor_base::{ByteIn, ByteOut, Failed, FromRead, IntoWrite, Nowhere};
 use norprog_command::command;
 use norprog_common::{FileStore, Refusal, SystemFiles, Unlisted, Unrecorded, refuse};
 use norprog_details::Heard;
+use norprog_files::{Files, Places, System, Trail};
 use std::alloc::Global;
 use std::env::{self, Args};
 use std::fs::{self, File};
-use std::io::{ErrorKind, IsTerminal};
+use std::io::{ErrorKind, IsTerminal, Read, Write};
 use std::process::ExitCode;
 
 fn main(rt: HostRuntime) -> ExitCode {
@@ -50,12 +53,15 @@ fn main(rt: HostRuntime) -> ExitCode {
 fn main_status<E: ByteOut + Drop>(rt: &HostRuntime, err: &mut Heard<E>) -> u8
     requires { E.count err.old.out < 2 ^ 64 - 1 }
     ensures { EndsProgram ⟦<Heard<E> as ByteOut>⟧.count ⟦<Heard<E> as ByteOut>⟧.held
+        (reports ⟦<File as Read>⟧.remaining ⟦<File as Write>⟧.contents)
         (HasFailed ⟦<FromRead<File> as ByteIn>⟧.ahead ⟦<FromRead<File> as ByteIn>⟧.count)
         err.old err.new result }
 {
     let alloc = rt.alloc();
     let words = words_of(rt);
-    let files = SystemFiles::new(rt);
+    let store = SystemFiles::new(rt);
+    let files = System::new(rt);
+    let mut trail = Places::new(alloc);
     let mut journal = Unrecorded;
     let mut ledger = Unlisted;
     let out = IntoWrite::new(rt.stdout());
@@ -63,9 +69,11 @@ fn main_status<E: ByteOut + Drop>(rt: &HostRuntime, err: &mut Heard<E>) -> u8
         let mut progress = IntoWrite::new(rt.stderr());
         run_words(
             alloc,
-            &files,
+            &store,
             &mut journal,
             &mut ledger,
+            &files,
+            &mut trail,
             words,
             out,
             err,
@@ -75,9 +83,11 @@ fn main_status<E: ByteOut + Drop>(rt: &HostRuntime, err: &mut Heard<E>) -> u8
     } else {
         run_words(
             alloc,
-            &files,
+            &store,
             &mut journal,
             &mut ledger,
+            &files,
+            &mut trail,
             words,
             out,
             err,
@@ -89,11 +99,13 @@ fn main_status<E: ByteOut + Drop>(rt: &HostRuntime, err: &mut Heard<E>) -> u8
 
 /// Runs a command as [`command_gathered`] does; where there are no words, reports why. Returns its
 /// status and what was printed to.
-fn run_words<S: FileStore, W: ByteOut + Drop, E: ByteOut + Drop, P: ByteOut>(
+fn run_words<S: FileStore, F: Files, W: ByteOut + Drop, E: ByteOut + Drop, P: ByteOut>(
     alloc: Global,
     store: &S,
     journal: &mut S::Journal,
     ledger: &mut S::Ledger,
+    files: &F,
+    trail: &mut F::Trail,
     words: Result<Vec<String>, Refusal>,
     out: W,
     err: &mut Heard<E>,
@@ -108,7 +120,8 @@ fn run_words<S: FileStore, W: ByteOut + Drop, E: ByteOut + Drop, P: ByteOut>(
         (texts_in (λ words. map string_bytes words.items) words) result.0 }
     ensures ends { EndsGiven ⟦<Heard<E> as ByteOut>⟧.count ⟦<Heard<E> as ByteOut>⟧.held
         (S.facts store.now) (HasFailed S.Input.ahead S.Input.count)
-        (Adds (S.Journal.changes journal.old) (S.Journal.changes journal.new))
+        (done_by (Adds (S.Journal.changes journal.old) (S.Journal.changes journal.new))
+        (Did (F.Trail.did trail.old) (F.Trail.did trail.new)) (F.unread files.now))
         (texts_in (λ words. map string_bytes words.items) words) (W.count out) (W.count result.1)
         (W.held out) (W.held result.1) err.old err.new result.0 (
           P.held progress.old,
@@ -118,7 +131,9 @@ fn run_words<S: FileStore, W: ByteOut + Drop, E: ByteOut + Drop, P: ByteOut>(
         ) }
 {
     match words {
-        Ok(words) => command_gathered(alloc, store, journal, ledger, words, out, err, progress),
+        Ok(words) => command_gathered(
+            alloc, store, journal, ledger, files, trail, words, out, err, progress,
+        ),
         Err(refusal) => (refuse(&refusal, err), out),
     }
 }
@@ -126,11 +141,13 @@ fn run_words<S: FileStore, W: ByteOut + Drop, E: ByteOut + Drop, P: ByteOut>(
 /// Runs a command as [`command_flushed`] does, with what it prints gathered. What `flash` prints
 /// isn't: its plan goes out before the first step is sent, or no step is. Returns its status and
 /// what was printed to.
-fn command_gathered<S: FileStore, W: ByteOut + Drop, E: ByteOut + Drop, P: ByteOut>(
+fn command_gathered<S: FileStore, F: Files, W: ByteOut + Drop, E: ByteOut + Drop, P: ByteOut>(
     alloc: Global,
     store: &S,
     journal: &mut S::Journal,
     ledger: &mut S::Ledger,
+    files: &F,
+    trail: &mut F::Trail,
     words: Vec<String>,
     out: W,
     err: &mut Heard<E>,
@@ -143,7 +160,8 @@ fn command_gathered<S: FileStore, W: ByteOut + Drop, E: ByteOut + Drop, P: ByteO
     ensures direct { Any (λ word. string_bytes word ≡ codes "flash") words.items
         → AnswersWords ⟦<Heard<E> as ByteOut>⟧.count ⟦<Heard<E> as ByteOut>⟧.held
         (S.facts store.now) (HasFailed S.Input.ahead S.Input.count)
-        (Adds (S.Journal.changes journal.old) (S.Journal.changes journal.new))
+        (done_by (Adds (S.Journal.changes journal.old) (S.Journal.changes journal.new))
+        (Did (F.Trail.did trail.old) (F.Trail.did trail.new)) (F.unread files.now))
         (W.count out < W.count result.1) (map string_bytes words.items) (W.held out)
         (W.held result.1) err.old err.new result.0 (
           P.held progress.old,
@@ -155,7 +173,8 @@ fn command_gathered<S: FileStore, W: ByteOut + Drop, E: ByteOut + Drop, P: ByteO
         (map string_bytes words.items) result.0 }
     ensures ends { EndsGathered ⟦<Heard<E> as ByteOut>⟧.count ⟦<Heard<E> as ByteOut>⟧.held
         (S.facts store.now) (HasFailed S.Input.ahead S.Input.count)
-        (Adds (S.Journal.changes journal.old) (S.Journal.changes journal.new))
+        (done_by (Adds (S.Journal.changes journal.old) (S.Journal.changes journal.new))
+        (Did (F.Trail.did trail.old) (F.Trail.did trail.new)) (F.unread files.now))
         (map string_bytes words.items) (W.count out) (W.count result.1) (W.held out)
         (W.held result.1) err.old err.new result.0 (
           P.held progress.old,
@@ -167,7 +186,7 @@ fn command_gathered<S: FileStore, W: ByteOut + Drop, E: ByteOut + Drop, P: ByteO
     if is_flash_among(words.as_slice()) {
         let mut out = out;
         let status = command(
-            alloc, store, journal, ledger, words, &mut out, err, progress,
+            alloc, store, journal, ledger, files, trail, words, &mut out, err, progress,
         );
         return (status, out);
     }
@@ -177,6 +196,8 @@ fn command_gathered<S: FileStore, W: ByteOut + Drop, E: ByteOut + Drop, P: ByteO
         store,
         journal,
         ledger,
+        files,
+        trail,
         words,
         &mut gathered,
         err,
@@ -195,11 +216,13 @@ fn is_flash_among(words: &[String]) -> bool
 
 /// Runs a command as [`command`] does, and then has all go out that it wrote to `out`. Returns its
 /// status; 1 where it was done and that failed, which is reported.
-fn command_flushed<S: FileStore, W: ByteOut + Drop, E: ByteOut + Drop, P: ByteOut>(
+fn command_flushed<S: FileStore, F: Files, W: ByteOut + Drop, E: ByteOut + Drop, P: ByteOut>(
     alloc: Global,
     store: &S,
     journal: &mut S::Journal,
     ledger: &mut S::Ledger,
+    files: &F,
+    trail: &mut F::Trail,
     words: Vec<String>,
     out: &mut Gathered<W>,
     err: &mut Heard<E>,
@@ -211,7 +234,8 @@ fn command_flushed<S: FileStore, W: ByteOut + Drop, E: ByteOut + Drop, P: ByteOu
     requires progress { P.count progress.old < 2 ^ 64 - 1 }
     ensures ends { EndsCommand ⟦<Heard<E> as ByteOut>⟧.count ⟦<Heard<E> as ByteOut>⟧.held
         (S.facts store.now) (HasFailed S.Input.ahead S.Input.count)
-        (Adds (S.Journal.changes journal.old) (S.Journal.changes journal.new))
+        (done_by (Adds (S.Journal.changes journal.old) (S.Journal.changes journal.new))
+        (Did (F.Trail.did trail.old) (F.Trail.did trail.new)) (F.unread files.now))
         (map string_bytes words.items) (W.count out.old.out) (W.count out.new.out)
         out.new.left.items (append_known (W.held out.old.out) out.old.left.items)
         (append_known (W.held out.new.out) out.new.left.items) err.old err.new result (
@@ -224,7 +248,9 @@ fn command_flushed<S: FileStore, W: ByteOut + Drop, E: ByteOut + Drop, P: ByteOu
         (map string_bytes words.items) result }
     ensures out { result ≡ 0 → out.new.left.items ≡ [] }
 {
-    let status = command(alloc, store, journal, ledger, words, out, err, progress);
+    let status = command(
+        alloc, store, journal, ledger, files, trail, words, out, err, progress,
+    );
     match flush_out(out) {
         Err(_) if status == 0 => refuse(&Refusal::WRITE, err),
         _ => status,

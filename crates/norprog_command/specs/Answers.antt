@@ -11,23 +11,20 @@ use Rattle.norprog_options.specs.declared.options.Line.{Line}
 use Rattle.norprog_options.specs.declared.typed.TypedLine.{TypedLine}
 use Rattle.norprog_options.specs.Spelled.{Refuses, Spells}
 use Rattle.norprog_options.specs.Typed.{IsLineOf}
-use Rattle.norprog_build.specs.Answer.{AnswersBuild}
 use Rattle.norprog_plan.specs.Answer.{AnswersPlan}
 use Rattle.norprog_check.specs.Answer.{AnswersCheck}
-use Rattle.norprog_sfdp.specs.Answer.{AnswersChip}
 use Rattle.norprog_details.specs.declared.typed.CommandLine.{CommandLine}
 use Rattle.norprog_details.specs.Details.{TellsDetails}
 use Rattle.norprog_details.specs.Heard.{IsLastLine}
-use Rattle.norprog_draw.specs.Answer.{AnswersDraw}
 use Rattle.norprog_explain.specs.Explained.{explained, AnswersExplain}
 use Rattle.norprog_explain.specs.Topics.{topics}
 use Rattle.norprog_flash.specs.Answer.{AnswersFlash}
-use Rattle.norprog_hex.specs.Answer.{AnswersHex}
-use Rattle.norprog_list.specs.Answer.{AnswersList}
+use Rattle.norprog_files.specs.Files.{Event}
+use Rattle.norprog_named.specs.Asked.{Answered, EndsBuildAsked, EndsDrawAsked, EndsHexAsked, EndsListAsked, EndsScriptAsked, EndsSfdpAsked, told}
+use Rattle.norprog_named.specs.List.{sheet}
 use Rattle.norprog_play.specs.Answer.{AnswersPlay}
 use Rattle.norprog_read.specs.Answer.{AnswersRead}
 use Rattle.norprog_run.specs.Answer.{AnswersRun}
-use Rattle.norprog_script.specs.Answer.{AnswersScript}
 use Rattle.nor_progress.specs.Far.{IsSilent, Tries}
 use Rattle.norprog_device.specs.Setting.{waiting_line}
 
@@ -62,41 +59,56 @@ pub record Waits (device : Option (List ℕ)) (Shows : ProgressShown → Type 0)
   pub waiting : Tries shown.0 middle shown.2 failures result (waiting_text device)
   pub shows : ShowsAfter result Shows (middle, shown.1, failures, shown.3)
 
+-- what was done with files: the changes that a store notes are so (`made`), and the log is (`did`), of which a reader may have failed (`unread`)
+pub record Done : Type 1 where
+  pub made : List Change → Type 0
+  pub did : (List Event → Type 0) → Type 0
+  pub unread : Type 0
+
+abbrev pub done_by : (List Change → Type 0) → ((List Event → Type 0) → Type 0) → Type 0 → Done
+done_by made did unread = record { made = made; did = did; unread = unread }
+
 -- to what is asked for, each command its answer, by what is known of files by their names. `Failed` says what a reader had ahead that
--- has failed, `Made` which files and devices were changed, `Unprinted` that what is printed to failed; a command that isn't handed the
+-- has failed, `done` what was done with files and devices, `Unprinted` that what is printed to failed; a command that isn't handed the
 -- journal changes none, and makes no output; only `play`, `read` and `flash` say which device they wait for, and `play` and `flash` how
 -- far they came
-abbrev pub AnswersTo : FileFacts → (Ahead → Type 0) → (List Change → Type 0) → Type 0 → Asked → Option (List ℕ) → Option (List ℕ) → Type 0
+abbrev pub AnswersTo : FileFacts → (Ahead → Type 0) → Done → Type 0 → Asked → Option (List ℕ) → Option (List ℕ) → Type 0
     → Type 0 → Option (List ℕ) → Option (List ℕ) → ℕ → ProgressShown → Type 0
-AnswersTo files Failed Made Unprinted (command.Build given) before after Quiet Works told_before told_after status shown =
-    ShowsNone shown × AnswersBuild files Failed given Made (files.broke ⊎ Unprinted) before after Quiet Works told_before told_after status
-AnswersTo files Failed Made Unprinted (command.Plan given) before after Quiet Works told_before told_after status shown =
-    ShowsNone shown × AnswersPlan files Failed given Made (files.broke ⊎ Unprinted) before after Quiet Works told_before told_after status
-AnswersTo files Failed Made Unprinted (command.Check given) before after Quiet Works told_before told_after status shown =
-    ShowsNone shown × Made [] × AnswersCheck files Failed given Unprinted before after Quiet Works told_before told_after status
-AnswersTo files Failed Made Unprinted (command.Run given) before after Quiet Works told_before told_after status shown =
-    ShowsNone shown × AnswersRun files Failed given Made (files.broke ⊎ Unprinted) before after Quiet Works told_before told_after status
-AnswersTo files Failed Made Unprinted (command.List given) before after Quiet Works told_before told_after status shown =
-    ShowsNone shown × Made [] × AnswersList files Failed given Unprinted before after Quiet Works told_before told_after status
-AnswersTo files Failed Made Unprinted (command.Draw given) before after Quiet Works told_before told_after status shown =
-    ShowsNone shown × (after ≡ before) × AnswersDraw files given Made Quiet Works told_before told_after status
-AnswersTo files Failed Made Unprinted (command.Play given) before after Quiet Works told_before told_after status shown =
+AnswersTo files Failed done Unprinted (command.Build given) before after Quiet Works told_before told_after status shown =
+    ShowsNone shown × done.made []
+    × done.did (λ log. Answered (told Quiet Works told_before told_after) status (EndsBuildAsked done.unread given Unprinted before after log))
+AnswersTo files Failed done Unprinted (command.Plan given) before after Quiet Works told_before told_after status shown =
+    ShowsNone shown × AnswersPlan files Failed given done.made (files.broke ⊎ Unprinted) before after Quiet Works told_before told_after status
+AnswersTo files Failed done Unprinted (command.Check given) before after Quiet Works told_before told_after status shown =
+    ShowsNone shown × done.made [] × AnswersCheck files Failed given Unprinted before after Quiet Works told_before told_after status
+AnswersTo files Failed done Unprinted (command.Run given) before after Quiet Works told_before told_after status shown =
+    ShowsNone shown × AnswersRun files Failed given done.made (files.broke ⊎ Unprinted) before after Quiet Works told_before told_after status
+AnswersTo files Failed done Unprinted (command.List given) before after Quiet Works told_before told_after status shown =
+    ShowsNone shown × done.made []
+    × done.did (λ log. Answered (told Quiet Works told_before told_after) status (EndsListAsked done.unread given (sheet Unprinted before after) log))
+AnswersTo files Failed done Unprinted (command.Draw given) before after Quiet Works told_before told_after status shown =
+    ShowsNone shown × (after ≡ before) × done.made []
+    × done.did (λ log. Answered (told Quiet Works told_before told_after) status (EndsDrawAsked given log))
+AnswersTo files Failed done Unprinted (command.Play given) before after Quiet Works told_before told_after status shown =
     Waits (option_map (λ t. t.now) given.device)
-    (λ s. AnswersPlay files Failed given Made (files.broke ⊎ Unprinted) before after Quiet Works told_before told_after status s.0 s.1 s.2 s.3) shown
-AnswersTo files Failed Made Unprinted (command.Read given) before after Quiet Works told_before told_after status shown =
+    (λ s. AnswersPlay files Failed given done.made (files.broke ⊎ Unprinted) before after Quiet Works told_before told_after status s.0 s.1 s.2 s.3) shown
+AnswersTo files Failed done Unprinted (command.Read given) before after Quiet Works told_before told_after status shown =
     Waits (option_map (λ t. t.now) given.device)
-    (λ s. ShowsNone s × AnswersRead files given Made (files.broke ⊎ Unprinted) before after Quiet Works told_before told_after status) shown
-AnswersTo files Failed Made Unprinted (command.Flash given) before after Quiet Works told_before told_after status shown =
+    (λ s. ShowsNone s × AnswersRead files given done.made (files.broke ⊎ Unprinted) before after Quiet Works told_before told_after status) shown
+AnswersTo files Failed done Unprinted (command.Flash given) before after Quiet Works told_before told_after status shown =
     Waits (option_map (λ t. t.now) given.device)
-    (λ s. AnswersFlash files given Made (files.broke ⊎ Unprinted) before after Quiet Works told_before told_after status s.0 s.1 s.2 s.3) shown
-AnswersTo files Failed Made Unprinted (command.Sfdp given) before after Quiet Works told_before told_after status shown =
-    ShowsNone shown × Made [] × AnswersChip files given Unprinted before after Quiet Works told_before told_after status
-AnswersTo files Failed Made Unprinted (command.Hex given) before after Quiet Works told_before told_after status shown =
-    ShowsNone shown × (after ≡ before) × AnswersHex files Failed given Made Quiet Works told_before told_after status
-AnswersTo files Failed Made Unprinted (command.Script given) before after Quiet Works told_before told_after status shown =
-    ShowsNone shown × AnswersScript files given Made (files.broke ⊎ Unprinted) before after Quiet Works told_before told_after status
-AnswersTo files Failed Made Unprinted (command.Explain words) before after Quiet Works told_before told_after status shown =
-    ShowsNone shown × Made [] × AnswersExplain (explained topics words.items) Unprinted before after Quiet Works told_before told_after status
+    (λ s. AnswersFlash files given done.made (files.broke ⊎ Unprinted) before after Quiet Works told_before told_after status s.0 s.1 s.2 s.3) shown
+AnswersTo files Failed done Unprinted (command.Sfdp given) before after Quiet Works told_before told_after status shown =
+    ShowsNone shown × done.made []
+    × done.did (λ log. Answered (told Quiet Works told_before told_after) status (EndsSfdpAsked given Unprinted before after log))
+AnswersTo files Failed done Unprinted (command.Hex given) before after Quiet Works told_before told_after status shown =
+    ShowsNone shown × (after ≡ before) × done.made []
+    × done.did (λ log. Answered (told Quiet Works told_before told_after) status (EndsHexAsked done.unread given log))
+AnswersTo files Failed done Unprinted (command.Script given) before after Quiet Works told_before told_after status shown =
+    ShowsNone shown × done.made []
+    × done.did (λ log. Answered (told Quiet Works told_before told_after) status (EndsScriptAsked given Unprinted before after log))
+AnswersTo files Failed done Unprinted (command.Explain words) before after Quiet Works told_before told_after status shown =
+    ShowsNone shown × done.made [] × AnswersExplain (explained topics words.items) Unprinted before after Quiet Works told_before told_after status
 
 -- more was written of the refusal that is the last line of the text so far, by what stands on the command line; or nothing was, where
 -- what is written to had failed as often as can be counted
@@ -118,25 +130,25 @@ kept_details before after details = if nat_eq after before then details else Non
 
 -- a command line has its command's answer, and then more of a refusal, unless what is written to failed in that answer
 pub record AnswersLine (E : Type 0) (count : E → ℕ) (held : E → Option (List ℕ)) (files : FileFacts) (Failed : Ahead → Type 0)
-    (Made : List Change → Type 0) (Unprinted : Type 0) (before after : Option (List ℕ)) (err_before err_after : E) (status : ℕ)
+    (done : Done) (Unprinted : Type 0) (before after : Option (List ℕ)) (err_before err_after : E) (status : ℕ)
     (shown : ProgressShown) (line : Line) : Type 0 where
   pub answered : E
-  pub answers : AnswersTo files Failed Made Unprinted line.asked before after (answered ≡ err_before) (count answered ≡ count err_before)
+  pub answers : AnswersTo files Failed done Unprinted line.asked before after (answered ≡ err_before) (count answered ≡ count err_before)
       (held err_before) (held answered) status shown
   pub details : AddsDetails count held files (kept_details (count err_before) (count answered) line.details) status answered err_after
 
 -- to the command line that the words are its answer; to words that are refused, why
-abbrev pub AnswersTyped : {E : Type 0} → (E → ℕ) → (E → Option (List ℕ)) → FileFacts → (Ahead → Type 0) → (List Change → Type 0) → Type 0
+abbrev pub AnswersTyped : {E : Type 0} → (E → ℕ) → (E → Option (List ℕ)) → FileFacts → (Ahead → Type 0) → Done → Type 0
     → List (List ℕ) → Option (List ℕ) → Option (List ℕ) → E → E → ℕ
     → ProgressShown → Result Line Refusal → Type 0
-AnswersTyped count held files Failed Made Unprinted words before after err_before err_after status shown (Ok line) =
-    Spells words line × AnswersLine _ count held files Failed Made Unprinted before after err_before err_after status shown line
-AnswersTyped count held files Failed Made Unprinted words before after err_before err_after status shown (Err why) =
-    ShowsNone shown × Refuses words why × Made [] × (after ≡ before)
+AnswersTyped count held files Failed done Unprinted words before after err_before err_after status shown (Ok line) =
+    Spells words line × AnswersLine _ count held files Failed done Unprinted before after err_before err_after status shown line
+AnswersTyped count held files Failed done Unprinted words before after err_before err_after status shown (Err why) =
+    ShowsNone shown × Refuses words why × done.made [] × done.did (λ log. log ≡ []) × (after ≡ before)
     × TellsOf (λ told. told ≡ why) (count err_after ≡ count err_before) (held err_before) (held err_after) status
 
 -- what the program answers to words
-abbrev pub AnswersWords : {E : Type 0} → (E → ℕ) → (E → Option (List ℕ)) → FileFacts → (Ahead → Type 0) → (List Change → Type 0) → Type 0
+abbrev pub AnswersWords : {E : Type 0} → (E → ℕ) → (E → Option (List ℕ)) → FileFacts → (Ahead → Type 0) → Done → Type 0
     → List (List ℕ) → Option (List ℕ) → Option (List ℕ) → E → E → ℕ → ProgressShown → Type 0
-AnswersWords count held files Failed Made Unprinted words before after err_before err_after status shown =
-    (read : Result Line Refusal) × AnswersTyped count held files Failed Made Unprinted words before after err_before err_after status shown read
+AnswersWords count held files Failed done Unprinted words before after err_before err_after status shown =
+    (read : Result Line Refusal) × AnswersTyped count held files Failed done Unprinted words before after err_before err_after status shown read

@@ -3,14 +3,9 @@ use Rattle.std.specs.Prelude.{⊤, ℕ, List, Option, Some, None, option_map}
 use Rattle.norprog_common.specs.FileStore.{FileFacts, MayRead, MayReadNamed}
 use Rattle.norprog_common.specs.Served as job
 use Rattle.norprog_check.specs.Served as check
-use Rattle.norprog_draw.specs.Served as draw
 use Rattle.norprog_flash.specs.Served as flash
-use Rattle.norprog_hex.specs.Served as hex
-use Rattle.norprog_list.specs.Served as list
 use Rattle.norprog_play.specs.Served as play
 use Rattle.norprog_run.specs.Served as run
-use Rattle.norprog_script.specs.Served as script
-use Rattle.norprog_sfdp.specs.Served as sfdp
 use Rattle.norprog_details.specs.declared.typed.CommandLine.{CommandLine}
 use Rattle.norprog_details.specs.Details.{MayAskTyped}
 use Rattle.norprog_options.specs.declared.options.Asked.{Asked}
@@ -22,18 +17,18 @@ use Rattle.norprog_options.specs.Typed.{IsLineOf}
 
 -- those that the options of a command name
 abbrev pub MayReadAsked : FileFacts → Asked → Type 0
-MayReadAsked files (command.Build given) = MayRead files (job.paths_asked given.job job.no_path)
+MayReadAsked files (command.Build given) = ⊤
 MayReadAsked files (command.Plan given) = MayRead files (job.paths_asked given.job job.no_path)
 MayReadAsked files (command.Check given) = MayRead files (check.check_paths given)
 MayReadAsked files (command.Run given) = MayRead files (run.paths_asked given)
-MayReadAsked files (command.List given) = MayRead files (list.paths_asked given)
-MayReadAsked files (command.Draw given) = MayRead files (draw.paths_asked given)
+MayReadAsked files (command.List given) = ⊤
+MayReadAsked files (command.Draw given) = ⊤
 MayReadAsked files (command.Play given) = MayRead files (play.paths_asked given)
 MayReadAsked files (command.Read given) = MayReadNamed files (option_map (λ t. t.now) given.chip.sfdp)
 MayReadAsked files (command.Flash given) = MayRead files (flash.paths_asked given)
-MayReadAsked files (command.Sfdp given) = MayRead files (sfdp.tables_path (option_map (λ t. t.now) given.sfdp))
-MayReadAsked files (command.Hex given) = MayRead files (hex.paths_asked given)
-MayReadAsked files (command.Script given) = MayRead files (script.paths_asked given)
+MayReadAsked files (command.Sfdp given) = ⊤
+MayReadAsked files (command.Hex given) = ⊤
+MayReadAsked files (command.Script given) = ⊤
 MayReadAsked files (command.Explain words) = ⊤
 
 -- `--details` may have the system asked once more about those that its options with values name

@@ -6,7 +6,8 @@ ghost use Rattle.std.specs.Prelude.{◌≡◌, ◌<◌, ◌≤◌, ◌-◌, ◌^
 ghost use Rattle.norprog_common.specs.FileStore.{Adds, OpensAt};
 ghost use Rattle.norprog_common.specs.Reading.{HasFailed};
 ghost use Rattle.norprog_command.specs.Answers.{AnswersTo, AnswersWords, AddsDetails, AddsLines};
-ghost use Rattle.norprog_command.specs.Answers.{kept_details};
+ghost use Rattle.norprog_command.specs.Answers.{done_by, kept_details};
+ghost use Rattle.norprog_files.specs.Files.{Did};
 ghost use Rattle.norprog_command.specs.Opened.{files_of, OpensDetails, OpensLines, OpensWords};
 ghost use Rattle.norprog_command.specs.Reads.{MayAskDetails, MayAskLine, MayReadAsked};
 ghost use Rattle.norprog_command.specs.Reads.{MayReadWords};
@@ -15,30 +16,28 @@ mod waited;
 
 use crate::waited::{flash_waited, play_waited, read_waited};
 use nor_base::ByteOut;
-use norprog_build::build;
 use norprog_check::check;
 use norprog_common::{FileStore, refuse};
 use norprog_details::{Heard, write_details};
-use norprog_draw::draw;
 use norprog_explain::explain;
-use norprog_hex::hex;
-use norprog_list::list;
+use norprog_files::{Files, Trail};
+use norprog_named::{build_asked, draw_asked, hex_asked, list_asked, script_asked, sfdp_asked};
 use norprog_options::{Asked, Line, TypedLine, asked_by};
 use norprog_plan::plan;
 use norprog_run::run;
-use norprog_script::script;
-use norprog_sfdp::sfdp;
 use std::alloc::Global;
 
 /// Runs the command that the words spell, the program's name not among them. It opens the files
 /// that they name, writes what goes to standard output to `out`, a refusal to `err`, and to
 /// `progress` which device `play`, `read` and `flash` wait for, and how far steps came. Returns the
 /// status: 0 done, 1 refused or a script that goes wrong or doesn't do its job, 2 usage.
-pub fn command<S: FileStore, O: ByteOut, E: ByteOut + Drop, P: ByteOut>(
+pub fn command<S: FileStore, F: Files, O: ByteOut, E: ByteOut + Drop, P: ByteOut>(
     alloc: Global,
     store: &S,
     journal: &mut S::Journal,
     ledger: &mut S::Ledger,
+    files: &F,
+    trail: &mut F::Trail,
     words: Vec<String>,
     out: &mut O,
     err: &mut Heard<E>,
@@ -54,7 +53,8 @@ pub fn command<S: FileStore, O: ByteOut, E: ByteOut + Drop, P: ByteOut>(
         (map string_bytes words.items) result }
     ensures answer { AnswersWords ⟦<Heard<E> as ByteOut>⟧.count ⟦<Heard<E> as ByteOut>⟧.held
         (S.facts store.now) (HasFailed S.Input.ahead S.Input.count)
-        (Adds (S.Journal.changes journal.old) (S.Journal.changes journal.new))
+        (done_by (Adds (S.Journal.changes journal.old) (S.Journal.changes journal.new))
+        (Did (F.Trail.did trail.old) (F.Trail.did trail.new)) (F.unread files.now))
         (O.count out.old < O.count out.new)
         (map string_bytes words.items) (O.held out.old) (O.held out.new) err.old err.new result (
           P.held progress.old,
@@ -67,7 +67,9 @@ pub fn command<S: FileStore, O: ByteOut, E: ByteOut + Drop, P: ByteOut>(
         Ok(line) => {
             let Line { asked, details } = line;
             let failures = err.failures();
-            let status = answer_to(alloc, store, journal, ledger, asked, out, err, progress);
+            let status = answer_to(
+                alloc, store, journal, ledger, files, trail, asked, out, err, progress,
+            );
             let details = kept_details(details, failures, err.failures());
             add_details(alloc, store, ledger, details, status, err);
             status
@@ -129,11 +131,13 @@ fn add_lines<S: FileStore, E: ByteOut + Drop>(
 }
 
 /// Does what is asked for.
-fn answer_to<S: FileStore, O: ByteOut, E: ByteOut, P: ByteOut>(
+fn answer_to<S: FileStore, F: Files, O: ByteOut, E: ByteOut, P: ByteOut>(
     alloc: Global,
     store: &S,
     journal: &mut S::Journal,
     ledger: &mut S::Ledger,
+    files: &F,
+    trail: &mut F::Trail,
     asked: Asked<'_>,
     out: &mut O,
     err: &mut E,
@@ -149,7 +153,8 @@ fn answer_to<S: FileStore, O: ByteOut, E: ByteOut, P: ByteOut>(
         (files_of asked.entry) result }
     ensures answer { AnswersTo (S.facts store.now)
         (HasFailed S.Input.ahead S.Input.count)
-        (Adds (S.Journal.changes journal.old) (S.Journal.changes journal.new))
+        (done_by (Adds (S.Journal.changes journal.old) (S.Journal.changes journal.new))
+        (Did (F.Trail.did trail.old) (F.Trail.did trail.new)) (F.unread files.now))
         (O.count out.old < O.count out.new) asked.entry (O.held out.old) (O.held out.new)
         (err.new ≡ err.old)
         (E.count err.new ≡ E.count err.old) (E.held err.old) (E.held err.new) result (
@@ -160,12 +165,12 @@ fn answer_to<S: FileStore, O: ByteOut, E: ByteOut, P: ByteOut>(
         ) }
 {
     match asked {
-        Asked::Build(given) => build(alloc, store, journal, ledger, given, out, err),
+        Asked::Build(given) => build_asked(alloc, files, trail, given, out, err),
         Asked::Plan(given) => plan(alloc, store, journal, ledger, given, out, err),
         Asked::Check(given) => check(alloc, store, ledger, given, out, err),
         Asked::Run(given) => run(alloc, store, journal, ledger, given, out, err),
-        Asked::List(given) => list(alloc, store, ledger, given, out, err),
-        Asked::Draw(given) => draw(alloc, store, journal, ledger, given, err),
+        Asked::List(given) => list_asked(alloc, files, trail, given, out, err),
+        Asked::Draw(given) => draw_asked(alloc, files, trail, given, err),
         Asked::Play(given) => {
             play_waited(alloc, store, journal, ledger, given, out, err, progress)
         }
@@ -175,9 +180,9 @@ fn answer_to<S: FileStore, O: ByteOut, E: ByteOut, P: ByteOut>(
         Asked::Flash(given) => {
             flash_waited(alloc, store, journal, ledger, given, out, err, progress)
         }
-        Asked::Sfdp(given) => sfdp(alloc, store, ledger, given, out, err),
-        Asked::Hex(given) => hex(alloc, store, journal, ledger, given, err),
-        Asked::Script(given) => script(alloc, store, journal, ledger, given, out, err),
+        Asked::Sfdp(given) => sfdp_asked(alloc, files, trail, given, out, err),
+        Asked::Hex(given) => hex_asked(alloc, files, trail, given, err),
+        Asked::Script(given) => script_asked(alloc, files, trail, given, out, err),
         Asked::Explain(words) => explain(words.as_slice(), out, err),
     }
 }

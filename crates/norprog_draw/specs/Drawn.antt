@@ -1,12 +1,9 @@
 -- What a waveform of a script's text is, and why there is none (this project's).
 use Rattle.std.specs.Prelude.{◌≡◌, ◌⊎◌, ◌<◌, ℕ, List, length, take, drop, ⊤, Option, None, Some}
-use Rattle.std.specs.Io.KnownBytes.{Appends}
-use Rattle.nor_base.specs.Device.{Cuts}
 use Rattle.nor_base.specs.Script.{IsScript}
 use Rattle.nor_base.specs.declared.step.Step.{Step}
 use Rattle.nor_job.specs.declared.fault.BuildFault.TheVariants as fault
 use Rattle.nor_script.specs.Faults.{IsFault}
-use Rattle.nor_waves.specs.Waves.{waves}
 use Rattle.norprog_common.specs.declared.faults.Refusal.{Refusal}
 use Rattle.norprog_common.specs.declared.faults.Refusal.TheVariants.{Build, Script, Steps}
 
@@ -25,25 +22,6 @@ pub record LacksStep (text : List ℕ) (from number : ℕ) : Type 0 where
   pub script : IsScript text steps
   pub told : number ≡ length steps
   pub none : IsThere from steps → ⊥
-
--- the text spells some steps, and the waveform of that part of them is these bytes
-pub record IsWaveform (text : List ℕ) (from : ℕ) (count : Option ℕ) (bytes : List ℕ) : Type 0 where
-  pub steps : List Step
-  pub script : IsScript text steps
-  pub there : IsThere from steps
-  pub drawn : bytes ≡ waves (part from count steps)
-
--- the waveform was appended
-pub record WasDrawn (text : List ℕ) (from : ℕ) (count : Option ℕ) (before after : Option (List ℕ)) : Type 0 where
-  pub bytes : List ℕ
-  pub is : IsWaveform text from count bytes
-  pub put : Appends before after bytes
-
--- a proper prefix of it was
-pub record WasCut (text : List ℕ) (from : ℕ) (count : Option ℕ) (before after : Option (List ℕ)) : Type 0 where
-  pub bytes : List ℕ
-  pub is : IsWaveform text from count bytes
-  pub put : Cuts before after bytes
 
 -- why there are no steps to draw: the text is no script, or has no such step; or a growth was refused
 abbrev pub RefusesSteps : List ℕ → ℕ → Refusal → Type 0

@@ -1,4 +1,2 @@
 pub mod Drawn
 pub mod Request
-pub mod Served
-pub mod Answer

@@ -1,3 +1,2 @@
-mod ServedLemmas
 mod TextLemmas
 mod ListingLemmas

@@ -21,7 +21,7 @@ pub struct Tally {
 /// At `Failed` a proper prefix was taken; it comes only from the writer, whose count of failures
 /// rose by one.
 #[tactic(auto, unfolding(crate::specs::Tally::tally_text))]
-pub(crate) fn write_tally<W: ByteOut>(tally: Tally, out: &mut W) -> Result<(), Failed>
+pub fn write_tally<W: ByteOut>(tally: Tally, out: &mut W) -> Result<(), Failed>
     requires { W.count out.old < 2 ^ 64 - 1 }
     ensures bytes { Writes (W.held out.old) (W.held out.new) result (tally_text tally) }
     ensures count { Counts (W.count out.old) (W.count out.new) result }

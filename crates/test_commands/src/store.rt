@@ -6,37 +6,15 @@ use nor_base::IntoWrite;
 use norprog_common::FileId;
 use std::alloc::Global;
 use std::process::Abort;
-use test_files::{Listed, Note, Noted, build_of, check_of, run_of};
+use test_files::{Listed, Note, Noted, check_of, run_of};
 use test_samples::texts::{IMAGE, ONE_BYTE};
 
-/// What a script is built from, checked for and played on: by each command the status, what is
+/// What a script is checked for and played on: by each command the status, what is
 /// printed, what is flushed, and which file was made.
 #[test]
 fn commands_go_over_files_in_memory(rt: HostRuntime) {
-    builds(&rt, rt.alloc());
     checks(&rt, rt.alloc());
     plays(&rt, rt.alloc());
-}
-
-fn builds(rt: &impl Abort, alloc: Global) {
-    let mut journal = unchanged(alloc);
-    let mut ledger = Listed::Empty;
-    let mut out = IntoWrite::new(Vec::new(alloc));
-    let mut err = IntoWrite::new(Vec::new(alloc));
-    let image = IMAGE.as_bytes();
-    let content = &BLANK[..8192];
-    let (status, script) = build_of(
-        alloc,
-        image,
-        content,
-        &mut journal,
-        &mut ledger,
-        &mut out,
-        &mut err,
-    );
-    same(rt, "the build", status, 0);
-    holds(rt, "the script", script.as_slice() == ONE_BYTE.as_bytes());
-    holds(rt, "its file", is_output(journal.notes.as_slice(), "new"));
 }
 
 fn checks(rt: &impl Abort, alloc: Global) {

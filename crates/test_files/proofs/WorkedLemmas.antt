@@ -10,8 +10,6 @@ use Rattle.norprog_check.specs.Served.{check_paths, ServesCheck, ServesScript}
 use Rattle.norprog_check.specs.Served as check
 use Rattle.norprog_common.specs.Strict.{Filled}
 use Rattle.norprog_check.specs.Checked.{IsChecked}
-use Rattle.norprog_build.specs.Answer.{PrintsReport}
-use Rattle.norprog_build.specs.Served.{ServesBuild}
 use Rattle.norprog_common.specs.Chip.{Origin, Uniform}
 use Rattle.norprog_common.specs.FileStore.{FileFacts, Change, Emptied, MakesNamed, MakesOutput, MayRead, MayReadNamed, Named, IsTextIn, StoodAt}
 use Rattle.norprog_common.specs.Request.{asked_chip}
@@ -19,13 +17,12 @@ use Rattle.norprog_common.specs.Served.{Job, MakesFor, Serves, files_asked, inpu
 use Rattle.norprog_common.specs.declared.faults.FileName.{FileName}
 use Rattle.norprog_common.specs.declared.faults.FileName.TheVariants as name
 use Rattle.norprog_common.specs.declared.files.FileId.{FileId}
-use Rattle.norprog_common.specs.declared.given.BuildArgs.{BuildArgs}
 use Rattle.norprog_common.specs.declared.given.CheckArgs.{CheckArgs}
 use Rattle.norprog_common.specs.declared.given.Given.{Given}
 use Rattle.norprog_common.proofs.LackedLemmas.{tables_named}
 use Rattle.norprog_common.proofs.LedgerLemmas.{file_asked}
 use Rattle.test_files.specs.Told.{bytes_in, file_of, told_files}
-use Rattle.test_files.specs.Worked.{IsBuiltOf, IsJobOfBytes, IsYesOf}
+use Rattle.test_files.specs.Worked.{IsJobOfBytes, IsYesOf}
 use Rattle.test_files.specs.declared.memory.Device.{Device}
 use Rattle.test_files.specs.declared.memory.File.{File}
 
@@ -52,13 +49,7 @@ one_may files device named known is there = λ path at.
 pub none_may : (files : FileFacts) (named : Option (List ℕ)) → named ≡ None → MayReadNamed files named
 none_may files named is = λ path at. let none : Path (Option (List ℕ)) None (Some path) = sym is ∙ at in cc
 
--- a job opens the image and the content, and a check then its script
-pub job_files : (given : Given) → option_map (λ t. t.now) given.hex ≡ Some (codes "image") → option_map (λ t. t.now) given.content ≡ Some (codes "content")
-    → given.layout ≡ None → asked_chip given ≡ Some (Uniform 8192) → files_asked given ≡ (codes "image" ∷ codes "content" ∷ [])
-job_files given hex content layout chip =
-    let tables = file_asked (option_map (λ t. t.now) given.sfdp) (option_map (λ t. t.now) given.uniform) (option_map (λ t. t.now) given.bits) (Uniform 8192) chip in
-    rw (hex, content, layout, tables) refl
-
+-- a check opens the image, the content and then its script
 pub check_files : (given : CheckArgs) → option_map (λ t. t.now) given.job.hex ≡ Some (codes "image") → option_map (λ t. t.now) given.job.content ≡ Some (codes "content")
     → given.job.layout ≡ None → asked_chip given.job ≡ Some (Uniform 8192) → option_map (λ t. t.now) given.script ≡ Some (codes "script")
     → check.files_asked given ≡ (codes "image" ∷ codes "content" ∷ codes "script" ∷ [])
@@ -88,13 +79,6 @@ job_may files device given own held kept hex content layout chip mine name.Table
 job_may files device given own held kept hex content layout chip mine name.Before = none_may (told_files files device) None refl
 job_may files device given own held kept hex content layout chip mine name.Resume = mine name.Resume
 job_may files device given own held kept hex content layout chip mine name.Log = mine name.Log
-
-pub build_may : (files : List File) (device : Option Device) (given : Given) → is_some (file_of files (codes "image")) ≡ true
-    → is_some (file_of files (codes "content")) ≡ true → option_map (λ t. t.now) given.hex ≡ Some (codes "image")
-    → option_map (λ t. t.now) given.content ≡ Some (codes "content") → given.layout ≡ None → asked_chip given ≡ Some (Uniform 8192)
-    → MayRead (told_files files device) (paths_asked given no_path)
-build_may files device given held kept hex content layout chip =
-    job_may files device given no_path held kept hex content layout chip (λ told. none_may (told_files files device) None refl)
 
 -- a check's own file is the script
 script_may : (files : FileFacts) (named : Option (List ℕ)) → MayReadNamed files named → (told : FileName) → MayReadNamed files (script_path named told)
@@ -159,18 +143,6 @@ yes_told files device given image content script held kept is hex named at befor
       yes = is_yes done.0.verdict (sym done.1 ∙ zero);
     }
 
--- a job that was built is of the bytes of the files, and its script has gone out
-pub built_told : (files : List File) (device : Option Device) (given : BuildArgs) (image content : List ℕ) → bytes_in files (codes "image") ≡ Some image
-    → bytes_in files (codes "content") ≡ Some content → option_map (λ t. t.now) given.job.hex ≡ Some (codes "image")
-    → option_map (λ t. t.now) given.job.content ≡ Some (codes "content") → (before after : Option (List ℕ))
-    → PrintsReport (Filled given.job.strict (ServesBuild (told_files files device) given)) (told_files files device).flushed before after → IsBuiltOf image content
-built_told files device given image content held kept hex named before after done = record {
-  job = done.of_build.it;
-  bytes = job_is files device given.job _ image content held kept hex named done.of_build.it done.of_build.asked.0;
-  report = done.report;
-  built = done.of_build.has;
-}
-
 same_place : (one other : FileId) → Some one ≡ Some other → other ≡ one
 same_place one other e = cc
 
@@ -183,17 +155,3 @@ two_places files device one other place second at by (p ∷ []) stood = absurd s
 two_places files device one other place second at by (p ∷ q ∷ []) stood =
     rw (same_place place p (sym at ∙ stood.0), same_place second q (sym by ∙ stood.1.0)) refl
 two_places files device one other place second at by (p ∷ q ∷ r ∷ ps) stood = absurd stood.1.1
-
--- just the output was made, as neither the image nor the content
-pub made_told : (files : List File) (device : Option Device) (given : Given) (name : List ℕ) (place second : FileId) (Made : List Change → Type 0)
-    → option_map (λ file. file.id) (file_of files (codes "image")) ≡ Some place → option_map (λ file. file.id) (file_of files (codes "content")) ≡ Some second
-    → option_map (λ t. t.now) given.hex ≡ Some (codes "image") → option_map (λ t. t.now) given.content ≡ Some (codes "content") → given.layout ≡ None
-    → asked_chip given ≡ Some (Uniform 8192) → (out : Option (List ℕ)) → out ≡ Some name → MakesFor (told_files files device) given out Made
-    → Made (Emptied name (place ∷ second ∷ []) ∷ [])
-made_told files device given name place second Made at by hex named layout chip out is made =
-    let origin : Uniform 8192 ≡ made.0 = some_origin (Uniform 8192) made.0 (sym chip ∙ made.1) in
-    let inputs : input_files_asked given made.0 ≡ codes "image" ∷ codes "content" ∷ [] = rw (sym origin, hex, named, layout) refl in
-    let output = subst (λ (names : List (List ℕ)). MakesOutput (told_files files device) names name Made) inputs
-    (subst (λ (o : Option (List ℕ)). MakesNamed (told_files files device) (input_files_asked given made.0) o Made) is made.2) in
-    subst (λ (places : List FileId). Made (Emptied name places ∷ []))
-    (two_places files device (codes "image") (codes "content") place second at by output.0 output.1) output.2

@@ -2,8 +2,6 @@
 use Rattle.std.specs.Prelude.{◌≡◌, ℕ, List, Option, Some, length}
 use Rattle.nor_base.specs.Device.{Ahead, Finite}
 use Rattle.nor_check.specs.declared.verdict.Verdict.TheVariants.{Yes}
-use Rattle.norprog.specs.declared.report.Report.{Report}
-use Rattle.norprog_build.specs.Answer.{IsReportOf}
 use Rattle.norprog_check.specs.Checked.{IsChecked}
 use Rattle.norprog_check.specs.declared.finding.Finding.{Finding}
 use Rattle.norprog_common.specs.FileStore.{GoesOut}
@@ -17,13 +15,6 @@ pub record IsJobOfBytes (image content : List ℕ) (j : Job) : Type 0 where
   pub hex : j.task.hex ≡ image
   pub ahead : j.content ≡ Finite content
   pub len : j.len ≡ length content
-
--- the job of such bytes was done, this is its report, and its script has gone out
-pub record IsBuiltOf (image content : List ℕ) : Type 0 where
-  pub job : Job
-  pub bytes : IsJobOfBytes image content job
-  pub report : Report
-  pub built : IsReportOf (λ held. (script : List ℕ) × (held ≡ Some script)) report job
 
 -- this script was checked for such a job, with the verdict yes
 pub record IsYesOf (image content script : List ℕ) : Type 0 where

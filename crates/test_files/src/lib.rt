@@ -2,7 +2,6 @@
 //! ledger that do; and commands over such files, with what their answers then say.
 #![tactic(auto)]
 
-mod built;
 mod checked;
 mod given;
 mod listed;
@@ -10,7 +9,6 @@ mod memory;
 mod noted;
 mod ran;
 
-pub use built::build_of;
 pub use checked::check_of;
 pub use listed::Listed;
 pub use memory::{Device, File, Memory};

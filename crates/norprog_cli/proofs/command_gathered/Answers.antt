@@ -2,9 +2,9 @@
 use Rattle.std.proofs.Common.{◌≡◌, ◌∙◌, ℕ, All, Any, List, [], Option, Some, None, refl, ap, append-nil, rules, subst, sym, inl}
 use Rattle.std.specs.Io.KnownBytes.{append_known, Keeps}
 use Rattle.nor_base.specs.Device.{Ahead}
-use Rattle.norprog_common.specs.FileStore.{FileFacts, Change}
+use Rattle.norprog_common.specs.FileStore.{FileFacts}
 use Rattle.norprog_cli.specs.Ends.{EndsCommand}
-use Rattle.norprog_command.specs.Answers.{ProgressShown}
+use Rattle.norprog_command.specs.Answers.{Done, ProgressShown}
 use Rattle.norprog_cli.proofs.command_gathered.Goals as goal
 
 -- with nothing more, known bytes are the same
@@ -13,16 +13,16 @@ nothing_more None = refl
 nothing_more (Some bytes) = ap (λ (all : List ℕ). Some all) (append-nil bytes)
 
 -- what is printed to had failed so often before and after, and held these
-ends_at : {E : Type 0} {count : E → ℕ} {held : E → Option (List ℕ)} {files : FileFacts} {Failed : Ahead → Type 0} {Made : List Change → Type 0}
+ends_at : {E : Type 0} {count : E → ℕ} {held : E → Option (List ℕ)} {files : FileFacts} {Failed : Ahead → Type 0} {done : Done}
     {words : List (List ℕ)} {n m f k : ℕ} {left : List ℕ} {before first after last : Option (List ℕ)} {err_before err_after : E} {status : ℕ}
     {shown : ProgressShown} → n ≡ m → f ≡ k → before ≡ first → after ≡ last
-    → EndsCommand count held files Failed Made words n f left before after err_before err_after status shown
-    → EndsCommand count held files Failed Made words m k left first last err_before err_after status shown
-ends_at {E} {count} {held} {files} {Failed} {Made} {words} {n} {m} {f} {k} {left} {before} {first} {after} {last} {err_before} {err_after} {status} {shown} same rose is ends_as ends =
-    subst (λ (failures : ℕ). EndsCommand count held files Failed Made words failures k left first last err_before err_after status shown) same
-    (subst (λ (failed : ℕ). EndsCommand count held files Failed Made words n failed left first last err_before err_after status shown) rose
-    (subst (λ (known : Option (List ℕ)). EndsCommand count held files Failed Made words n f left known last err_before err_after status shown) is
-    (subst (λ (known : Option (List ℕ)). EndsCommand count held files Failed Made words n f left before known err_before err_after status shown) ends_as ends)))
+    → EndsCommand count held files Failed done words n f left before after err_before err_after status shown
+    → EndsCommand count held files Failed done words m k left first last err_before err_after status shown
+ends_at {E} {count} {held} {files} {Failed} {done} {words} {n} {m} {f} {k} {left} {before} {first} {after} {last} {err_before} {err_after} {status} {shown} same rose is ends_as ends =
+    subst (λ (failures : ℕ). EndsCommand count held files Failed done words failures k left first last err_before err_after status shown) same
+    (subst (λ (failed : ℕ). EndsCommand count held files Failed done words n failed left first last err_before err_after status shown) rose
+    (subst (λ (known : Option (List ℕ)). EndsCommand count held files Failed done words n f left known last err_before err_after status shown) is
+    (subst (λ (known : Option (List ℕ)). EndsCommand count held files Failed done words n f left before known err_before err_after status shown) ends_as ends)))
 
 pub returns-clause-ends : goal.returns-clause-ends
 returns-clause-ends g c =

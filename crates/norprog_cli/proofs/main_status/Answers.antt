@@ -11,6 +11,8 @@ wordless_so texts (Err refusal) why = why
 
 pub returns-then-is_terminal : goal.returns-then-is_terminal
 returns-then-is_terminal g c = record {
+  begun = _;
+  opened = _;
   words = texts_in (λ words. map string_bytes words.items) c.words_of-words.result;
   wordless = wordless_so (λ words. map string_bytes words.items) c.words_of-words.result c.words_of-words.ensures;
   failures = _;
@@ -21,8 +23,10 @@ returns-then-is_terminal g c = record {
   ends = c.run_words.ensures.ends;
 }
 
-pub returns-else-is_terminal : goal.returns-else-is_terminal
-returns-else-is_terminal g c = record {
+pub returns : goal.returns
+returns g c = record {
+  begun = _;
+  opened = _;
   words = texts_in (λ words. map string_bytes words.items) c.words_of-words.result;
   wordless = wordless_so (λ words. map string_bytes words.items) c.words_of-words.result c.words_of-words.ensures;
   failures = _;

@@ -1,6 +1,7 @@
 -- The command's answer, then more of its refusal; or why the words are refused.
-use Rattle.std.proofs.Common.{Ok, Err, map, refl, string_bytes, subst}
+use Rattle.std.proofs.Common.{Ok, Err, [], map, refl, string_bytes, subst}
 use Rattle.norprog_common.proofs.JournalLemmas.{adds_none}
+use Rattle.norprog_files.proofs.FilesLemmas.{adds_none as did_none}
 use Rattle.norprog_options.specs.Spelled.{Refuses, Spells}
 use Rattle.norprog_command.proofs.DetailsLemmas.{adds_kept, asks_kept, opens_kept}
 use Rattle.norprog_command.proofs.command.Goals as goal
@@ -27,6 +28,7 @@ returns-clause-answer g c = (
     record { held = refl; count = refl },
     subst (λ words. Refuses (map string_bytes words) c.in-Err.refusal) c.as_slice.ensures.value c.in-Err.ensures.refused,
     adds_none _ _ refl,
+    ([], did_none _, refl),
     refl,
     (c.in-Err.refusal, refl, c.refuse.ensures.status, c.refuse.ensures.told),
   ),

@@ -1,2 +1,0 @@
-mod ServedLemmas
-mod AnswerLemmas

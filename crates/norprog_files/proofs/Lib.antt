@@ -1,0 +1,5 @@
+pub mod FilesLemmas
+mod DeniesLemmas
+mod GuardsLemmas
+mod TerminalLemmas
+mod TraceLemmas

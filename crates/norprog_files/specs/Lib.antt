@@ -1,0 +1,5 @@
+pub mod Disk
+pub mod Files
+pub mod Guards
+pub mod Terminal
+pub mod Trace

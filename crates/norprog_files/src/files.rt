@@ -1,0 +1,144 @@
+//! Files by name.
+
+ghost use Rattle.std.specs.Prelude.{◌≡◌, ◌<◌, [], ◌∷◌, List, IfErr, IfOk};
+ghost use Rattle.norprog_common.specs.declared.faults.FileName.TheVariants.{Device};
+ghost use Rattle.norprog_files.specs.Files.{Adds, Denied, Denies, Event, Given, Made, New, Opened};
+ghost use Rattle.norprog_files.specs.Files.{Unwired, Wired, came, closing, wire};
+
+use nor_base::{ByteIn, ByteOut, Failed};
+use norprog_common::{FileName, Refusal};
+use std::alloc::Global;
+
+/// What was done with files, in order. It notes which files were opened, so that none of them is
+/// made or emptied.
+pub trait Trail {
+    /// All that was done may be this.
+    ghost did: { Self → List Event → Type 0 };
+}
+
+/// Files by name. What a file gives, or takes, is left open: what is proved of all files holds of
+/// the system's.
+pub trait Files {
+    /// A file that is read.
+    type Input: ByteIn + Drop;
+
+    /// A file that was made.
+    type Output: ByteOut + Drop;
+
+    /// What a terminal is read by.
+    type FromDevice: ByteIn + Drop;
+
+    /// What a terminal is written by.
+    type ToDevice: ByteOut + Drop;
+
+    /// What was done with them.
+    type Trail: Trail;
+
+    /// A reader of some file has failed.
+    ghost unread: { Self → Type 0 };
+
+    /// Opens a file that isn't a folder, and returns its length in bytes.
+    ///
+    /// Where it can't be opened or asked, and where it is a folder, `File` of `name`; `Memory`
+    /// where a growth is refused.
+    fn open(
+        &self,
+        trail: &mut Self::Trail,
+        path: &str,
+        name: FileName,
+    ) -> Result<(Self::Input, u64), Refusal>
+        ensures did { Adds (Self.Trail.did trail.old) (Self.Trail.did trail.new) (came result
+            (λ file. Opened path.now (Self.Input.ahead file.0) file.1) (Denied path.now)) }
+        ensures unfailed { IfOk result (λ file. Self.Input.count file.0 ≡ 0) }
+        ensures refused { IfErr result (Denies name) };
+
+    /// Opens a file and reads it whole; returns its bytes, at most 2^36.
+    ///
+    /// Where it can't be opened, is a folder or has more bytes, and where a read fails, `File` of
+    /// `name`; `Memory` where a growth is refused.
+    fn read(
+        &self,
+        trail: &mut Self::Trail,
+        alloc: Global,
+        path: &str,
+        name: FileName,
+    ) -> Result<Vec<u8>, Refusal>
+        ensures did { Adds (Self.Trail.did trail.old) (Self.Trail.did trail.new)
+            (came result (λ bytes. Given path.now bytes.items) (Denied path.now)) }
+        ensures refused { IfErr result (Denies name) };
+
+    /// Makes a file, or empties the one that is there, unless it is one of those that were opened
+    /// or the one that standard output goes to. What is written to it goes out where it is closed,
+    /// if not before.
+    ///
+    /// Where it is, and where it can't be made, `File` of `name`; `Memory` where a growth is
+    /// refused.
+    fn create(
+        &self,
+        trail: &mut Self::Trail,
+        alloc: Global,
+        path: &str,
+        name: FileName,
+    ) -> Result<Self::Output, Refusal>
+        ensures did { Adds (Self.Trail.did trail.old) (Self.Trail.did trail.new) (came result
+            (λ file. Made path.now (Self.Output.held file)) (Denied path.now)) }
+        ensures unfailed { IfOk result (λ file. Self.Output.count file ≡ 0) }
+        ensures refused { IfErr result (Denies name) };
+
+    /// Makes a file where none of that name is there, not even a link to none. What is written to
+    /// it goes out where it is closed, if not before.
+    ///
+    /// Where there is one, and where it can't be made, `File` of `name`; `Memory` where a growth is
+    /// refused.
+    fn create_new(
+        &self,
+        trail: &mut Self::Trail,
+        alloc: Global,
+        path: &str,
+        name: FileName,
+    ) -> Result<Self::Output, Refusal>
+        ensures did { Adds (Self.Trail.did trail.old) (Self.Trail.did trail.new) (came result
+            (λ file. New path.now (Self.Output.held file)) (Denied path.now)) }
+        ensures unfailed { IfOk result (λ file. Self.Output.count file ≡ 0) }
+        ensures refused { IfErr result (Denies name) };
+
+    /// Has all go out that the file of this name took, and closes it. `Failed` where some of it may
+    /// not have gone out, as where the file failed before.
+    fn close(&self, trail: &mut Self::Trail, path: &str, file: Self::Output) -> Result<(), Failed>
+        ensures did { Adds (Self.Trail.did trail.old) (Self.Trail.did trail.new)
+            (closing result path.now (Self.Output.held file) ∷ []) }
+        ensures unfailed { IfOk result (λ _. Self.Output.count file ≡ 0) };
+
+    /// Opens a terminal twice, to read from it and to write to it. Nothing else is opened to write.
+    ///
+    /// Where it isn't one, and where it can't be opened or asked, `File` of `Device`; `Memory`
+    /// where a growth is refused, before it is opened to be written to.
+    fn open_device(
+        &self,
+        trail: &mut Self::Trail,
+        alloc: Global,
+        path: &str,
+    ) -> Result<(Self::FromDevice, Self::ToDevice), Refusal>
+        ensures did { Adds (Self.Trail.did trail.old) (Self.Trail.did trail.new) (came result
+            (λ device. Wired path.now
+            (wire (Self.ToDevice.held device.1) (Self.FromDevice.ahead device.0)))
+            (Denied path.now)) }
+        ensures unfailed { IfOk result (λ device.
+            (Self.FromDevice.count device.0 ≡ 0) × (Self.ToDevice.count device.1 ≡ 0)) }
+        ensures refused { IfErr result (Denies Device) };
+
+    /// Closes the terminal of this name, so that nothing more goes to it.
+    fn close_device(
+        &self,
+        trail: &mut Self::Trail,
+        path: &str,
+        from: Self::FromDevice,
+        to: Self::ToDevice,
+    )
+        ensures { Adds (Self.Trail.did trail.old) (Self.Trail.did trail.new) (Unwired path.now
+            (wire (Self.ToDevice.held to) (Self.FromDevice.ahead from)) ∷ []) };
+
+    /// A reader that has failed is one of a file.
+    ghost failing: { (files : Self) (reader : Self.Input) → 0 < Self.Input.count reader
+        → unread files };
+}

@@ -1,0 +1,13 @@
+//! The files that a request names: who opens them, makes them and has them go out (docs/FORMATS.md,
+//! section 9). A command is handed what is opened here, and no name.
+#![tactic(auto)]
+
+mod disk;
+mod files;
+mod guards;
+mod system;
+mod terminal;
+
+pub use disk::{Calls, Disk, Host, How, Kind, Stat, Unkept};
+pub use files::{Files, Trail};
+pub use system::{Places, System};

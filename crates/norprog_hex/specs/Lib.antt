@@ -1,4 +1,0 @@
-pub mod Request
-pub mod Served
-pub mod Converted
-pub mod Answer

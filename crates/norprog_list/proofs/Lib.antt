@@ -1,4 +1,0 @@
-mod ServedLemmas
-mod TextLemmas
-mod StepsLemmas
-mod ListedLemmas

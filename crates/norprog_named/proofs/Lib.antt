@@ -1,0 +1,6 @@
+mod JobLemmas
+mod HexLemmas
+mod BuildLemmas
+mod ListLemmas
+mod ScriptLemmas
+mod AskedLemmas

@@ -1,0 +1,66 @@
+-- How `build` ends (this project's).
+use Rattle.std.specs.Prelude.{◌≡◌, ℕ, Bool, true, List, [], ◌∷◌, ◌++◌, Option, Some, Result, Ok, Err}
+use Rattle.nor_base.specs.Device.{Ahead}
+use Rattle.nor_job.specs.declared.fault.BuildFault.{BuildFault}
+use Rattle.nor_job.specs.declared.fault.BuildFault.TheVariants as fault
+use Rattle.nor_job.specs.Causes.{RefusesInputs}
+use Rattle.nor_job.specs.Shares.{HasFirstEmpty, HasNoneEmpty}
+use Rattle.nor_job.specs.Task.{Task}
+use Rattle.norprog.specs.Build.{IsBuilt, StopsWork}
+use Rattle.norprog.specs.declared.report.Report.{Report}
+use Rattle.norprog_common.specs.declared.faults.FileName.TheVariants as file
+use Rattle.norprog_common.specs.declared.faults.Refusal.{Refusal}
+use Rattle.norprog_common.specs.declared.faults.Refusal.TheVariants.{Build, EmptyRegion}
+use Rattle.norprog_common.specs.declared.request.Request.{Request}
+use Rattle.norprog_files.specs.Files.{Event, Denied, Denies, IsClosed, Lost, Made, Sent, StopsOpening}
+use Rattle.norprog_named.specs.Job.{IsJobOf, job_files}
+
+-- the work of a build: its task, the content's length, what the content's reader had ahead and what it has, what the output held and what
+-- it holds
+pub record Work : Type 0 where
+  pub task : Task
+  pub len : ℕ
+  pub content : Ahead
+  pub rest : Ahead
+  pub begun : Option (List ℕ)
+  pub ended : Option (List ℕ)
+
+abbrev pub work : Task → ℕ → Ahead → Ahead → Option (List ℕ) → Option (List ℕ) → Work
+work t len content rest begun ended = record { task = t; len = len; content = content; rest = rest; begun = begun; ended = ended }
+
+-- the headline's: the script of the task was written whole, and this is its report
+abbrev pub IsBuiltBy : Work → Report → Type 0
+IsBuiltBy w report = IsBuilt w.task w.len w.content w.rest w.begun w.ended report
+
+-- the work stopped; what the output took is no whole script
+abbrev pub StopsBy : Work → BuildFault → Type 0
+StopsBy w why = StopsWork w.task w.len w.content w.rest w.begun w.ended why
+
+-- under `--strict` the image gives each chosen region a byte
+abbrev pub IsFull : Bool → Work → Type 0
+IsFull strict w = strict ≡ true → HasNoneEmpty w.task w.len
+
+-- why nothing is built: under `--strict` a region is empty, the inputs are refused, or the work stops, where the reader (`Unread`) or the
+-- writer (`Unwritten`) failed if that is told; or memory ran out
+pub data Unbuilt (strict : Bool) (w : Work) (Unread Unwritten : Type 0) : Refusal → Type 0 where
+  Empty : (index : ℕ) → strict ≡ true → HasFirstEmpty w.task w.len (Some index) → w.ended ≡ w.begun → Unbuilt strict w Unread Unwritten (EmptyRegion index)
+  Refused : (why : BuildFault) → RefusesInputs w.task w.len why → w.ended ≡ w.begun → Unbuilt strict w Unread Unwritten (Build why)
+  Stopped : (why : BuildFault) → IsFull strict w → StopsBy w why → (why ≡ fault.Read → Unread) → (why ≡ fault.Write → Unwritten)
+      → Unbuilt strict w Unread Unwritten (Build why)
+  NoMemory : w.ended ≡ w.begun → Unbuilt strict w Unread Unwritten (Build fault.Memory)
+
+-- how `build` ends, and what was done with files by then
+pub data EndsBuild (Unread : Type 0) (r : Request) (out : List ℕ) : List Event → Result Report Refusal → Type 0 where
+  -- the output was sent the script of the request's job
+  Built : (w : Work) (job : List Event) (report : Report) → IsJobOf r w.task w.content w.len job → IsFull r.strict w → IsBuiltBy w report
+      → EndsBuild Unread r out (job ++ (Made out w.begun ∷ Sent out w.ended ∷ [])) (Ok report)
+  -- a file of the job can't be opened
+  NoInput : (log : List Event) (why : Refusal) → StopsOpening (job_files r) log why → EndsBuild Unread r out log (Err why)
+  -- the output can't be made
+  NoOutput : (t : Task) (content : Ahead) (len : ℕ) (job : List Event) (why : Refusal) → IsJobOf r t content len job → Denies file.Out why
+      → EndsBuild Unread r out (job ++ (Denied out ∷ [])) (Err why)
+  -- nothing is built, whatever came of the closing; some of a script hasn't gone out
+  NotBuilt : (w : Work) (job : List Event) (last : Event) (why : Refusal) → IsJobOf r w.task w.content w.len job → IsClosed out w.ended last
+      → Unbuilt r.strict w Unread (last ≡ Lost out w.ended) why → EndsBuild Unread r out (job ++ (Made out w.begun ∷ last ∷ [])) (Err why)
+  Unsent : (w : Work) (job : List Event) (report : Report) → IsJobOf r w.task w.content w.len job → IsBuiltBy w report
+      → EndsBuild Unread r out (job ++ (Made out w.begun ∷ Lost out w.ended ∷ [])) (Err (Build fault.Write))

@@ -1,0 +1,48 @@
+-- The files of a job, opened one after another (this project's).
+use Rattle.std.specs.Prelude.{◌≡◌, ℕ, List, [], ◌∷◌, ◌++◌, Option, Some, None, Result, Ok, Err, option_map}
+use Rattle.nor_base.specs.Device.{Ahead}
+use Rattle.nor_job.specs.Task.{Task}
+use Rattle.norprog_common.specs.Chip.{Origin, Sfdp, Uniform, origin_of}
+use Rattle.norprog_common.specs.Served.{Held, task_by}
+use Rattle.norprog_common.specs.declared.faults.FileName.{FileName}
+use Rattle.norprog_common.specs.declared.faults.FileName.TheVariants as file
+use Rattle.norprog_common.specs.declared.faults.Refusal.{Refusal}
+use Rattle.norprog_common.specs.declared.request.Request.{Request}
+use Rattle.norprog_files.specs.Files.{Event, Given, Opened, StopsOpening}
+
+-- a file that an option names, where it does
+abbrev pub named_by : FileName → Option (List ℕ) → List (FileName × List ℕ)
+named_by name None = []
+named_by name (Some path) = (name, path) ∷ []
+
+-- that of the tables of a chip; one of a size has none
+abbrev pub tables_of : Origin → Option (List ℕ)
+tables_of (Sfdp path bits) = Some path
+tables_of (Uniform size) = None
+
+-- the files that a job reads, each with its option, in the order in which they are opened
+abbrev pub job_files : Request → List (FileName × List ℕ)
+job_files r =
+    (file.Hex, r.hex.now) ∷ (named_by file.Layout (option_map (λ t. t.now) r.layout) ++ (named_by file.Sfdp (tables_of (origin_of r.chip))
+    ++ ((file.Content, r.content.now) ∷ [])))
+
+-- the file of this name was read, where there is a name; it has these bytes
+pub data Reads : Option (List ℕ) → Option (List ℕ) → List Event → Type 0 where
+  Unnamed : Reads None None []
+  Named : (path bytes : List ℕ) → Reads (Some path) (Some bytes) (Given path bytes ∷ [])
+
+-- that of the tables of a chip was; of a chip of a size there is none, and its bytes have no part in it
+pub data ReadsTables : Origin → List ℕ → List Event → Type 0 where
+  Tables : (path bits bytes : List ℕ) → ReadsTables (Sfdp path bits) bytes (Given path bytes ∷ [])
+  NoTables : (size : ℕ) (bytes : List ℕ) → ReadsTables (Uniform size) bytes []
+
+-- a reading of such a file: it was read, or it can't be
+abbrev pub Reading : {A : Type 0} → List (FileName × List ℕ) → (A → List Event → Type 0) → Result A Refusal → List Event → Type 0
+Reading files Was (Ok x) log = Was x log
+Reading files Was (Err why) log = StopsOpening files log why
+
+-- the files of a request were opened in their order, and this is its task; this is ahead of the content's reader, which has so many bytes
+pub data IsJobOf (r : Request) (t : Task) (content : Ahead) (len : ℕ) : List Event → Type 0 where
+  Opens_job : (held : Held) (layout tables : List Event) → t ≡ task_by r held → Reads (option_map (λ t. t.now) r.layout) held.layout layout
+      → ReadsTables (origin_of r.chip) held.sfdp tables
+      → IsJobOf r t content len (Given r.hex.now held.hex ∷ (layout ++ (tables ++ (Opened r.content.now content len ∷ []))))

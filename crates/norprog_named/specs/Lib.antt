@@ -1,0 +1,9 @@
+pub mod Job
+pub mod HexRequest
+pub mod Hex
+pub mod Build
+pub mod Draw
+pub mod Script
+pub mod Sfdp
+pub mod List
+pub mod Asked

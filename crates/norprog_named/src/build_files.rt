@@ -1,0 +1,70 @@
+//! `build` on its files.
+
+ghost use Rattle.std.specs.Prelude.{◌≡◌, ◌<◌, IfErr, IfOk};
+ghost use Rattle.nor_base.specs.Device.{HaveRoom};
+ghost use Rattle.norprog_files.specs.Files.{Did};
+ghost use Rattle.norprog_named.specs.Build.{EndsBuild, IsBuiltBy, IsFull, Unbuilt, work};
+
+use crate::job::open_job;
+use nor_base::{ByteIn, ByteOut};
+use nor_job::Inputs;
+use norprog::Report;
+use norprog_common::{FileName, Refusal, Request, inputs_of, refuse_empty};
+use norprog_files::{Files, Trail};
+use std::alloc::Global;
+
+/// Builds the job of a request into the file of the name `out` (docs/FORMATS.md, section 9).
+pub fn build<F: Files>(
+    alloc: Global,
+    files: &F,
+    trail: &mut F::Trail,
+    request: &Request<'_>,
+    out: &str,
+) -> Result<Report, Refusal>
+    ensures { Did (F.Trail.did trail.old) (F.Trail.did trail.new)
+        (λ log. EndsBuild (F.unread files.now) request.now out.now log result) }
+{
+    let (texts, mut content, len) = open_job(alloc, files, trail, request)?;
+    let mut script = files.create(trail, alloc, out, FileName::Out)?;
+    let inputs = inputs_of(request, &texts);
+    let built = built(
+        alloc,
+        request.strict,
+        &inputs,
+        &mut content,
+        len,
+        &mut script,
+    );
+    let closed = files.close(trail, out, script);
+    let report = built?;
+    match closed {
+        Ok(()) => Ok(report),
+        Err(_) => Err(Refusal::WRITE),
+    }
+}
+
+/// Builds as [`norprog::build`] does; where it is strict, an image that gives a chosen region no
+/// byte is refused first, by `EmptyRegion`.
+fn built<R: ByteIn, W: ByteOut>(
+    alloc: Global,
+    strict: bool,
+    inputs: &Inputs<'_>,
+    content: &mut R,
+    len: u64,
+    out: &mut W,
+) -> Result<Report, Refusal>
+    requires room { HaveRoom (R.count content.old) (W.count out.old) }
+    ensures full { IfOk result (λ _. IsFull strict (work inputs.now len (R.ahead content.old)
+        (R.ahead content.new) (W.held out.old) (W.held out.new))) }
+    ensures built { IfOk result (IsBuiltBy (work inputs.now len (R.ahead content.old)
+        (R.ahead content.new) (W.held out.old) (W.held out.new))) }
+    ensures unbuilt { IfErr result (Unbuilt strict (work inputs.now len (R.ahead content.old)
+        (R.ahead content.new) (W.held out.old) (W.held out.new))
+        (R.count content.old < R.count content.new) (W.count out.old < W.count out.new)) }
+{
+    refuse_empty(alloc, strict, inputs, len)?;
+    match norprog::build(alloc, inputs, content, len, out) {
+        Ok(report) => Ok(report),
+        Err(fault) => Err(Refusal::Build(fault)),
+    }
+}

@@ -1,0 +1,69 @@
+//! The files of a job.
+
+ghost use Rattle.std.specs.Prelude.{◌≡◌, IfOk, option_map};
+ghost use Rattle.norprog_common.specs.Chip.{origin_of};
+ghost use Rattle.norprog_common.specs.Served.{held_in, task_by};
+ghost use Rattle.norprog_common.specs.declared.faults.FileName.TheVariants.{Sfdp};
+ghost use Rattle.norprog_files.specs.Files.{Did};
+ghost use Rattle.norprog_named.specs.Job.{IsJobOf, Reading, Reads, ReadsTables, job_files};
+ghost use Rattle.norprog_named.specs.Job.{named_by, tables_of};
+
+use norprog_common::{Chip, FileName, Refusal, Request, Texts};
+use norprog_files::{Files, Trail};
+use std::alloc::Global;
+
+/// Opens the files that a job reads, in their order: what those hold that are read whole, the
+/// content, and how many bytes that has.
+pub(crate) fn open_job<F: Files>(
+    alloc: Global,
+    files: &F,
+    trail: &mut F::Trail,
+    request: &Request<'_>,
+) -> Result<(Texts, F::Input, u64), Refusal>
+    ensures did { Did (F.Trail.did trail.old) (F.Trail.did trail.new) (Reading
+        (job_files request.now) (λ job. IsJobOf request.now
+        (task_by request.now (held_in job.0)) (F.Input.ahead job.1) job.2) result) }
+    ensures unfailed { IfOk result (λ job. F.Input.count job.1 ≡ 0) }
+{
+    let hex = files.read(trail, alloc, request.hex, FileName::Hex)?;
+    let layout = read_named(alloc, files, trail, request.layout, FileName::Layout)?;
+    let sfdp = read_tables(alloc, files, trail, request.chip)?;
+    let (content, len) = files.open(trail, request.content, FileName::Content)?;
+    Ok((Texts { hex, layout, sfdp }, content, len))
+}
+
+/// Reads a file whole, where one is named.
+fn read_named<F: Files>(
+    alloc: Global,
+    files: &F,
+    trail: &mut F::Trail,
+    path: Option<&str>,
+    name: FileName,
+) -> Result<Option<Vec<u8>>, Refusal>
+    ensures { Did (F.Trail.did trail.old) (F.Trail.did trail.new) (Reading
+        (named_by name (option_map (λ t. t.now) path.entry))
+        (λ bytes. Reads (option_map (λ t. t.now) path.entry)
+        (option_map (λ held. held.items) bytes)) result) }
+{
+    match path {
+        Some(path) => Ok(Some(files.read(trail, alloc, path, name)?)),
+        None => Ok(None),
+    }
+}
+
+/// Reads the tables of a chip, where it has a file.
+pub(crate) fn read_tables<F: Files>(
+    alloc: Global,
+    files: &F,
+    trail: &mut F::Trail,
+    chip: Chip<'_>,
+) -> Result<Vec<u8>, Refusal>
+    ensures { Did (F.Trail.did trail.old) (F.Trail.did trail.new) (Reading
+        (named_by Sfdp (tables_of (origin_of chip.entry)))
+        (λ bytes. ReadsTables (origin_of chip.entry) bytes.items) result) }
+{
+    match chip {
+        Chip::Sfdp { file, bits: _ } => files.read(trail, alloc, file, FileName::Sfdp),
+        Chip::Uniform(_) => Ok(Vec::new(alloc)),
+    }
+}

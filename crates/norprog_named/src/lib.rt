@@ -1,0 +1,22 @@
+//! Each command on the files that its request names (docs/FORMATS.md, section 9): it opens them,
+//! hands over what they have, and closes them. It alone of a command sees a name.
+#![tactic(auto)]
+
+mod asked;
+mod build_files;
+mod draw_files;
+mod hex_files;
+mod hex_request;
+mod job;
+mod list_files;
+mod script_files;
+mod sfdp_files;
+
+pub use asked::{build_asked, draw_asked, hex_asked, list_asked, script_asked, sfdp_asked};
+pub use build_files::build;
+pub use draw_files::draw;
+pub use hex_files::hex;
+pub use hex_request::{HexRequest, request_of};
+pub use list_files::{ListRequest, list};
+pub use script_files::script;
+pub use sfdp_files::meaning_of;
