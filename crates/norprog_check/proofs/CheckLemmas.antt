@@ -6,13 +6,11 @@ use Rattle.nor_base.specs.declared.step.Step.{Step}
 use Rattle.nor_base.specs.Chip.{IsPossible}
 use Rattle.nor_base.specs.Device.{Ahead}
 use Rattle.nor_base.specs.Run.{DoesTaskOnEvery}
-use Rattle.nor_base.specs.Script.{IsScript}
 use Rattle.nor_check.specs.declared.verdict.Verdict.{Verdict}
 use Rattle.nor_check.specs.declared.verdict.Verdict.TheVariants.{Yes, No}
 use Rattle.nor_check.specs.declared.verdict.Why.{Why}
 use Rattle.nor_check.specs.Witness.{Witnesses, reads_before}
 use Rattle.nor_check.specs.Worst.{IsWorst}
-use Rattle.nor_job.specs.declared.fault.BuildFault.{BuildFault}
 use Rattle.nor_job.specs.declared.job.Job.{Job}
 use Rattle.nor_job.specs.Job.{IsJob}
 use Rattle.nor_job.specs.Status.{start_of}
@@ -21,29 +19,18 @@ use Rattle.nor_job.specs.Wanted.{wanted}
 use Rattle.nor_job.proofs.TargetLemmas.{length-target, target_is}
 use Rattle.nor_check.specs.Fed.{Fed, IsShown, to_come}
 use Rattle.nor_base.specs.Parameters.{Parameters}
-use Rattle.nor_script.specs.Stream.{HadText, IsSpelled}
-use Rattle.norprog_check.specs.declared.fault.CheckStop.TheVariants.{Build}
-use Rattle.norprog_check.specs.declared.fault.StreamStop.{StreamStop}
-use Rattle.norprog_check.specs.declared.fault.StreamStop.TheVariants.{Check}
 use Rattle.norprog_check.specs.declared.finding.Finding.{Finding}
 use Rattle.norprog_check.specs.declared.finding.ShowingChip.{ShowingChip}
 use Rattle.norprog_check.specs.declared.readings.Said.{Said}
 use Rattle.norprog_check.specs.Checked.{IsChecked, IsShownOn, AreTaken}
-use Rattle.norprog_check.specs.Content.{IsRead, StopsRead}
-use Rattle.norprog_check.specs.Readings.{IsSaidOf, SaysOf, TakesBy, TakesChip}
-use Rattle.norprog_check.specs.Streams.{ChecksText, ReadingCause, FeedingCause, StopsReading, StopsAtContent, StopsFeeding}
+use Rattle.norprog_check.specs.Content.{IsRead}
+use Rattle.norprog_check.specs.Readings.{IsJudged, IsSaidOf, TakesBy, TakesChip}
 
 pub is_possible : (t : Task) (len : ℕ) (job : Job) → IsJob t len job → IsPossible job.meaning job.start
 is_possible t len job is = subst (λ (s : Start). IsPossible job.meaning s) (sym is.start) is.accepted.possible
 
 pub taken_of : (t : Task) (len : ℕ) (job : Job) → IsJob t len job → AreTaken t len
 taken_of t len job is = record { image = job.image; regions = is.regions; m = job.meaning; accepted = is.accepted }
-
--- what is so of the steps for the job's start and target
-abbrev pub IsJudged : Job → List ℕ → List ℕ → List Step → Finding → Type 0
-IsJudged job have want steps found =
-    IsWorst job.meaning job.start have want steps found.verdict × ((found.verdict ≡ Yes) ↔ DoesTaskOnEvery job.meaning job.start have want steps)
-    × IsShownOn job.meaning job.start have want steps found.verdict found.chip
 
 -- a checker before the first step: of each no, what shows it, and how many status reads are sent right before
 abbrev pub Shows : Parameters → Start → List ℕ → List ℕ → Fed → Type 0
@@ -75,27 +62,34 @@ shown_on m start have want fed steps said (No step why) (Some chip) shows counts
           (shows steps step why _ _ (shown step why refl) chip.each_busy busier));
     }
 
+-- what is found of the steps of a text
 pub judged_of : (job : Job) (have want : List ℕ) (fed : Fed) (said : Said) (found : Finding)
     → ((steps : List Step) → IsWorst job.meaning job.start have want steps (to_come fed steps))
     → ((steps : List Step) → (to_come fed steps ≡ Yes) ↔ DoesTaskOnEvery job.meaning job.start have want steps)
     → Shows job.meaning job.start have want fed → CountsReads fed → found.verdict ≡ said.verdict → TakesChip said job.meaning.page found.chip
-    → (steps : List Step) → SaysOf fed steps said → IsJudged job have want steps found
-judged_of job have want fed said found worst sure shows counts same takes steps says =
-    let is : found.verdict ≡ to_come fed steps = same ∙ says.told in (
-      subst (IsWorst job.meaning job.start have want steps) (sym is) (worst steps),
-      subst (λ v. (v ≡ Yes) ↔ DoesTaskOnEvery job.meaning job.start have want steps) (sym is) (sure steps),
-      subst (λ v. IsShownOn job.meaning job.start have want steps v found.chip) (sym same)
-          (shown_on job.meaning job.start have want fed steps said said.verdict found.chip shows counts says.number says.shown takes),
-    )
+    → (text : List ℕ) → IsSaidOf fed said text → IsJudged job have want found text
+judged_of job have want fed said found worst sure shows counts same takes text tells =
+    let steps = tells.steps in
+    let says = tells.says in
+    let is : found.verdict ≡ to_come fed steps = same ∙ says.told in
+    record {
+      steps = steps;
+      script = tells.script;
+      worst = subst (IsWorst job.meaning job.start have want steps) (sym is) (worst steps);
+      yes = subst (λ v. (v ≡ Yes) ↔ DoesTaskOnEvery job.meaning job.start have want steps) (sym is) (sure steps);
+      shown = subst (λ v. IsShownOn job.meaning job.start have want steps v found.chip) (sym same)
+          (shown_on job.meaning job.start have want fed steps said said.verdict found.chip shows counts says.number says.shown takes);
+    }
 
 -- the target has the chip's size
 pub goal_size : (job : Job) (before after : Ahead) (have want : List ℕ) → IsRead job before after have want → length want ≡ job.meaning.size
 goal_size job before after have want read = ap length read.goal ∙ length-target job 0 have ∙ read.whole
 
-pub checked_is : (t : Task) (len : ℕ) (text : List ℕ) (job : Job) (before after : Ahead) (have want : List ℕ) (steps : List Step) (found : Finding)
-    → IsJob t len job → IsScript text steps → IsRead job before after have want → IsJudged job have want steps found → IsChecked t len text before after found
-checked_is t len text job before after have want steps found is script read judged =
+pub checked_is : (t : Task) (len : ℕ) (text : List ℕ) (job : Job) (before after : Ahead) (have want : List ℕ) (found : Finding)
+    → IsJob t len job → IsRead job before after have want → IsJudged job have want found text → IsChecked t len text before after found
+checked_is t len text job before after have want found is read judged =
     let m = job.meaning in
+    let steps = judged.steps in
     let goal = wanted t job.image is.regions have in
     let same : want ≡ goal = read.goal ∙ target_is t len job is have in
     record {
@@ -104,48 +98,14 @@ checked_is t len text job before after have want steps found is script read judg
       m = m;
       accepted = is.accepted;
       steps = steps;
-      script = script;
+      script = judged.script;
       content = have;
       whole = read.whole ∙ sym is.accepted.size;
       given = read.given;
       worst = subst (λ (wish : List ℕ). IsWorst m (start_of t) have wish steps found.verdict) same
-          (subst (λ (s : Start). IsWorst m s have want steps found.verdict) is.start judged.0);
+          (subst (λ (s : Start). IsWorst m s have want steps found.verdict) is.start judged.worst);
       yes = subst (λ (wish : List ℕ). (found.verdict ≡ Yes) ↔ DoesTaskOnEvery m (start_of t) have wish steps) same
-          (subst (λ (s : Start). (found.verdict ≡ Yes) ↔ DoesTaskOnEvery m s have want steps) is.start judged.1);
+          (subst (λ (s : Start). (found.verdict ≡ Yes) ↔ DoesTaskOnEvery m s have want steps) is.start judged.yes);
       shown = subst (λ (wish : List ℕ). IsShownOn m (start_of t) have wish steps found.verdict found.chip) same
-          (subst (λ (s : Start). IsShownOn m s have want steps found.verdict found.chip) is.start judged.2);
+          (subst (λ (s : Start). IsShownOn m s have want steps found.verdict found.chip) is.start judged.shown);
     }
-
--- what is found by a checker of that content, which was fed with the steps of a text
-pub text_checked : (t : Task) (len : ℕ) (job : Job) (first over again rest before after : Ahead) (have want : List ℕ) (fed : Fed) (said : Said) (found : Finding)
-    → IsJob t len job → HadText first over IsSpelled → IsRead job before after have want
-    → ((steps : List Step) → SaysOf fed steps said → IsJudged job have want steps found) → HadText again rest (IsSaidOf fed said)
-    → ChecksText t len first over again rest before after found
-text_checked t len job first over again rest before after have want fed said found is readable read judges tells =
-    let told = tells.2 in record {
-      readable = readable;
-      text = tells.0;
-      of = tells.1;
-      checked = checked_is t len tells.0 job before after have want told.steps found is told.script read (judges told.steps told.says);
-    }
-
--- why there is no verdict, of accepted inputs
-
-pub stops_reading : (t : Task) (len : ℕ) (job : Job) (first over : Ahead) (why : StreamStop) → IsJob t len job → ReadingCause first over why → StopsReading t len first over why
-stops_reading t len job first over why is cause = record { taken = taken_of t len job is; cause = cause }
-
-pub stops_at_content : (t : Task) (len : ℕ) (job : Job) (first over before after : Ahead) (why : BuildFault) → IsJob t len job → HadText first over IsSpelled
-    → StopsRead job.meaning.size before after why → StopsAtContent t len first over before after (Check (Build why))
-stops_at_content t len job first over before after why is readable stops =
-    record { taken = taken_of t len job is; readable = readable; cause = subst (λ n. StopsRead n before after why) (sym is.accepted.size) stops }
-
-pub stops_feeding : (t : Task) (len : ℕ) (job : Job) (first over again rest before after : Ahead) (have want : List ℕ) (why : StreamStop) → IsJob t len job → HadText first over IsSpelled
-    → IsRead job before after have want → FeedingCause again rest why → StopsFeeding t len first over again rest before after why
-stops_feeding t len job first over again rest before after have want why is readable read cause = record {
-  taken = taken_of t len job is;
-  readable = readable;
-  content = have;
-  whole = read.whole ∙ sym is.accepted.size;
-  given = read.given;
-  cause = cause;
-}

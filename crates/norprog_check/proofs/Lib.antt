@@ -1,6 +1,5 @@
-pub mod FaultLemmas
-pub mod LineLemmas
 pub mod CheckLemmas
+pub mod FaultLemmas
+pub mod StreamLemmas
+pub mod LineLemmas
 mod ReadingLemmas
-mod ServedLemmas
-mod AnswerLemmas

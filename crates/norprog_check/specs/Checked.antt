@@ -72,6 +72,11 @@ abbrev pub RefusesTexts : Task → ℕ → List ℕ → CheckStop → Type 0
 RefusesTexts t len text (stop.Build why) = RefusesInputs t len why
 RefusesTexts t len text (stop.Script why) = AreTaken t len × IsFault text why
 
+-- the first fault of a text, or memory was refused
+abbrev pub IsFaultIn : List ℕ → CheckStop → Type 0
+IsFaultIn text (stop.Build why) = why ≡ fault.Memory
+IsFaultIn text (stop.Script why) = IsFault text why
+
 -- the inputs are accepted, and the text is the script of some steps; the content wasn't read as a whole, or memory was refused
 pub record StopsContent (t : Task) (len : ℕ) (text : List ℕ) (before after : Ahead) (why : BuildFault) : Type 0 where
   pub taken : AreTaken t len

@@ -3,6 +3,4 @@ pub mod Content
 pub mod Checked
 pub mod Line
 pub mod Readings
-pub mod Streams
-pub mod Served
-pub mod Answer
+pub mod Stream

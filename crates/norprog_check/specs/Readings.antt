@@ -1,18 +1,18 @@
--- What the reading of a script for its steps does, and what the faults of the two readings are told as (this project's).
-use Rattle.std.specs.Prelude.{◌≡◌, ◌≢◌, ℕ, ◌+◌, ◌^◌, ◌≤◌, ◌==◌, List, length, Option, Some, None, unwrap_or}
+-- What the reading of a script for its steps does (this project's).
+use Rattle.std.specs.Prelude.{◌≡◌, ◌≢◌, ◌↔◌, ℕ, ◌+◌, ◌^◌, ◌≤◌, ◌==◌, List, length, Option, Some, None, unwrap_or}
 use Rattle.nor_base.specs.declared.step.Step.{Step}
+use Rattle.nor_base.specs.Run.{DoesTaskOnEvery}
 use Rattle.nor_base.specs.Script.{IsScript}
 use Rattle.nor_check.specs.declared.verdict.Verdict.{Verdict}
 use Rattle.nor_check.specs.declared.verdict.Verdict.TheVariants.{Yes, No}
 use Rattle.nor_check.specs.declared.verdict.Why.{Why}
 use Rattle.nor_check.specs.Fed.{Fed, IsShown, to_come}
-use Rattle.nor_script.specs.declared.fault.ReadFault.{ReadFault}
-use Rattle.nor_script.specs.declared.fault.ReadFault.TheVariants as read
-use Rattle.norprog_check.specs.declared.fault.StreamStop.{StreamStop}
-use Rattle.norprog_check.specs.declared.fault.StreamStop.TheVariants as stop
+use Rattle.nor_check.specs.Worst.{IsWorst}
+use Rattle.nor_job.specs.declared.job.Job.{Job}
+use Rattle.norprog_check.specs.declared.finding.Finding.{Finding}
 use Rattle.norprog_check.specs.declared.finding.ShowingChip.{ShowingChip}
 use Rattle.norprog_check.specs.declared.readings.Said.{Said}
-use Rattle.norprog_check.specs.Lifted.{lifted_script}
+use Rattle.norprog_check.specs.Checked.{IsShownOn}
 
 -- what a checker says that is fed with steps: how many they are, the verdict and, of a no, which page and how many status reads
 -- before the step show it
@@ -43,11 +43,10 @@ TakesBy (No step why) said own (Some chip) = IsChipOf said step own chip
 abbrev pub TakesChip : Said → ℕ → Option ShowingChip → Type 0
 TakesChip said own chip = TakesBy said.verdict said own chip
 
--- what a reading's fault is told as, at the first and at the second
-abbrev pub first_stop : ReadFault → StreamStop
-first_stop (read.Script why) = stop.Check (lifted_script why)
-first_stop (read.Device failed) = stop.First failed
-
-abbrev pub again_stop : ReadFault → StreamStop
-again_stop (read.Script why) = stop.Check (lifted_script why)
-again_stop (read.Device failed) = stop.Again failed
+-- what is found of the steps of a text on the chips of a job that hold `have`, and are to hold `want`
+pub record IsJudged (job : Job) (have want : List ℕ) (found : Finding) (text : List ℕ) : Type 0 where
+  pub steps : List Step
+  pub script : IsScript text steps
+  pub worst : IsWorst job.meaning job.start have want steps found.verdict
+  pub yes : (found.verdict ≡ Yes) ↔ DoesTaskOnEvery job.meaning job.start have want steps
+  pub shown : IsShownOn job.meaning job.start have want steps found.verdict found.chip

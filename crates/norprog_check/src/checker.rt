@@ -8,20 +8,23 @@ ghost use Rattle.nor_hex.specs.Image.{Pairs};
 ghost use Rattle.nor_job.specs.Causes.{AreAccepted};
 ghost use Rattle.nor_layout.specs.Region.{Region};
 ghost use Rattle.nor_job.specs.Wanted.{ReadsWithin};
+ghost use Rattle.nor_script.specs.Stream.{IsSpelled};
 ghost use Rattle.norprog_check.specs.Checked.{IsChecked, RefusesTexts, StopsCheck, IsLate};
-ghost use Rattle.norprog_check.specs.Checked.{IsOfContent, CountsReader};
+ghost use Rattle.norprog_check.specs.Checked.{IsOfContent, CountsReader, IsFaultIn};
 
-use crate::fault::{CheckStop, StreamStop};
+use crate::content::read_content;
+use crate::fault::CheckStop;
 use crate::finding::Finding;
-use crate::streams::check_streams;
+use crate::judge::judge;
 use nor_base::ByteIn;
-use nor_job::Inputs;
-use nor_script::{TextIn, faultless_scripts};
+use nor_job::{Inputs, job_of};
+use nor_script::{ReadFault, TextIn, faultless_scripts};
+use norprog_common::look_through;
 use std::alloc::Global;
 
 /// Whether the text of a script, from anybody, does the job of the inputs on every chip that they
 /// describe and that holds what the reader gives; `No` as [`nor_check::check`], with a chip that
-/// shows it. Memory is taken as [`check_streams`] takes it.
+/// shows it. Memory is taken as [`crate::check_stream`] takes it.
 ///
 /// Faults come in this order: those of the inputs, the text, the content.
 pub fn check_script<R: ByteIn>(
@@ -47,12 +50,24 @@ pub fn check_script<R: ByteIn>(
         × CountsReader (R.count content.old) (R.count content.new) result }
 {
     faultless_scripts();
-    let mut first = TextIn::new(script);
-    let mut again = TextIn::new(script);
-    match check_streams(alloc, inputs, &mut first, &mut again, content, len) {
+    let job = job_of(alloc, inputs, len)?;
+    look_in(alloc, script)?;
+    let (have, want) = read_content(alloc, &job, content)?;
+    match judge(alloc, &job, have, want.as_slice(), &mut TextIn::new(script)) {
         Ok(found) => Ok(found),
-        Err(StreamStop::Check(stop)) => Err(stop),
-        Err(StreamStop::First(_)) => unreachable!("a text in memory never fails"),
-        Err(StreamStop::Again(_)) => unreachable!("a text in memory never fails"),
+        Err(ReadFault::Script(fault)) => Err(CheckStop::from(fault)),
+        Err(ReadFault::Device(_)) => unreachable!("a text in memory never fails"),
+    }
+}
+
+/// Looks through a text for its first fault.
+fn look_in(alloc: Global, script: &[u8]) -> Result<(), CheckStop>
+    ensures spelled { IfOk result (λ _. IsSpelled script.now) }
+    ensures stopped { IfErr result (IsFaultIn script.now) }
+{
+    match look_through(alloc, &mut TextIn::new(script)) {
+        Ok(()) => Ok(()),
+        Err(ReadFault::Script(fault)) => Err(CheckStop::from(fault)),
+        Err(ReadFault::Device(_)) => unreachable!("a text in memory never fails"),
     }
 }

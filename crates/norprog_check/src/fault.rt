@@ -2,14 +2,14 @@
 
 ghost use Rattle.std.specs.Prelude.{◌≡◌};
 ghost use Rattle.nor_job.specs.declared.fault.BuildFault.TheVariants.{Memory};
-ghost use Rattle.norprog_check.specs.Lifted.{lifted_script};
+ghost use Rattle.norprog_check.specs.Lifted.{lifted_reading, lifted_script};
 ghost use Rattle.norprog_check.specs.declared.fault.CheckStop.TheVariants.{Build};
 ghost use Rattle.norprog_check.specs.declared.fault.StreamStop.TheVariants.{Check};
 
 use nor_base::Failed;
 use nor_check::CheckFault;
 use nor_job::BuildFault;
-use nor_script::ScriptFault;
+use nor_script::{ReadFault, ScriptFault};
 use thiserror::Error;
 
 /// Why there is no verdict. Out of memory, also that of the script's reader, is `Build` of
@@ -52,19 +52,16 @@ impl From<CheckFault> for CheckStop {
     }
 }
 
-/// Why there is no verdict on a script that devices tell.
+/// Why there is no verdict on a script that a device tells.
 #[derive(Clone, Copy, Debug, PartialEq, Eq, Error)]
 pub enum StreamStop {
     /// As it is reported of a script in memory: the inputs, the first fault of a text, the content,
     /// or out of memory.
     #[error(transparent)]
     Check(CheckStop),
-    /// The device of the first reading failed.
+    /// The script's device failed.
     #[error(transparent)]
-    First(Failed),
-    /// The device of the second reading failed.
-    #[error(transparent)]
-    Again(Failed),
+    Device(Failed),
 }
 
 impl From<BuildFault> for StreamStop {
@@ -72,5 +69,16 @@ impl From<BuildFault> for StreamStop {
 
     fn from(fault: BuildFault) -> StreamStop {
         StreamStop::Check(CheckStop::Build(fault))
+    }
+}
+
+impl From<ReadFault> for StreamStop {
+    ghost from_gives = { λ fault stop. stop ≡ lifted_reading fault };
+
+    fn from(fault: ReadFault) -> StreamStop {
+        match fault {
+            ReadFault::Script(fault) => StreamStop::Check(CheckStop::from(fault)),
+            ReadFault::Device(failed) => StreamStop::Device(failed),
+        }
     }
 }

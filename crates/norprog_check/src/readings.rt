@@ -9,7 +9,6 @@ ghost use Rattle.nor_script.specs.View.{step_of};
 ghost use Rattle.nor_script.specs.declared.fault.ReadFault.TheVariants.{Script};
 ghost use Rattle.nor_script.specs.declared.fault.ScriptFault.TheVariants.{Memory};
 ghost use Rattle.norprog_check.specs.Readings.{IsSaidOf};
-ghost use Rattle.norprog_common.specs.Reading.{GivesSome};
 
 use nor_base::ByteIn;
 use nor_check::{CheckFault, StepChecker, Verdict, Witness};
@@ -40,7 +39,6 @@ pub(crate) fn feed_script<A: ByteIn>(
     ensures told { IfOk result
         (λ said. HadText (A.ahead script.old) (A.ahead script.new) (IsSaidOf checker.entry said)) }
     ensures stopped { IfErr result (StopsReader (A.ahead script.old) (A.ahead script.new)) }
-    ensures gave { GivesSome (A.ahead script.old) (A.ahead script.new) }
     ensures count { CountsRead (A.count script.old) (A.count script.new) result }
 {
     let mut checker = checker;

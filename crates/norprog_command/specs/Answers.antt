@@ -11,8 +11,6 @@ use Rattle.norprog_options.specs.declared.options.Line.{Line}
 use Rattle.norprog_options.specs.declared.typed.TypedLine.{TypedLine}
 use Rattle.norprog_options.specs.Spelled.{Refuses, Spells}
 use Rattle.norprog_options.specs.Typed.{IsLineOf}
-use Rattle.norprog_plan.specs.Answer.{AnswersPlan}
-use Rattle.norprog_check.specs.Answer.{AnswersCheck}
 use Rattle.norprog_details.specs.declared.typed.CommandLine.{CommandLine}
 use Rattle.norprog_details.specs.Details.{TellsDetails}
 use Rattle.norprog_details.specs.Heard.{IsLastLine}
@@ -20,11 +18,10 @@ use Rattle.norprog_explain.specs.Explained.{explained, AnswersExplain}
 use Rattle.norprog_explain.specs.Topics.{topics}
 use Rattle.norprog_flash.specs.Answer.{AnswersFlash}
 use Rattle.norprog_files.specs.Files.{Event}
-use Rattle.norprog_named.specs.Asked.{Answered, EndsBuildAsked, EndsDrawAsked, EndsHexAsked, EndsListAsked, EndsScriptAsked, EndsSfdpAsked, told}
+use Rattle.norprog_named.specs.Asked.{Answered, EndsBuildAsked, EndsCheckAsked, EndsDrawAsked, EndsHexAsked, EndsListAsked, EndsPlanAsked, EndsRunAsked, EndsScriptAsked, EndsSfdpAsked, told}
 use Rattle.norprog_named.specs.List.{sheet}
 use Rattle.norprog_play.specs.Answer.{AnswersPlay}
 use Rattle.norprog_read.specs.Answer.{AnswersRead}
-use Rattle.norprog_run.specs.Answer.{AnswersRun}
 use Rattle.nor_progress.specs.Far.{IsSilent, Tries}
 use Rattle.norprog_device.specs.Setting.{waiting_line}
 
@@ -78,11 +75,14 @@ AnswersTo files Failed done Unprinted (command.Build given) before after Quiet W
     ShowsNone shown × done.made []
     × done.did (λ log. Answered (told Quiet Works told_before told_after) status (EndsBuildAsked done.unread given Unprinted before after log))
 AnswersTo files Failed done Unprinted (command.Plan given) before after Quiet Works told_before told_after status shown =
-    ShowsNone shown × AnswersPlan files Failed given done.made (files.broke ⊎ Unprinted) before after Quiet Works told_before told_after status
+    ShowsNone shown × done.made []
+    × done.did (λ log. Answered (told Quiet Works told_before told_after) status (EndsPlanAsked done.unread given (sheet Unprinted before after) log))
 AnswersTo files Failed done Unprinted (command.Check given) before after Quiet Works told_before told_after status shown =
-    ShowsNone shown × done.made [] × AnswersCheck files Failed given Unprinted before after Quiet Works told_before told_after status
+    ShowsNone shown × done.made []
+    × done.did (λ log. Answered (told Quiet Works told_before told_after) status (EndsCheckAsked done.unread given (sheet Unprinted before after) log))
 AnswersTo files Failed done Unprinted (command.Run given) before after Quiet Works told_before told_after status shown =
-    ShowsNone shown × AnswersRun files Failed given done.made (files.broke ⊎ Unprinted) before after Quiet Works told_before told_after status
+    ShowsNone shown × done.made []
+    × done.did (λ log. Answered (told Quiet Works told_before told_after) status (EndsRunAsked done.unread given (sheet Unprinted before after) log))
 AnswersTo files Failed done Unprinted (command.List given) before after Quiet Works told_before told_after status shown =
     ShowsNone shown × done.made []
     × done.did (λ log. Answered (told Quiet Works told_before told_after) status (EndsListAsked done.unread given (sheet Unprinted before after) log))

@@ -1,13 +1,10 @@
 -- Which files the program opens to be read, in which order (this project's).
 use Rattle.std.specs.Prelude.{◌⊎◌, ℕ, zero, suc, List, [], Option, Some, None, Result, Ok, Err}
 use Rattle.norprog_common.specs.FileStore.{Adds, OpensAt}
-use Rattle.norprog_common.specs.Served as job
 use Rattle.norprog_common.specs.declared.faults.Refusal.{Refusal}
-use Rattle.norprog_check.specs.Served as check
 use Rattle.norprog_flash.specs.Served as flash
 use Rattle.norprog_play.specs.Served as play
 use Rattle.norprog_read.specs.Served as read
-use Rattle.norprog_run.specs.Served as run
 use Rattle.norprog_details.specs.declared.typed.CommandLine.{CommandLine}
 use Rattle.norprog_details.specs.Details.{OpensAbout}
 use Rattle.norprog_details.specs.Subject.{option_of}
@@ -21,9 +18,9 @@ use Rattle.norprog_options.specs.Typed.{IsLineOf}
 -- the names of files that a command's options give, in the order in which it opens these to be read
 abbrev pub files_of : Asked → List (List ℕ)
 files_of (command.Build given) = []
-files_of (command.Plan given) = job.files_asked given.job
-files_of (command.Check given) = check.files_asked given
-files_of (command.Run given) = run.files_asked given
+files_of (command.Plan given) = []
+files_of (command.Check given) = []
+files_of (command.Run given) = []
 files_of (command.List given) = []
 files_of (command.Draw given) = []
 files_of (command.Play given) = play.files_asked given

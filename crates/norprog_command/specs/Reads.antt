@@ -1,11 +1,8 @@
 -- Which files a command line lets the program open to be read, or ask about (this project's). `files` is what is known of files by their names.
 use Rattle.std.specs.Prelude.{⊤, ℕ, List, Option, Some, None, option_map}
 use Rattle.norprog_common.specs.FileStore.{FileFacts, MayRead, MayReadNamed}
-use Rattle.norprog_common.specs.Served as job
-use Rattle.norprog_check.specs.Served as check
 use Rattle.norprog_flash.specs.Served as flash
 use Rattle.norprog_play.specs.Served as play
-use Rattle.norprog_run.specs.Served as run
 use Rattle.norprog_details.specs.declared.typed.CommandLine.{CommandLine}
 use Rattle.norprog_details.specs.Details.{MayAskTyped}
 use Rattle.norprog_options.specs.declared.options.Asked.{Asked}
@@ -18,9 +15,9 @@ use Rattle.norprog_options.specs.Typed.{IsLineOf}
 -- those that the options of a command name
 abbrev pub MayReadAsked : FileFacts → Asked → Type 0
 MayReadAsked files (command.Build given) = ⊤
-MayReadAsked files (command.Plan given) = MayRead files (job.paths_asked given.job job.no_path)
-MayReadAsked files (command.Check given) = MayRead files (check.check_paths given)
-MayReadAsked files (command.Run given) = MayRead files (run.paths_asked given)
+MayReadAsked files (command.Plan given) = ⊤
+MayReadAsked files (command.Check given) = ⊤
+MayReadAsked files (command.Run given) = ⊤
 MayReadAsked files (command.List given) = ⊤
 MayReadAsked files (command.Draw given) = ⊤
 MayReadAsked files (command.Play given) = MayRead files (play.paths_asked given)

@@ -16,15 +16,15 @@ mod waited;
 
 use crate::waited::{flash_waited, play_waited, read_waited};
 use nor_base::ByteOut;
-use norprog_check::check;
 use norprog_common::{FileStore, refuse};
 use norprog_details::{Heard, write_details};
 use norprog_explain::explain;
 use norprog_files::{Files, Trail};
-use norprog_named::{build_asked, draw_asked, hex_asked, list_asked, script_asked, sfdp_asked};
+use norprog_named::{
+    build_asked, check_asked, draw_asked, hex_asked, list_asked, plan_asked, run_asked,
+    script_asked, sfdp_asked,
+};
 use norprog_options::{Asked, Line, TypedLine, asked_by};
-use norprog_plan::plan;
-use norprog_run::run;
 use std::alloc::Global;
 
 /// Runs the command that the words spell, the program's name not among them. It opens the files
@@ -166,9 +166,9 @@ fn answer_to<S: FileStore, F: Files, O: ByteOut, E: ByteOut, P: ByteOut>(
 {
     match asked {
         Asked::Build(given) => build_asked(alloc, files, trail, given, out, err),
-        Asked::Plan(given) => plan(alloc, store, journal, ledger, given, out, err),
-        Asked::Check(given) => check(alloc, store, ledger, given, out, err),
-        Asked::Run(given) => run(alloc, store, journal, ledger, given, out, err),
+        Asked::Plan(given) => plan_asked(alloc, files, trail, given, out, err),
+        Asked::Check(given) => check_asked(alloc, files, trail, given, out, err),
+        Asked::Run(given) => run_asked(alloc, files, trail, given, out, err),
         Asked::List(given) => list_asked(alloc, files, trail, given, out, err),
         Asked::Draw(given) => draw_asked(alloc, files, trail, given, err),
         Asked::Play(given) => {

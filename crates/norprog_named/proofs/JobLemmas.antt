@@ -1,12 +1,16 @@
 -- The files of a job that were opened.
-use Rattle.std.proofs.Common.{◌≡◌, ℕ, List, [], ◌∷◌, Global, IfErr, Option, Result, Ok, Err, Vec, subst, sym}
+use Rattle.std.proofs.Common.{◌≡◌, ℕ, List, [], ◌∷◌, ◌++◌, Global, IfErr, Option, Result, Ok, Err, Vec, subst, sym}
 use Rattle.std.specs.Prelude.{IsErrAnd}
+use Rattle.nor_base.specs.Device.{Ahead}
+use Rattle.nor_job.specs.Task.{Task}
 use Rattle.norprog_common.specs.Chip.{Origin, Sfdp}
 use Rattle.norprog_common.specs.declared.faults.FileName.{FileName}
 use Rattle.norprog_common.specs.declared.faults.FileName.TheVariants as file
 use Rattle.norprog_common.specs.declared.faults.Refusal.{Refusal}
-use Rattle.norprog_files.specs.Files.{AreUsed, Denied, Denies, Event, Given, Here, IsGiven, NoneUsed, OneUsed, StopsOpening, came}
-use Rattle.norprog_named.specs.Job.{Named, NoTables, Reading, Reads, ReadsTables, Tables, Unnamed, named_by, tables_of}
+use Rattle.norprog_common.specs.declared.request.Request.{Request}
+use Rattle.norprog_files.specs.Files.{AreUsed, Denied, Denies, Event, Given, Here, IsGiven, IsOpened, NoneUsed, OneUsed, Opened, StopsOpening, came}
+use Rattle.norprog_files.proofs.FilesLemmas.{Inputs}
+use Rattle.norprog_named.specs.Job.{IsJobOf, Named, NoTables, Opens_job, Reading, Reads, ReadsTables, Tables, Unnamed, job_files, named_by, tables_of}
 
 pub reads_used : (name : FileName) {path bytes : Option (List ℕ)} {log : List Event} → Reads path bytes log → AreUsed (named_by name path) log
 reads_used name Unnamed = NoneUsed
@@ -15,6 +19,17 @@ reads_used name (Named path bytes) = OneUsed name path _ (Given path bytes) _ (I
 pub tables_used : {origin : Origin} {bytes : List ℕ} {log : List Event} → ReadsTables origin bytes log → AreUsed (named_by file.Sfdp (tables_of origin)) log
 tables_used (Tables path bits bytes) = OneUsed file.Sfdp path _ (Given path bytes) _ (IsGiven bytes) NoneUsed
 tables_used (NoTables size bytes) = NoneUsed
+
+-- all of a job were
+used_both : {xs ys : Inputs} {front log : List Event} → AreUsed xs front → AreUsed ys log → AreUsed (xs ++ ys) (front ++ log)
+used_both NoneUsed more = more
+used_both (OneUsed name path rest event front used some) more = OneUsed name path _ event _ used (used_both some more)
+
+pub job_used : {r : Request} {t : Task} {content : Ahead} {len : ℕ} {log : List Event} → IsJobOf r t content len log → AreUsed (job_files r) log
+job_used {r} {content = content} {len = len} (Opens_job held layout tables is reads opens) =
+    OneUsed file.Hex r.hex.now _ (Given r.hex.now held.hex) _ (IsGiven held.hex)
+    (used_both (reads_used file.Layout reads)
+    (used_both (tables_used opens) (OneUsed file.Content r.content.now [] (Opened r.content.now content len) [] (IsOpened content len) NoneUsed)))
 
 -- a refusal that is handed on
 pub stops_reading : {A : Type 0} (files : List (FileName × List ℕ)) (Was : A → List Event → Type 0) (result : Result A Refusal) (why : Refusal) (log : List Event)

@@ -1,6 +1,9 @@
 mod JobLemmas
 mod HexLemmas
 mod BuildLemmas
+mod CheckLemmas
 mod ListLemmas
+mod RunLemmas
+mod PlanLemmas
 mod ScriptLemmas
 mod AskedLemmas

@@ -32,22 +32,22 @@ work t len content rest begun ended = record { task = t; len = len; content = co
 abbrev pub IsBuiltBy : Work → Report → Type 0
 IsBuiltBy w report = IsBuilt w.task w.len w.content w.rest w.begun w.ended report
 
--- the work stopped; what the output took is no whole script
-abbrev pub StopsBy : Work → BuildFault → Type 0
-StopsBy w why = StopsWork w.task w.len w.content w.rest w.begun w.ended why
-
 -- under `--strict` the image gives each chosen region a byte
 abbrev pub IsFull : Bool → Work → Type 0
 IsFull strict w = strict ≡ true → HasNoneEmpty w.task w.len
 
--- why nothing is built: under `--strict` a region is empty, the inputs are refused, or the work stops, where the reader (`Unread`) or the
--- writer (`Unwritten`) failed if that is told; or memory ran out
-pub data Unbuilt (strict : Bool) (w : Work) (Unread Unwritten : Type 0) : Refusal → Type 0 where
-  Empty : (index : ℕ) → strict ≡ true → HasFirstEmpty w.task w.len (Some index) → w.ended ≡ w.begun → Unbuilt strict w Unread Unwritten (EmptyRegion index)
-  Refused : (why : BuildFault) → RefusesInputs w.task w.len why → w.ended ≡ w.begun → Unbuilt strict w Unread Unwritten (Build why)
-  Stopped : (why : BuildFault) → IsFull strict w → StopsBy w why → (why ≡ fault.Read → Unread) → (why ≡ fault.Write → Unwritten)
-      → Unbuilt strict w Unread Unwritten (Build why)
-  NoMemory : w.ended ≡ w.begun → Unbuilt strict w Unread Unwritten (Build fault.Memory)
+-- why a job isn't done: under `--strict` a region is empty, the inputs are refused, or the work stops so (`Stops`), where the reader
+-- (`Unread`) or the writer (`Unwritten`) failed if that is told; or memory ran out
+pub data Undone (strict : Bool) (w : Work) (Stops : BuildFault → Type 0) (Unread Unwritten : Type 0) : Refusal → Type 0 where
+  Empty : (index : ℕ) → strict ≡ true → HasFirstEmpty w.task w.len (Some index) → w.ended ≡ w.begun → Undone strict w Stops Unread Unwritten (EmptyRegion index)
+  Refused : (why : BuildFault) → RefusesInputs w.task w.len why → w.ended ≡ w.begun → Undone strict w Stops Unread Unwritten (Build why)
+  Stopped : (why : BuildFault) → IsFull strict w → Stops why → (why ≡ fault.Read → Unread) → (why ≡ fault.Write → Unwritten)
+      → Undone strict w Stops Unread Unwritten (Build why)
+  NoMemory : w.ended ≡ w.begun → Undone strict w Stops Unread Unwritten (Build fault.Memory)
+
+-- why nothing is built: the work stops, and what the output took is no whole script
+abbrev pub Unbuilt : Bool → Work → Type 0 → Type 0 → Refusal → Type 0
+Unbuilt strict w = Undone strict w (StopsWork w.task w.len w.content w.rest w.begun w.ended)
 
 -- how `build` ends, and what was done with files by then
 pub data EndsBuild (Unread : Type 0) (r : Request) (out : List ℕ) : List Event → Result Report Refusal → Type 0 where

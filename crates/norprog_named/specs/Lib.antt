@@ -2,8 +2,11 @@ pub mod Job
 pub mod HexRequest
 pub mod Hex
 pub mod Build
+pub mod Check
 pub mod Draw
 pub mod Script
 pub mod Sfdp
 pub mod List
+pub mod Run
+pub mod Plan
 pub mod Asked

@@ -1,4 +1,3 @@
-mod ServedLemmas
-mod AnswerLemmas
+mod OutlineLemmas
 mod DrawnLemmas
 mod SumsLemmas

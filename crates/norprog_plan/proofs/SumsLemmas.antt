@@ -1,5 +1,5 @@
 -- The lines of a plan that were printed and added up.
-use Rattle.std.proofs.Common.{◌≡◌, ◌∙◌, ℕ, ◌+◌, ◌^◌, ◌<◌, Bool, false, List, ◌++◌, take, drop, Option, Some, None, option_map, Result, Ok, Err, IfOk, IfErr, IfSome, inl, inr, refl, ap, sym, subst, arith, cond}
+use Rattle.std.proofs.Common.{◌≡◌, ◌∙◌, ℕ, ◌+◌, ◌^◌, ◌<◌, Bool, false, List, [], ◌++◌, append-nil, take, drop, Option, Some, None, option_map, Result, Ok, Err, IfOk, IfErr, IfSome, inl, inr, refl, ap, sym, subst, arith, cond}
 use Rattle.std.specs.Prelude.{count_by}
 use Rattle.std.specs.Io.KnownBytes.{Appends}
 use Rattle.std.proofs.lemmas.Grind.{flat_map-append}
@@ -112,3 +112,12 @@ pub prints_all : (p l q : Planning) (begun done : Sums) (a b c : Ahead) (x y : O
 prints_all p l q begun done a b c x y ready job so same still whole =
     subst (λ (q : Planning). PrintsAll p q begun done a c x y) (sym same)
     (subst (λ (c : Ahead). PrintsAll p l begun done a c x y) (sym still) (record { ready = ready; job = job; whole = whole; printed = so }))
+
+-- all were, and memory may run out after them
+pub cut_after : {T : Type 0} → CutsAnywhere → (p q : Planning) (job : Job) (begun done : Sums) (a b : Ahead) (x y : Option (List ℕ)) (r : Result T BuildFault) → p.job ≡ job
+    → PrintsAll p q begun done a b x y → IfOk r (λ _. IsCutPlan job a b x y fault.Memory)
+cut_after anywhere p q job begun done a b x y (Err why) same all = tt
+cut_after anywhere p q job begun done a b x y (Ok report) same all =
+    let so = all.printed in
+    subst (λ (j : Job). IsCutPlan j a b x y fault.Memory) (all.job ∙ same)
+    (anywhere q a b x y so.lines (lines_text so.lines) [] fault.Memory all.ready so.told (sym (append-nil (lines_text so.lines))) so.put (inr refl))

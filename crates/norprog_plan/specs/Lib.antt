@@ -1,4 +1,3 @@
-pub mod Served
 pub mod Regions
-pub mod Answer
+pub mod Outline
 pub mod Sums

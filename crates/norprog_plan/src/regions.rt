@@ -1,21 +1,19 @@
 //! The lines on what the image gives the chosen regions.
 
-ghost use Rattle.std.specs.Prelude.{◌≡◌, ◌<◌, ◌≤◌, ◌-◌, ◌^◌, ◌++◌, ℕ, List, IfOk, IfErr};
+ghost use Rattle.std.specs.Prelude.{◌≡◌, ◌<◌, ◌≤◌, ◌-◌, ◌^◌, ◌++◌, ℕ, IfOk, IfErr};
 ghost use Rattle.nor_base.specs.Device.{Writes, Counts};
 ghost use Rattle.nor_hex.specs.Image.{byte_at};
 ghost use Rattle.nor_job.specs.Job.{IsJob};
 ghost use Rattle.nor_job.specs.declared.fault.BuildFault.TheVariants.{Memory};
-ghost use Rattle.norprog_common.specs.declared.faults.Refusal.TheVariants.{Build};
 ghost use Rattle.norprog_plan.specs.Regions.{EndsWith, region_line, region_lines, share_line};
 
 use itoa::Buffer;
 use nor_base::{ByteOut, Failed, IntoWrite, put_parts};
 use nor_hex::Image;
-use nor_job::{Inputs, Job, chosen_regions};
+use nor_job::{BuildFault, Inputs, Job, chosen_regions};
 use nor_layout::Region;
 use nor_script::hex_number;
 use nor_target::{Share, share_of};
-use norprog_common::Refusal;
 use std::alloc::Global;
 
 /// The text that comes after a plan's lines, with those of the chosen regions where they are asked
@@ -26,18 +24,17 @@ pub(crate) fn with_regions(
     job: &Job,
     regions: bool,
     shown: Vec<u8>,
-) -> Result<Vec<u8>, Refusal>
+) -> Result<Vec<u8>, BuildFault>
     ensures told { (len : ℕ) → IsJob inputs.now len job.now
         → IfOk result (λ rest. EndsWith regions inputs.now len shown.items rest.items) }
-    ensures begins { IfOk result (λ rest. (more : List ℕ) × (rest.items ≡ shown.items ++ more)) }
-    ensures memory { IfErr result (λ why. why ≡ Build Memory) }
+    ensures memory { IfErr result (λ why. why ≡ Memory) }
 {
     if !regions {
         return Ok(shown);
     }
     // the plan was made of these inputs, so no cause is left
     let Ok(chosen) = chosen_regions(alloc, inputs, job.meaning.size) else {
-        return Err(Refusal::MEMORY);
+        return Err(BuildFault::Memory);
     };
     add_lines(
         &job.image,
@@ -55,11 +52,11 @@ fn add_lines(
     size: u32,
     regions: &[Region<'_>],
     mut lines: IntoWrite<Vec<u8>>,
-) -> Result<Vec<u8>, Refusal>
+) -> Result<Vec<u8>, BuildFault>
     requires { lines.failed ≡ 0 }
     ensures lines { IfOk result (λ rest. rest.items
         ≡ lines.inner.items ++ region_lines (byte_at image.now) base size regions.now) }
-    ensures refused { IfErr result (λ why. why ≡ Build Memory) }
+    ensures refused { IfErr result (λ why. why ≡ Memory) }
 {
     for region in regions {
         let share = share_of(image, base, size, region);
@@ -73,16 +70,16 @@ fn add_line(
     region: &Region<'_>,
     share: Option<Share>,
     lines: &mut IntoWrite<Vec<u8>>,
-) -> Result<(), Refusal>
+) -> Result<(), BuildFault>
     requires { lines.old.failed ≡ 0 }
     ensures line { IfOk result (λ _. lines.new.inner.items
         ≡ lines.old.inner.items ++ region_line region.now share) }
     ensures works { IfOk result (λ _. lines.new.failed ≡ 0) }
-    ensures refused { IfErr result (λ why. why ≡ Build Memory) }
+    ensures refused { IfErr result (λ why. why ≡ Memory) }
 {
     match write_line(region, share, lines) {
         Ok(()) => Ok(()),
-        Err(_) => Err(Refusal::MEMORY),
+        Err(_) => Err(BuildFault::Memory),
     }
 }
 

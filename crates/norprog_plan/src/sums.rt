@@ -4,7 +4,7 @@ ghost use Rattle.std.specs.Prelude.{◌≡◌, ◌++◌, ℕ, List, [], Option, 
 ghost use Rattle.nor_job.specs.declared.job.Job.{Job as Work};
 ghost use Rattle.nor_plan_read.specs.declared.line.PlanLine.{PlanLine as Line};
 ghost use Rattle.nor_times.specs.declared.times.Times.{Times as KnownTimes};
-ghost use Rattle.norprog_plan.specs.Answer.{tables_times};
+ghost use Rattle.norprog_plan.specs.Outline.{tables_times};
 ghost use Rattle.norprog_plan.specs.Sums.{AreSums, HasRoom};
 
 use nor_job::{Inputs, Job, Source};

@@ -2,4 +2,3 @@ mod BusyLemmas
 mod ReadLemmas
 mod StepsLemmas
 mod StreamLemmas
-mod ServedLemmas

@@ -15,7 +15,7 @@ use Rattle.norprog_run.specs.declared.verdict.Verdict.{Verdict}
 use Rattle.norprog_run.specs.declared.verdict.Verdict.TheVariants.{Done, Wrong}
 use Rattle.norprog_run.specs.Play.{EndsSo}
 use Rattle.norprog_run.specs.Steps.{Steps, Ends}
-use Rattle.norprog_run.specs.Streams.{PlaysText}
+use Rattle.norprog_run.specs.Stream.{PlaysText}
 
 -- how it stands after these steps: a player was fed them; or the chip went wrong, and whatever follows them, the play ends so
 abbrev pub Stands : Shown → Shown → ℕ → List Step → Player → Option Verdict → Type 0

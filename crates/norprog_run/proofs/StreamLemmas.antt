@@ -1,6 +1,6 @@
--- What the readings of a script come to.
-use Rattle.std.proofs.Common.{◌≡◌, ℕ, ◌+◌, inl, inr, List, length, Option, Result, Ok, Err, refl, subst, arith}
-use Rattle.std.specs.Prelude.{◌⊎◌, IfOk, IfErr}
+-- What the reading of a script comes to.
+use Rattle.std.proofs.Common.{◌≡◌, ◌<◌, ℕ, List, length, Option, Result, Ok, Err, refl, subst, arith}
+use Rattle.std.specs.Prelude.{IfOk, IfErr}
 use Rattle.std.specs.Io.KnownBytes.{Appends}
 use Rattle.nor_base.specs.Chip.{Setting, Chip, ready}
 use Rattle.nor_base.specs.Device.{Ahead, Finite, Gives}
@@ -10,20 +10,21 @@ use Rattle.nor_job.specs.Task.{Task}
 use Rattle.nor_script.specs.declared.fault.ReadFault.{ReadFault}
 use Rattle.nor_script.specs.declared.fault.ReadFault.TheVariants as read
 use Rattle.nor_script.specs.declared.fault.ScriptFault.TheVariants as script
+use Rattle.nor_script.specs.Faults.{IsFault}
 use Rattle.nor_script.specs.Laws.{ScriptsAreFaultless}
 use Rattle.nor_script.specs.Stream.{HadText, IsSpelled, StopsReader}
 use Rattle.norprog_common.specs.declared.faults.FileName.TheVariants as file
 use Rattle.norprog_common.specs.declared.faults.Refusal.{Refusal}
 use Rattle.norprog_common.specs.declared.faults.Refusal.TheVariants.{File, Build, Script}
+use Rattle.norprog_common.specs.Content.{CountsReader, CountsWriter, StopsReading}
+use Rattle.norprog_common.specs.Reading.{GivesSome}
 use Rattle.norprog_run.specs.declared.kind.Kind.{Kind}
 use Rattle.norprog_run.specs.declared.request.ChipBehaviour.{ChipBehaviour}
 use Rattle.norprog_run.specs.declared.verdict.Verdict.{Verdict}
 use Rattle.norprog_run.specs.Kind.{kind_setting}
-use Rattle.norprog_run.specs.Play.{page_of, IsSized, setting_of}
-use Rattle.norprog_common.specs.Content.{StopsReading}
-use Rattle.norprog_common.specs.Reading.{GivesSome}
+use Rattle.norprog_run.specs.Play.{page_of, IsSized, WasPlayed, setting_of}
 use Rattle.norprog_run.specs.Refusals.{RefusesPaged, RefusesPlay, IsEarly}
-use Rattle.norprog_run.specs.Streams.{PlaysText, RefusesScript, StopsText, PlaysStreams, RefusesStreams, IsOfChip, CountsScript, refusal_of}
+use Rattle.norprog_run.specs.Stream.{BadReading, Blames, CountsOne, IsPlayed, NoChip, NoMemory, Play, PlaysText, Refused, RefusesScript, StopsText, Unplayed, of_script, play_of, refusal_of}
 
 -- a text that has this has that
 pub text_wider : (before after : Ahead) (P Q : List ℕ → Type 0) → ((text : List ℕ) → P text → Q text) → HadText before after P → HadText before after Q
@@ -34,142 +35,170 @@ kind_is : (t : Task) (bench : ChipBehaviour) (kind : Kind) → kind.start ≡ st
 kind_is t bench kind start page = rw (start, page) refl
 
 module _ (t : Task) (bench : ChipBehaviour) (kind : Kind) (len : ℕ) (sized : IsSized t bench.page len kind.meaning) (start : kind.start ≡ start_of t)
-    (page : kind.page ≡ page_of bench.page kind.meaning) (first first' again again' before after : Ahead) (held held' : Option (List ℕ)) (Untouched : Type 0) where
-  -- the first reading found no script
-  pub first_refused : (why : Refusal) → RefusesScript first first' why → GivesSome first first' → Untouched
-      → RefusesStreams t bench first first' again again' len before after held held' Untouched why
-  first_refused (Script why) p gave same = inl (text_wider first first' _ _ (λ text is. ((kind.meaning, sized), is)) p, same)
-  first_refused (File file.Script) p gave same = ((kind.meaning, sized), gave, inl same)
-  first_refused (Build fault.Memory) p gave same = (kind.meaning, sized)
-  first_refused other p gave same = absurd p
-
-  module _ (looked : HadText first first' IsSpelled) where
-    -- the content wasn't read
-    pub content_refused : (why : Refusal) → StopsReading len before after why → RefusesStreams t bench first first' again again' len before after held held' Untouched why
-    content_refused (Build fault.ContentShort) p =
-        text_wider first first' _ _ (λ text is. ((kind.meaning, is.steps, record { sized = sized; script = is.script }), p.0, p.1)) looked
-    content_refused (Build fault.Read) p = text_wider first first' _ _ (λ text is. ((kind.meaning, is.steps, record { sized = sized; script = is.script }), p)) looked
-    content_refused (Build fault.Memory) p = (kind.meaning, sized)
-    content_refused other p = absurd p
-
-    module _ (gave : GivesSome first first') (content : List ℕ) (whole : length content ≡ len) (given : Gives before content after) where
-      -- the second reading found no script, or the writer failed
-      pub again_refused : (why : Refusal) → StopsText again again' (kind_setting kind bench) (ready (kind_setting kind bench) content) bench.limit held held' why
-          → RefusesStreams t bench first first' again again' len before after held held' Untouched why
-      again_refused (Script why) p =
-          inr (looked, (content, whole, given), text_wider again again' _ _ (λ text is. ((kind.meaning, sized), is)) p)
-      again_refused (File file.Script) p = ((kind.meaning, sized), gave, inr (looked, (content, whole, given), p))
-      again_refused (Build fault.Memory) p = (kind.meaning, sized)
-      again_refused (Build fault.Write) p =
-          let here = subst (λ (s : Setting). StopsText again again' s (ready s content) bench.limit held held' (Build fault.Write)) (kind_is t bench kind start page) p in (
-            looked,
-            text_wider again again' _ _ (λ text is. record {
-              m = kind.meaning;
-              steps = is.0;
-              may = record { sized = sized; script = is.1 };
-              content = content;
-              whole = whole;
-              given = given;
-              stops = is.2;
-            }) here,
-          )
-      again_refused other p = absurd p
-
-      pub all_played : (verdict : Verdict) (chip : Chip)
-          → HadText again again' (PlaysText (kind_setting kind bench) (ready (kind_setting kind bench) content) bench.limit verdict chip) → Appends held held' chip.array
-          → PlaysStreams t bench first first' again again' len before after held held' verdict
-      all_played verdict chip p put =
-          let here = subst (λ (s : Setting). HadText again again' (PlaysText s (ready s content) bench.limit verdict chip)) (kind_is t bench kind start page) p in (
-            looked,
-            text_wider again again' _ _ (λ text is. record {
-              m = kind.meaning;
-              steps = is.0;
-              may = record { sized = sized; script = is.1 };
-              content = content;
-              whole = whole;
-              given = given;
-              chip = chip;
-              ends = is.2;
-              put = put;
-            }) here,
-          )
-
-      -- the same of whichever came
-
-      pub plays_all : (r : Result Verdict Refusal)
-          → IfOk r (λ verdict. (chip : Chip)
-          × HadText again again' (PlaysText (kind_setting kind bench) (ready (kind_setting kind bench) content) bench.limit verdict chip)
-          × Appends held held' chip.array)
-          → IfOk r (PlaysStreams t bench first first' again again' len before after held held')
-      plays_all (Ok verdict) p = all_played verdict p.0 p.1 p.2
-      plays_all (Err why) p = tt
-
-      pub refuses_again : (r : Result Verdict Refusal)
-          → IfErr r (StopsText again again' (kind_setting kind bench) (ready (kind_setting kind bench) content) bench.limit held held')
-          → IfErr r (RefusesStreams t bench first first' again again' len before after held held' Untouched)
-      refuses_again (Ok verdict) p = tt
-      refuses_again (Err why) p = again_refused why p
-
--- where both devices tell the same text, and neither fails
-
-text_told : (first first' : Ahead) (text : List ℕ) (P : List ℕ → Type 0) → first ≡ Finite text → HadText first first' P → P text
-text_told first first' text P is has =
-    let told = subst (λ (a : Ahead). HadText a first' P) is has in subst P told.1 told.2
-
--- no count of failures rose
-works : (same n : ℕ) → ((same ≡ same + n) × (same ≡ same)) ⊎ ((same ≡ same) × (same ≡ same + n)) → n ≡ 1 → ⊥
-works same n p one = elim p [ inl q ↦ let no = q.0 in omega (arith, no, one) | inr q ↦ let no = q.1 in omega (arith, no, one) ]
-
--- a text that was read once without a fault has none the second time, after the content
-module _ (t : Task) (bench : ChipBehaviour) (text : List ℕ) (len : ℕ) (first first' again again' before after : Ahead) (held held' : Option (List ℕ)) (once : first ≡ Finite text)
-    (twice : again ≡ Finite text) (First Again Content : Type 0) (faultless : ScriptsAreFaultless) where
+    (page : kind.page ≡ page_of bench.page kind.meaning) (script script' before after : Ahead) (held held' : Option (List ℕ)) where
   abbrev Why : Refusal → Type 0
-  Why = RefusesStreams t bench first first' again again' len before after held held' (Again × Content)
+  Why = Unplayed (play_of t bench len before after held held') script script'
 
-  unread : (why : Refusal) → Why why → CountsScript {T = Verdict} 0 0 0 0 (Err why) → (IsOfChip why → First × Again × Content) → IsEarly why → Content
-  unread (Script why) p counts chip early = elim p [
-    | inl q ↦ q.1.1
-    | inr q ↦
-        let looked = text_told first first' text IsSpelled once q.0 in
-        let bad = text_told again again' text (λ text. RefusesPlay t bench text len before after held held' (Script why)) twice q.2 in
-        absurd (faultless text looked.steps why looked.script bad.1)
-  ]
-  unread (Build fault.ContentShort) p counts chip early = absurd early
-  unread (Build fault.Read) p counts chip early = absurd early
-  unread (Build fault.Write) p counts chip early = absurd early
-  unread (Build fault.Memory) p counts chip early = absurd early
-  unread (File file.Script) p counts chip early = absurd (works 0 1 counts refl)
-  unread (File name) p counts chip early = absurd p
-  unread other p counts chip early = (chip tt).2
+  -- the reading found no script
+  pub script_refused : (why : Refusal) → RefusesScript script script' why → Why why
+  script_refused (Script why) p = Refused (Script why) (text_wider script script' _ _ (λ text is. ((kind.meaning, sized), is)) p)
+  script_refused (File file.Script) p = BadReading (kind.meaning, sized) p
+  script_refused (Build fault.Memory) p = NoMemory (kind.meaning, sized)
+  script_refused other p = absurd p
 
-  pub text_unread : (r : Result Verdict Refusal) → IfErr r Why → CountsScript 0 0 0 0 r → IfErr r (λ why. IsOfChip why → First × Again × Content)
-      → IfErr r (λ why. IsEarly why → Content)
-  text_unread (Ok verdict) p counts chip = tt
-  text_unread (Err why) p counts chip = unread why p counts chip
+  -- it did, and the content wasn't read
+  pub content_refused : (why : Refusal) → HadText script script' IsSpelled → StopsReading len before after why → Why why
+  content_refused (Build fault.ContentShort) looked p =
+      Refused (Build fault.ContentShort)
+      (text_wider script script' _ _ (λ text is. ((kind.meaning, is.steps, record { sized = sized; script = is.script }), p.0, p.1)) looked)
+  content_refused (Build fault.Read) looked p =
+      Refused (Build fault.Read) (text_wider script script' _ _ (λ text is. ((kind.meaning, is.steps, record { sized = sized; script = is.script }), p)) looked)
+  content_refused (Build fault.Memory) looked p = NoMemory (kind.meaning, sized)
+  content_refused other looked p = absurd p
 
--- a refusal of the chip, before anything is read
-pub kind_refused : (t : Task) (bench : ChipBehaviour) (first first' again again' : Ahead) (len : ℕ) (before after : Ahead) (held held' : Option (List ℕ)) (Untouched : Type 0) (why : Refusal)
-    → RefusesPaged t bench.page len why → RefusesStreams t bench first first' again again' len before after held held' Untouched why
-kind_refused t bench first first' again again' len before after held held' Untouched (Script why) p = absurd p
-kind_refused t bench first first' again again' len before after held held' Untouched (Build fault.ContentShort) p = absurd p
-kind_refused t bench first first' again again' len before after held held' Untouched (Build fault.Read) p = absurd p
-kind_refused t bench first first' again again' len before after held held' Untouched (Build fault.Write) p = absurd p
-kind_refused t bench first first' again again' len before after held held' Untouched (Build fault.Memory) p = absurd p
-kind_refused t bench first first' again again' len before after held held' Untouched (File file.Script) p = absurd p
-kind_refused t bench first first' again again' len before after held held' Untouched other p = p
+  -- the content was read
+  module _ (content : List ℕ) (whole : length content ≡ len) (given : Gives before content after) where
+    pub play_refused : (why : Refusal) → StopsText script script' (kind_setting kind bench) (ready (kind_setting kind bench) content) bench.limit held held' why → Why why
+    play_refused (Script why) p = script_refused (Script why) p
+    play_refused (File file.Script) p = BadReading (kind.meaning, sized) p
+    play_refused (Build fault.Memory) p = NoMemory (kind.meaning, sized)
+    play_refused (Build fault.Write) p =
+        let here = subst (λ (s : Setting). StopsText script script' s (ready s content) bench.limit held held' (Build fault.Write)) (kind_is t bench kind start page) p in
+        Refused (Build fault.Write) (text_wider script script' _ _ (λ text is. record {
+          m = kind.meaning;
+          steps = is.0;
+          may = record { sized = sized; script = is.1 };
+          content = content;
+          whole = whole;
+          given = given;
+          stops = is.2;
+        }) here)
+    play_refused other p = absurd p
 
--- none of the script or of the content is one
-pub script_not_chip : (A : Type 0) (before after : Ahead) (why : Refusal) → RefusesScript before after why → IsOfChip why → A
-script_not_chip A before after (Script why) p is = absurd is
-script_not_chip A before after (File name) p is = absurd is
-script_not_chip A before after (Build fault.Memory) p is = absurd is
-script_not_chip A before after other p is = absurd p
+    pub all_played : (verdict : Verdict) (chip : Chip)
+        → HadText script script' (PlaysText (kind_setting kind bench) (ready (kind_setting kind bench) content) bench.limit verdict chip) → Appends held held' chip.array
+        → HadText script script' (IsPlayed (play_of t bench len before after held held') verdict)
+    all_played verdict chip p put =
+        let here = subst (λ (s : Setting). HadText script script' (PlaysText s (ready s content) bench.limit verdict chip)) (kind_is t bench kind start page) p in
+        text_wider script script' _ _ (λ text is. record {
+          m = kind.meaning;
+          steps = is.0;
+          may = record { sized = sized; script = is.1 };
+          content = content;
+          whole = whole;
+          given = given;
+          chip = chip;
+          ends = is.2;
+          put = put;
+        }) here
 
-pub content_not_chip : (A : Type 0) (len : ℕ) (before after : Ahead) (why : Refusal) → StopsReading len before after why → IsOfChip why → A
-content_not_chip A len before after (Build fault.ContentShort) p is = absurd is
-content_not_chip A len before after (Build fault.Read) p is = absurd is
-content_not_chip A len before after (Build fault.Memory) p is = absurd is
-content_not_chip A len before after other p is = absurd p
+    -- the same of whichever came
+
+    pub plays_all : (r : Result Verdict Refusal)
+        → IfOk r (λ verdict. (chip : Chip)
+        × HadText script script' (PlaysText (kind_setting kind bench) (ready (kind_setting kind bench) content) bench.limit verdict chip)
+        × Appends held held' chip.array)
+        → IfOk r (λ verdict. HadText script script' (IsPlayed (play_of t bench len before after held held') verdict))
+    plays_all (Ok verdict) p = all_played verdict p.0 p.1 p.2
+    plays_all (Err why) p = tt
+
+    pub refuses_all : (r : Result Verdict Refusal)
+        → IfErr r (StopsText script script' (kind_setting kind bench) (ready (kind_setting kind bench) content) bench.limit held held') → IfErr r Why
+    refuses_all (Ok verdict) p = tt
+    refuses_all (Err why) p = play_refused why p
+
+-- which reader, or that the writer, has failed
+
+pub paged_blames : (A B C : Type 0) (t : Task) (page : Option ℕ) (len : ℕ) (why : Refusal) → RefusesPaged t page len why → Blames A B C why
+paged_blames A B C t page len (File file.Script) p = absurd p
+paged_blames A B C t page len (Build fault.Read) p = absurd p
+paged_blames A B C t page len (Build fault.Write) p = absurd p
+paged_blames A B C t page len other p = tt
+
+pub script_blames : (B C : Type 0) (n n' : ℕ) (before after : Ahead) (why : Refusal) → RefusesScript before after why → CountsOne {T = Unit {0}} n n' (Err why)
+    → Blames (n < n') B C why
+script_blames B C n n' before after (File file.Script) p counts = omega (arith, counts)
+script_blames B C n n' before after (Build fault.Read) p counts = absurd p
+script_blames B C n n' before after (Build fault.Write) p counts = absurd p
+script_blames B C n n' before after other p counts = tt
+
+pub content_blames : (A C : Type 0) (n n' len : ℕ) (before after : Ahead) (why : Refusal) → StopsReading len before after why → CountsReader {T = Unit {0}} n n' (Err why)
+    → Blames A (n < n') C why
+content_blames A C n n' len before after (File file.Script) p counts = absurd p
+content_blames A C n n' len before after (Build fault.Read) p counts = omega (arith, counts)
+content_blames A C n n' len before after (Build fault.Write) p counts = absurd p
+content_blames A C n n' len before after other p counts = tt
+
+play_blames : (B : Type 0) (n n' k k' : ℕ) (before after : Ahead) (s : Setting) (c : Chip) (limit : ℕ) (held held' : Option (List ℕ)) (why : Refusal)
+    → StopsText before after s c limit held held' why → CountsOne {T = Verdict} n n' (Err why) → CountsWriter {T = Verdict} k k' (Err why) → Blames (n < n') B (k < k') why
+play_blames B n n' k k' before after s c limit held held' (File file.Script) p reads writes = omega (arith, reads)
+play_blames B n n' k k' before after s c limit held held' (Build fault.Read) p reads writes = absurd p
+play_blames B n n' k k' before after s c limit held held' (Build fault.Write) p reads writes = omega (arith, writes)
+play_blames B n n' k k' before after s c limit held held' other p reads writes = tt
+
+pub all_blames : (B : Type 0) (n n' k k' : ℕ) (before after : Ahead) (s : Setting) (c : Chip) (limit : ℕ) (held held' : Option (List ℕ)) (r : Result Verdict Refusal)
+    → IfErr r (StopsText before after s c limit held held') → CountsOne n n' r → CountsWriter k k' r → IfErr r (Blames (n < n') B (k < k'))
+all_blames B n n' k k' before after s c limit held held' (Ok verdict) p reads writes = tt
+all_blames B n n' k k' before after s c limit held held' (Err why) p reads writes = play_blames B n n' k k' before after s c limit held held' why p reads writes
+
+-- of a text in memory, which can be read without a failure
+
+pub text_told : (script script' : Ahead) (text : List ℕ) (P : List ℕ → Type 0) → script ≡ Finite text → HadText script script' P → P text
+text_told script script' text P is has =
+    let told = subst (λ (a : Ahead). HadText a script' P) is has in subst P told.1 told.2
+
+pub kind_refused : (p : Play) (text : List ℕ) (why : Refusal) → RefusesPaged p.chip p.bench.page p.len why
+    → RefusesPlay p.chip p.bench text p.len p.content p.rest p.begun p.ended why
+kind_refused p text (Script why) paged = absurd paged
+kind_refused p text (Build fault.ContentShort) paged = absurd paged
+kind_refused p text (Build fault.Read) paged = absurd paged
+kind_refused p text (Build fault.Write) paged = absurd paged
+kind_refused p text (Build fault.Memory) paged = absurd paged
+kind_refused p text other paged = paged
+
+pub text_refused : (p : Play) (text : List ℕ) (script script' : Ahead) {why : Refusal} → script ≡ Finite text → of_script why ≡ 0 → Unplayed p script script' why
+    → RefusesPlay p.chip p.bench text p.len p.content p.rest p.begun p.ended why
+text_refused p text script script' is works (NoChip why refuses same unread) = kind_refused p text why refuses
+text_refused p text script script' is works (Refused why had) =
+    text_told script script' text (λ text. RefusesPlay p.chip p.bench text p.len p.content p.rest p.begun p.ended why) is had
+text_refused p text script script' is works (BadReading sized gave) = absurd (omega (arith, works))
+text_refused p text script script' is works (NoMemory sized) = sized
+
+pub text_refuses : (p : Play) (text : List ℕ) (script script' : Ahead) (r : Result Verdict Refusal) → script ≡ Finite text → CountsOne 0 0 r
+    → IfErr r (Unplayed p script script') → IfErr r (RefusesPlay p.chip p.bench text p.len p.content p.rest p.begun p.ended)
+text_refuses p text script script' (Ok verdict) is works refused = tt
+text_refuses p text script script' (Err why) is works refused = text_refused p text script script' is (let none = works in omega (arith, none)) refused
+
+pub text_plays : (p : Play) (text : List ℕ) (script script' : Ahead) (r : Result Verdict Refusal) → script ≡ Finite text
+    → IfOk r (λ verdict. HadText script script' (IsPlayed p verdict)) → IfOk r (λ verdict. IsPlayed p verdict text)
+text_plays p text script script' (Ok verdict) is had = text_told script script' text (IsPlayed p verdict) is had
+text_plays p text script script' (Err why) is had = tt
+
+-- a refusal of the content is none of the script, and not early
+
+pub content_works : (len : ℕ) (before after : Ahead) (why : Refusal) → StopsReading len before after why → of_script why ≡ 0
+content_works len before after (File file.Script) p = absurd p
+content_works len before after other p = refl
+
+pub content_late : (A : Type 0) (len : ℕ) (before after : Ahead) (why : Refusal) → StopsReading len before after why → IsEarly why → A
+content_late A len before after (Build fault.ContentShort) p early = absurd early
+content_late A len before after (Build fault.Read) p early = absurd early
+content_late A len before after (Build fault.Memory) p early = absurd early
+content_late A len before after other p early = absurd p
+
+-- after the content no fault of the text is found that wasn't before
+module _ (text : List ℕ) (script script' : Ahead) (is : script ≡ Finite text) (spelled : IsSpelled text) (faultless : ScriptsAreFaultless) (s : Setting) (c : Chip)
+    (limit : ℕ) (held held' : Option (List ℕ)) where
+  late : (why : Refusal) → StopsText script script' s c limit held held' why → CountsOne {T = Verdict} 0 0 (Err why) → IsEarly why → ⊥
+  late (Script why) p works early = faultless text spelled.steps why spelled.script (text_told script script' text (λ text. IsFault text why) is p)
+  late (File file.Script) p works early = omega (arith, works)
+  late (Build fault.Write) p works early = early
+  late (Build fault.Memory) p works early = early
+  late other p works early = p
+
+  pub text_unread : (A : Type 0) (r : Result Verdict Refusal) → IfErr r (StopsText script script' s c limit held held') → CountsOne 0 0 r → IfErr r (λ why. IsEarly why → A)
+  text_unread A (Ok verdict) p works = tt
+  text_unread A (Err why) p works = λ early. absurd (late why p works early)
 
 -- the fault of a reading is told of the text
 pub script_told : (before after : Ahead) (fault : ReadFault) → StopsReader before after fault → GivesSome before after → RefusesScript before after (refusal_of fault)

@@ -4,7 +4,5 @@ pub mod Request
 pub mod Play
 pub mod Kind
 pub mod Refusals
-pub mod Served
 pub mod Steps
-pub mod Streams
-pub mod Answer
+pub mod Stream

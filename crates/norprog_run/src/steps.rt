@@ -8,7 +8,7 @@ ghost use Rattle.nor_script.specs.Stream.{CountsRead, HadText, StopsReader};
 ghost use Rattle.nor_script.specs.View.{step_of};
 ghost use Rattle.norprog_common.specs.Reading.{GivesSome};
 ghost use Rattle.norprog_run.specs.Steps.{Steps, Ends};
-ghost use Rattle.norprog_run.specs.Streams.{PlaysText};
+ghost use Rattle.norprog_run.specs.Stream.{PlaysText};
 
 use crate::verdict::Verdict;
 use nor_base::ByteIn;

@@ -23,6 +23,4 @@ mod refusals;
 #[cfg(test)]
 mod same;
 #[cfg(test)]
-mod store;
-#[cfg(test)]
 mod windows;

@@ -1,12 +1,14 @@
 //! Plays over bytes, with a reader and a writer that move few bytes at a call, end early or fail,
 //! and with little memory.
 
+ghost use Rattle.std.specs.Prelude.{◌<◌, IfOk};
+
 use crate::devices::{BLANK, Done, content, failing, inputs, roomy_writer, with_devices};
 use crate::same::{holds, same};
 use nor_base::{ByteIn, ByteOut, FromRead, IntoWrite};
 use norprog::BuildFault;
 use norprog_common::Refusal;
-use norprog_run::{BusyTimes, ChipBehaviour, Verdict, play_script};
+use norprog_run::{BusyTimes, ChipBehaviour, Verdict, play_script, play_stream};
 use std::alloc::{AllocError, Global};
 use std::process::Abort;
 use std::test::Fail;
@@ -24,12 +26,7 @@ fn play(
     read_fails_at: usize,
     write_fails_at: usize,
 ) -> Result<Played<'static>, AllocError> {
-    let bench = ChipBehaviour {
-        page: None,
-        busy: BusyTimes::Listed(Vec::from_slice(alloc, &[1])?),
-        keep: false,
-        limit: 10,
-    };
+    let bench = bench(alloc)?;
     let given = BLANK.get(..has).unwrap_or(&[]);
     let mut reader = FromRead::new(content(given, 5000, read_fails_at));
     let mut after = roomy_writer(alloc, 8192, 5000)?;
@@ -44,12 +41,51 @@ fn play(
         8192,
         &mut after,
     );
-    let answer = match answer {
+    Ok(with_devices(verdict_or_fault(answer), reader, after))
+}
+
+/// The same of a script that is read seven bytes at a call, and fails at the call of this number;
+/// the reader of the content has so many bytes.
+fn play_read(
+    alloc: Global,
+    script: &str,
+    script_fails_at: usize,
+    has: usize,
+) -> Result<Played<'static>, AllocError> {
+    let mut script = FromRead::new(content(script.as_bytes(), 7, script_fails_at));
+    let given = BLANK.get(..has).unwrap_or(&[]);
+    let mut reader = FromRead::new(content(given, 5000, 0));
+    let mut after = IntoWrite::new(roomy_writer(alloc, 8192, 5000)?);
+    let answer = play_stream(
+        alloc,
+        &inputs(""),
+        bench(alloc)?,
+        &mut script,
+        &mut reader,
+        8192,
+        &mut after,
+    );
+    Ok(with_devices(verdict_or_fault(answer), reader, after))
+}
+
+/// A chip that its first program keeps busy for one status read.
+fn bench(alloc: Global) -> Result<ChipBehaviour, AllocError>
+    ensures { IfOk result (λ bench. 0 < bench.limit) }
+{
+    Ok(ChipBehaviour {
+        page: None,
+        busy: BusyTimes::Listed(Vec::from_slice(alloc, &[1])?),
+        keep: false,
+        limit: 10,
+    })
+}
+
+fn verdict_or_fault(answer: Result<Verdict, Refusal>) -> (Option<Verdict>, Option<BuildFault>) {
+    match answer {
         Ok(verdict) => (Some(verdict), None),
         Err(Refusal::Build(fault)) => (None, Some(fault)),
         Err(_) => (None, None),
-    };
-    Ok(with_devices(answer, reader, after))
+    }
 }
 
 /// A play that ends well, with one byte left to read: the chip holds 00h at 0 and is else erased.
@@ -72,6 +108,26 @@ fn ends(rt: &impl Abort, played: &Played<'_>) {
 #[test]
 fn plays_from_bytes_to_bytes(rt: HostRuntime) -> Result<(), Fail> {
     ends(&rt, &play(rt.alloc(), 8193, 0, 0)?);
+    Ok(())
+}
+
+#[test]
+fn a_script_comes_in_parts(rt: HostRuntime) -> Result<(), Fail> {
+    ends(&rt, &play_read(rt.alloc(), ONE_BYTE, 0, 8193)?);
+    let stopped = play_read(rt.alloc(), ONE_BYTE, 3, 8193)?;
+    holds(&rt, "no verdict", stopped.answer == (None, None));
+    same(&rt, "bytes written", stopped.writer.held.len(), 0);
+    Ok(())
+}
+
+/// Of a script and a content that are both at fault the script is reported.
+#[test]
+fn a_script_comes_before_the_content(rt: HostRuntime) -> Result<(), Fail> {
+    let cut = play_read(rt.alloc(), "norscript 1\n", 0, 8191)?;
+    holds(&rt, "the script's fault", cut.answer == (None, None));
+    let short = play_read(rt.alloc(), ONE_BYTE, 0, 8191)?;
+    let fault = (None, Some(BuildFault::ContentShort));
+    holds(&rt, "the content's fault", short.answer == fault);
     Ok(())
 }
 

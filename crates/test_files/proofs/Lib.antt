@@ -1,3 +1,1 @@
 mod FoundLemmas
-mod WorkedLemmas
-mod RanLemmas

@@ -5,16 +5,16 @@ use Rattle.norprog_common.proofs.LedgerLemmas.{all_first}
 use Rattle.norprog_command.proofs.answer_to.Goals as goal
 
 pub returns-in-Check-clause-answer : goal.returns-in-Check-clause-answer
-returns-in-Check-clause-answer g c = rw c.in-Check.is (record { held = refl; count = refl }, adds_none _ _ refl, c.check.ensures.answer)
+returns-in-Check-clause-answer g c = rw c.in-Check.is (record { held = refl; count = refl }, adds_none _ _ refl, c.check_asked.ensures.ends)
 
 pub returns-in-Build-clause-answer : goal.returns-in-Build-clause-answer
 returns-in-Build-clause-answer g c = rw c.in-Build.is (record { held = refl; count = refl }, adds_none _ _ refl, c.build_asked.ensures.ends)
 
 pub returns-in-Plan-clause-answer : goal.returns-in-Plan-clause-answer
-returns-in-Plan-clause-answer g c = rw c.in-Plan.is (record { held = refl; count = refl }, c.plan.ensures.answer)
+returns-in-Plan-clause-answer g c = rw c.in-Plan.is (record { held = refl; count = refl }, adds_none _ _ refl, c.plan_asked.ensures.ends)
 
 pub returns-in-Run-clause-answer : goal.returns-in-Run-clause-answer
-returns-in-Run-clause-answer g c = rw c.in-Run.is (record { held = refl; count = refl }, c.run.ensures.answer)
+returns-in-Run-clause-answer g c = rw c.in-Run.is (record { held = refl; count = refl }, adds_none _ _ refl, c.run_asked.ensures.ends)
 
 pub returns-in-List-clause-answer : goal.returns-in-List-clause-answer
 returns-in-List-clause-answer g c = rw c.in-List.is (record { held = refl; count = refl }, adds_none _ _ refl, c.list_asked.ensures.ends)
@@ -44,13 +44,13 @@ pub returns-in-Build-clause-opened : goal.returns-in-Build-clause-opened
 returns-in-Build-clause-opened g c = rw c.in-Build.is (all_first _ _ [] (adds_none _ _ refl), λ zero. adds_none _ _ refl)
 
 pub returns-in-Plan-clause-opened : goal.returns-in-Plan-clause-opened
-returns-in-Plan-clause-opened g c = rw c.in-Plan.is c.plan.ensures.opened
+returns-in-Plan-clause-opened g c = rw c.in-Plan.is (all_first _ _ [] (adds_none _ _ refl), λ zero. adds_none _ _ refl)
 
 pub returns-in-Check-clause-opened : goal.returns-in-Check-clause-opened
-returns-in-Check-clause-opened g c = rw c.in-Check.is c.check.ensures.opened
+returns-in-Check-clause-opened g c = rw c.in-Check.is (all_first _ _ [] (adds_none _ _ refl), λ zero. adds_none _ _ refl)
 
 pub returns-in-Run-clause-opened : goal.returns-in-Run-clause-opened
-returns-in-Run-clause-opened g c = rw c.in-Run.is c.run.ensures.opened
+returns-in-Run-clause-opened g c = rw c.in-Run.is (all_first _ _ [] (adds_none _ _ refl), λ zero. adds_none _ _ refl)
 
 pub returns-in-List-clause-opened : goal.returns-in-List-clause-opened
 returns-in-List-clause-opened g c = rw c.in-List.is (all_first _ _ [] (adds_none _ _ refl), λ zero. adds_none _ _ refl)

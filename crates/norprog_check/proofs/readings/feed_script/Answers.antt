@@ -4,7 +4,6 @@ use Rattle.nor_script.specs.Stream.{reading, Advances, CountsStep, StopsReader}
 use Rattle.nor_script.proofs.StreamLaws.{has_begun, has_more}
 use Rattle.nor_script.proofs.TextLaws.{stops_header, stops_step, stops_memory}
 use Rattle.nor_base.proofs.FaultLaws.{handed_on}
-use Rattle.norprog_common.proofs.ReadingLemmas.{header_gave, more_gave, step_gave}
 use Rattle.norprog_check.proofs.ReadingLemmas.{fed_more, shown_more, feeds_all}
 use Rattle.norprog_check.proofs.readings.feed_script.Goals as goal
 
@@ -62,27 +61,3 @@ returns-clause-told g c =
     subst (λ b. Advances (reading (g.A.ByteIn.ahead c.loop-reader.script) c.loop-reader.reader.held) (reading (g.A.ByteIn.ahead c.advance.new.source) c.advance.new.self.held) c.loop-reader.reader.steps c.advance.new.self.step (Ok b)) c.if-branch.false c.in_ok-advance.ensures.step in
     feeds_all _ c.args.checker c.loop-reader.checker (reading (g.A.ByteIn.ahead c.loop-reader.script) c.loop-reader.reader.held) (reading (g.A.ByteIn.ahead c.advance.new.source) c.advance.new.self.held) v.above c.loop-reader.reader.steps c.advance.new.self.step _ v.read v.number read v.told v.shown
     (c.number.ensures ∙ v.fed) c.verdict.ensures c.witness.ensures
-
-pub returns-in_err-reader-clause-gave : goal.returns-in_err-reader-clause-gave
-returns-in_err-reader-clause-gave g c = header_gave _ _ c.in_err-reader.field-0.0 c.in_err-reader.ensures.begun
-
-pub returns-in_err-advance-clause-gave : goal.returns-in_err-advance-clause-gave
-returns-in_err-advance-clause-gave g c =
-    step_gave _ (reading (g.A.ByteIn.ahead c.loop-reader.script) c.loop-reader.reader.held) (reading (g.A.ByteIn.ahead c.advance.new.source) c.advance.new.self.held)
-    c.loop-reader.invariant.above c.loop-reader.reader.steps c.advance.new.self.step c.in_err-advance.field-0.0 c.loop-reader.invariant.read c.in_err-advance.ensures.step
-
-pub returns-in_err-feed-clause-gave : goal.returns-in_err-feed-clause-gave
-returns-in_err-feed-clause-gave g c =
-    let before = (reading (g.A.ByteIn.ahead c.loop-reader.script) c.loop-reader.reader.held) in
-    let after = (reading (g.A.ByteIn.ahead c.advance.new.source) c.advance.new.self.held) in
-    let read : Advances before after c.loop-reader.reader.steps c.advance.new.self.step (Ok true) =
-    subst (λ more. Advances before after c.loop-reader.reader.steps c.advance.new.self.step (Ok more)) c.if-branch.true c.in_ok-advance.ensures.step in
-    more_gave _ before after c.loop-reader.invariant.above _ c.loop-reader.invariant.read read.0
-
-pub returns-clause-gave : goal.returns-clause-gave
-returns-clause-gave g c =
-    let before = (reading (g.A.ByteIn.ahead c.loop-reader.script) c.loop-reader.reader.held) in
-    let after = (reading (g.A.ByteIn.ahead c.advance.new.source) c.advance.new.self.held) in
-    let read : Advances before after c.loop-reader.reader.steps c.advance.new.self.step (Ok false) =
-    subst (λ more. Advances before after c.loop-reader.reader.steps c.advance.new.self.step (Ok more)) c.if-branch.false c.in_ok-advance.ensures.step in
-    more_gave _ before after c.loop-reader.invariant.above _ c.loop-reader.invariant.read read.0

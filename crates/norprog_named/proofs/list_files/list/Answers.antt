@@ -4,7 +4,6 @@ use Rattle.nor_base.specs.Chip.{begins4}
 use Rattle.nor_base.proofs.FaultLaws.{answered}
 use Rattle.norprog_common.specs.Setup.{setup_task}
 use Rattle.norprog_common.specs.declared.faults.FileName.TheVariants as file
-use Rattle.norprog_common.specs.declared.faults.Refusal.{Refusal}
 use Rattle.norprog_files.specs.Files.{Here}
 use Rattle.norprog_files.proofs.FilesLemmas.{adds_both, stops_after, stops_before}
 use Rattle.norprog_named.specs.List.{EndsList, NoChip, NoInput, sheet}

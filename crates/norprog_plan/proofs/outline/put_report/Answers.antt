@@ -2,7 +2,7 @@
 use Rattle.std.proofs.Common.{rules, ◌≡◌, true}
 use Rattle.nor_base.proofs.DeviceLaws.{Writes-then}
 use Rattle.nor_job.specs.Status.{start_of}
-use Rattle.norprog_plan.specs.Answer.{tables_times}
+use Rattle.norprog_plan.specs.Outline.{tables_times}
 use Rattle.norprog_plan.proofs.outline.put_report.Goals as goal
 
 pub returns-then-shown-clause-bytes : goal.returns-then-shown-clause-bytes

@@ -1,0 +1,67 @@
+-- Each step that ends it.
+use Rattle.std.proofs.Common.{[], ◌∷◌, ◌++◌, arith}
+use Rattle.nor_base.proofs.FaultLaws.{answered}
+use Rattle.norprog_check.specs.Stream.{work}
+use Rattle.norprog_common.specs.declared.faults.FileName.TheVariants as file
+use Rattle.norprog_files.specs.Files.{Denied, Here, Opened}
+use Rattle.norprog_files.proofs.FilesLemmas.{adds_both, stops_after, stops_before}
+use Rattle.norprog_named.specs.Check.{Checked, EndsCheck, NoInput, Opens_all, Refused}
+use Rattle.norprog_named.proofs.BuildLemmas.{job_by}
+use Rattle.norprog_named.proofs.CheckLemmas.{empty, wider}
+use Rattle.norprog_named.proofs.JobLemmas.{job_used}
+use Rattle.norprog_named.proofs.check_files.check.Goals as goal
+
+pub returns-in_err-texts : goal.returns-in_err-texts
+returns-in_err-texts g c =
+    let did = c.in_err-texts.ensures.did in (
+      did.0,
+      did.1,
+      answered _ (EndsCheck (g.F.Files.unread c.args.files.now) c.args.request.now c.args.path.now did.0) _ (NoInput did.0 _ (stops_before _ did.2))
+          c.from_residual.ensures.1,
+    )
+
+pub returns-in_err-script : goal.returns-in_err-script
+returns-in_err-script g c =
+    let path = c.args.path.now in
+    let job = c.in_ok-texts.ensures.did in (
+      _,
+      adds_both job.1 c.in_err-script.ensures.did,
+      answered _ (EndsCheck (g.F.Files.unread c.args.files.now) c.args.request.now path (job.0 ++ (Denied path ∷ []))) _
+          (NoInput _ _ (stops_after (job_used job.2) (Here file.Script path [] _ c.in_err-script.ensures.refused))) c.from_residual-in_err-script.ensures.1,
+    )
+
+pub returns-in_err-refuse_empty : goal.returns-in_err-refuse_empty
+returns-in_err-refuse_empty g c =
+    let path = c.args.path.now in
+    let job = c.in_ok-texts.ensures.did in
+    let script = g.F.Input.ByteIn.ahead c.in_ok-script.script in
+    let content = g.F.Input.ByteIn.ahead c.in_ok-texts.content in
+    let w = work c.inputs_of-inputs.result c.in_ok-texts.len script script content content in (
+      _,
+      adds_both job.1 c.in_ok-script.ensures.did,
+      answered _ (EndsCheck (g.F.Files.unread c.args.files.now) c.args.request.now path (job.0 ++ (Opened path script c.in_ok-script._len ∷ []))) _
+          (empty _ _ _ w _ _ (Opens_all job.0 c.in_ok-script._len (job_by _ _ c.inputs_of-inputs.ensures job.2)) c.in_err-refuse_empty.ensures.refused)
+          c.from_residual-in_err-refuse_empty.ensures.1,
+    )
+
+pub returns-in-Ok : goal.returns-in-Ok
+returns-in-Ok g c =
+    let job = c.in_ok-texts.ensures.did in
+    let w = work c.inputs_of-inputs.result c.in_ok-texts.len (g.F.Input.ByteIn.ahead c.in_ok-script.script) (g.F.Input.ByteIn.ahead c.check_stream.new.script)
+    (g.F.Input.ByteIn.ahead c.in_ok-texts.content) (g.F.Input.ByteIn.ahead c.check_stream.new.content) in (
+      _,
+      adds_both job.1 c.in_ok-script.ensures.did,
+      Checked w _ c.in-Ok.found (Opens_all job.0 c.in_ok-script._len (job_by _ _ c.inputs_of-inputs.ensures job.2)) c.in_ok-refuse_empty.ensures.filled c.in-Ok.ensures.found,
+    )
+
+pub returns : goal.returns
+returns g c =
+    let job = c.in_ok-texts.ensures.did in
+    let w = work c.inputs_of-inputs.result c.in_ok-texts.len (g.F.Input.ByteIn.ahead c.in_ok-script.script) (g.F.Input.ByteIn.ahead c.check_stream.new.script)
+    (g.F.Input.ByteIn.ahead c.in_ok-texts.content) (g.F.Input.ByteIn.ahead c.check_stream.new.content) in (
+      _,
+      adds_both job.1 c.in_ok-script.ensures.did,
+      rw c.refusal_of.ensures (Refused w _ c.in-Err.stop (Opens_all job.0 c.in_ok-script._len (job_by _ _ c.inputs_of-inputs.ensures job.2)) c.in_ok-refuse_empty.ensures.filled
+          (wider (λ more. g.met.F.Files.failing c.args.files.now c.check_stream.new.script (omega (arith, more)))
+          (λ more. g.met.F.Files.failing c.args.files.now c.check_stream.new.content (omega (arith, more))) c.in-Err.ensures.unchecked)),
+    )

@@ -1,0 +1,23 @@
+-- The file that is named was made, or can't be.
+use Rattle.std.proofs.Common.{[], ◌∷◌}
+use Rattle.norprog_common.specs.declared.faults.FileName.TheVariants as file
+use Rattle.norprog_files.specs.Files.{Denied, Here}
+use Rattle.norprog_files.proofs.FilesLemmas.{adds_none}
+use Rattle.norprog_named.specs.Plan.{MapMade, NoneMade}
+use Rattle.norprog_named.proofs.JobLemmas.{stops_reading}
+use Rattle.norprog_named.proofs.plan_files.make_map.Goals as goal
+
+pub returns-in_err-create-in-Some-clause-did : goal.returns-in_err-create-in-Some-clause-did
+returns-in_err-create-in-Some-clause-did g c =
+    let path = c.in-Some.path.now in
+    rw c.in-Some.is (
+      Denied path ∷ [],
+      c.in_err-create-in-Some.ensures.did,
+      stops_reading _ _ _ _ _ c.from_residual.ensures.1 (Here file.Map path [] _ c.in_err-create-in-Some.ensures.refused),
+    )
+
+pub returns-in_ok-create-in-Some-clause-did : goal.returns-in_ok-create-in-Some-clause-did
+returns-in_ok-create-in-Some-clause-did g c = rw c.in-Some.is (_, c.in_ok-create-in-Some.ensures.did, MapMade _)
+
+pub returns-in-None-clause-did : goal.returns-in-None-clause-did
+returns-in-None-clause-did g c = rw c.in-None.is ([], adds_none _, NoneMade)
