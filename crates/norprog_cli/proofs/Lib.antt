@@ -1,1 +1,2 @@
 mod GatheredLemmas
+mod EndsLemmas

@@ -1,100 +1,60 @@
 -- How the program ends (this project's).
-use Rattle.std.specs.Prelude.{◌≡◌, ◌≢◌, ◌⊎◌, ◌<◌, ◌+◌, ◌-◌, ◌^◌, ℕ, min, List, [], Option, None, Result, Ok, Err, IfErr}
+use Rattle.std.specs.Prelude.{◌≡◌, ◌≢◌, ◌⊎◌, ◌<◌, ◌≤◌, ℕ, List, [], All, codes, Option, Result, Ok, Err}
 use Rattle.std.specs.Io.KnownBytes.{Keeps, append_known}
-use Rattle.nor_base.specs.Device.{Ahead}
 use Rattle.nor_job.specs.declared.fault.BuildFault.TheVariants.{Memory, Write}
-use Rattle.norprog_command.specs.Answers.{AnswersWords, Done, ProgressShown, ShowsNone, done_by}
-use Rattle.norprog_command.specs.Opened.{OpensWords}
+use Rattle.norprog_command.specs.Answers.{AnswersWords, Screen, screen}
+use Rattle.norprog_common.specs.Told.{Ends, Output, between}
 use Rattle.norprog_common.specs.declared.faults.Refusal.{Refusal}
 use Rattle.norprog_common.specs.declared.faults.Refusal.TheVariants.{Build, Usage}
-use Rattle.norprog_common.specs.FileStore.{FileFacts, Adds, nothing_known}
-use Rattle.norprog_common.specs.Told.{TellsOf}
-use Rattle.norprog_common.specs.declared.files.FileId.{FileId}
-use Rattle.norprog_files.specs.Files.{Did}
+use Rattle.norprog_files.specs.Files.{Did, Event}
 use Rattle.norprog_files.specs.Trace.{Reports, Told}
+use Rattle.norprog_files.specs.declared.disk.FileId.{FileId}
 
--- one more failure is counted; a count stops at 2^64 - 1
-abbrev pub one_more : ℕ → ℕ
-one_more failures = min (failures + 1) (2 ^ 64 - 1)
+-- of what a command printed, these last bytes haven't gone out
+pub record IsLeft (printed out : Output) (left : List ℕ) : Type 0 where
+  pub before : printed.before ≡ out.before
+  pub after : Keeps printed.after (append_known out.after left)
+  pub failures : printed.failures ≡ out.failures
+  pub failed : printed.failed ≤ out.failed
 
--- a command whose last bytes may not have gone out: if it isn't done its status is its own, else that is reported
-abbrev pub EndsUnwritten : {E : Type 0} → (E → ℕ) → (E → Option (List ℕ)) → ℕ → E → E → ℕ → Type 0
-EndsUnwritten count held own answered err_after status =
-    ((own ≢ 0) × (status ≡ own) × (err_after ≡ answered))
-    ⊎ ((own ≡ 0) × TellsOf (λ told. told ≡ Build Write) (count err_after ≡ count answered) (held answered) (held err_after) status)
+-- no word is the name of `flash`, whose plan goes out before its first step
+abbrev pub AreGathered : List (List ℕ) → Type 0
+AreGathered words = All (λ word. word ≢ codes "flash") words
 
--- the same of a command after which all that it wrote was to go out, where what is printed to had failed that often before and after,
--- and this is left of it: nothing is, and the status is the command's; or what is printed to failed after the command, which it counted
-pub record IsEnd (E : Type 0) (count : E → ℕ) (held : E → Option (List ℕ)) (files : FileFacts) (Failed : Ahead → Type 0)
-    (done : Done) (words : List (List ℕ))
-    (failures failed : ℕ) (left : List ℕ) (before after : Option (List ℕ)) (err_before err_after : E) (status : ℕ)
-    (shown : ProgressShown) : Type 0 where
-  pub written : Option (List ℕ)
-  pub answered : E
-  pub own : ℕ
-  pub counted : ℕ
-  pub answers : AnswersWords count held files Failed done (failures < counted) words before written err_before answered own shown
-  pub kept : Keeps written after
-  pub ends : ((left ≡ []) × (failed ≡ counted) × (status ≡ own) × (err_after ≡ answered))
-      ⊎ ((failed ≡ one_more counted) × EndsUnwritten count held own answered err_after status)
+-- nothing was written to it
+abbrev pub untouched : Output → Output
+untouched err = between err.before err.before err.failures err.failures
 
-abbrev pub EndsCommand : {E : Type 0} → (E → ℕ) → (E → Option (List ℕ)) → FileFacts → (Ahead → Type 0) → Done
-    → List (List ℕ) → ℕ → ℕ → List ℕ → Option (List ℕ) → Option (List ℕ) → E → E → ℕ → ProgressShown → Type 0
-EndsCommand count held files Failed done words failures failed left before after err_before err_after status shown =
-    IsEnd _ count held files Failed done words failures failed left before after err_before err_after status shown
-
--- the same of a command whose output is gathered, where what is printed to had failed that often before and after, and held this: at
--- status 0 nothing is left to go out, and else nothing more of what is left goes out
-abbrev pub EndsGathered : {E : Type 0} → (E → ℕ) → (E → Option (List ℕ)) → FileFacts → (Ahead → Type 0) → Done
-    → List (List ℕ) → ℕ → ℕ → Option (List ℕ) → Option (List ℕ) → E → E → ℕ → ProgressShown → Type 0
-EndsGathered count held files Failed done words failures failed before after err_before err_after status shown =
-    (left : List ℕ)
-    × EndsCommand count held files Failed done words failures failed left before (append_known after left) err_before err_after status shown
-    × (status ≡ 0 → left ≡ [])
-
--- the texts of words that may not be there
-abbrev pub texts_in : {S : Type 0} → (S → List (List ℕ)) → Result S Refusal → Result (List (List ℕ)) Refusal
-texts_in texts (Ok words) = Ok (texts words)
-texts_in texts (Err why) = Err why
-
--- the same of words that may not be there: then that is reported, and nothing was done or printed
-abbrev pub EndsGiven : {E : Type 0} → (E → ℕ) → (E → Option (List ℕ)) → FileFacts → (Ahead → Type 0) → Done
-    → Result (List (List ℕ)) Refusal → ℕ → ℕ → Option (List ℕ) → Option (List ℕ) → E → E → ℕ → ProgressShown → Type 0
-EndsGiven count held files Failed done (Ok words) failures failed before after err_before err_after status shown =
-    EndsGathered count held files Failed done words failures failed before after err_before err_after status shown
-EndsGiven count held files Failed done (Err why) failures failed before after err_before err_after status shown =
-    ShowsNone shown × done.made [] × done.did (λ log. log ≡ []) × (failed ≡ failures) × (after ≡ before)
-    × TellsOf (λ told. told ≡ why) (count err_after ≡ count err_before) (held err_before) (held err_after) status
+-- how the program ends that was given words
+pub data EndsWords (Unread : Type 0) (words : List (List ℕ)) (s : Screen) : ℕ → List Event → Type 0 where
+  -- all that the command printed has gone out
+  AllOut : (printed : Output) (status : ℕ) (log : List Event) → IsLeft printed s.out [] → AnswersWords Unread words (screen printed s.err) status log
+      → EndsWords Unread words s status log
+  -- standard output failed after a command that isn't done; its status is the program's
+  Lost : (printed : Output) (left : List ℕ) (status : ℕ) (log : List Event) → AreGathered words → IsLeft printed s.out left → 0 < s.out.failed → status ≢ 0
+      → AnswersWords Unread words (screen printed s.err) status log → EndsWords Unread words s status log
+  -- it failed after one that is done: that is told
+  Unprinted : (printed : Output) (left : List ℕ) (status : ℕ) (log : List Event) → AreGathered words → IsLeft printed s.out left → 0 < s.out.failed
+      → AnswersWords Unread words (screen printed (untouched s.err)) 0 log → Ends s.err status (Err (Build Write)) → EndsWords Unread words s status log
 
 -- why the program has no words: one is no text, or memory ran out
 abbrev pub IsWordless : Refusal → Type 0
 IsWordless why = (why ≡ Usage) ⊎ (why ≡ Build Memory)
 
--- the program ends as words that it has say, or can't have them, whatever the system's files and streams give and take; what was done with
--- files is what some calls of the system come to, and these files were opened before it began and by its end
-pub record IsProgramEnd (E F : Type 0) (count : E → ℕ) (held : E → Option (List ℕ)) (files : Reports F) (Failed : Ahead → Type 0)
-    (err_before err_after : E) (status : ℕ) : Type 0 where
+-- how it ends with words, or without, which is told
+abbrev pub EndsGiven : Type 0 → Result (List (List ℕ)) Refusal → Screen → ℕ → List Event → Type 0
+EndsGiven Unread (Ok words) s status log = EndsWords Unread words s status log
+EndsGiven Unread (Err why) s status log = (log ≡ []) × (s.out.after ≡ s.out.before) × Ends s.err status (Err why)
+
+-- the program ended so, whatever the system's files and standard output give and take: what was done with files is what some calls of the
+-- system come to
+pub record EndsProgram {F : Type 0} (files : Reports F) (words : Result (List (List ℕ)) Refusal) (err : Output) (status : ℕ) : Type 0 where
   pub begun : List FileId
   pub opened : List FileId
-  pub words : Result (List (List ℕ)) Refusal
-  pub wordless : IfErr words IsWordless
-  pub failures : ℕ
-  pub failed : ℕ
-  pub before : Option (List ℕ)
-  pub after : Option (List ℕ)
-  pub shown : ProgressShown
-  pub ends : EndsGiven count held nothing_known Failed (done_by (Adds None None) (Did (Told files (λ calls. Unit {0}) begun) (Told files (λ calls. Unit {0}) opened)) (Unit {0}))
-      words failures failed before after err_before err_after status shown
+  pub out : Output
+  pub ends : Did (Told files (λ calls. Unit {0}) begun) (Told files (λ calls. Unit {0}) opened) (EndsGiven (Unit {0}) words (screen out err) status)
 
-abbrev pub EndsProgram : {E F : Type 0} → (E → ℕ) → (E → Option (List ℕ)) → Reports F → (Ahead → Type 0) → E → E → ℕ → Type 0
-EndsProgram count held files Failed err_before err_after status = IsProgramEnd _ _ count held files Failed err_before err_after status
-
--- which files the words' command opened and made (`OpensWords`), where all that it printed was to go out then: the program's status is
--- 0 only where the command's own is
-abbrev pub OpensEnd : Option (List (List ℕ)) → Option (List (List ℕ)) → List (List ℕ) → ℕ → Type 0
-OpensEnd before after words status = (own : ℕ) × (status ≡ 0 → own ≡ 0) × OpensWords before after words own
-
--- the same of words that may not be there: then it opened and made none
-abbrev pub OpensGiven : Option (List (List ℕ)) → Option (List (List ℕ)) → Result (List (List ℕ)) Refusal → ℕ → Type 0
-OpensGiven before after (Ok words) status = OpensEnd before after words status
-OpensGiven before after (Err why) status = Adds before after []
+-- the texts of words that may not be there
+abbrev pub texts_in : {S : Type 0} → (S → List (List ℕ)) → Result S Refusal → Result (List (List ℕ)) Refusal
+texts_in texts (Ok words) = Ok (texts words)
+texts_in texts (Err why) = Err why

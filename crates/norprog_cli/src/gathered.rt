@@ -32,13 +32,6 @@ impl<W: ByteOut + Drop> Gathered<W> {
         }
     }
 
-    /// The device, as the calls so far left it: what has yet to go out never does.
-    pub fn into_inner(self) -> W
-        ensures { result ≡ self.out }
-    {
-        self.out
-    }
-
     /// Has all go out. At `Failed`, which comes only from the device, what it didn't take is left.
     pub fn send(&mut self) -> Result<(), Failed>
         requires { W.count self.old.out < 2 ^ 64 - 1 }

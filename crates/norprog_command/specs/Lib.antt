@@ -1,3 +1,1 @@
 pub mod Answers
-pub mod Opened
-pub mod Reads

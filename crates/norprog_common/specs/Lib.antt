@@ -1,13 +1,11 @@
 pub mod Values
 pub mod Chip
 pub mod Lines
-pub mod Files
-pub mod FileStore
 pub mod Setup
 pub mod Content
 pub mod Told
 pub mod Wrongs
 pub mod Request
-pub mod Served
+pub mod Held
 pub mod Strict
 pub mod Reading

@@ -5,7 +5,6 @@ use Rattle.nor_job.specs.declared.fault.BuildFault.TheVariants as fault
 use Rattle.nor_job.specs.Chip.{HasChip, RefusesChip}
 use Rattle.nor_job.specs.Task.{Task, contradiction}
 use Rattle.norprog_common.specs.Chip.{Origin, origin_of, chosen_origin, task_chip}
-use Rattle.norprog_common.specs.FileStore.{FileFacts, AreTables}
 use Rattle.norprog_common.specs.Values.{part_of, said_status}
 use Rattle.norprog_common.specs.declared.faults.Refusal.{Refusal}
 use Rattle.norprog_common.specs.declared.faults.Refusal.TheVariants.{Build}
@@ -50,18 +49,6 @@ setup_task setup tables = record {
   verify = false;
   erased_only = setup.erased_only;
 }
-
--- the task of a chip, with the tables that the file of its name gave
-pub record IsSetupTask (files : FileFacts) (setup : Setup) (t : Task) : Type 0 where
-  pub tables : List ℕ
-  pub gave : AreTables files (origin_of setup.chip) tables
-  pub task : t ≡ setup_task setup tables
-
--- so it is of the chip that the texts ask for, each value by the one that its text spells
-pub record ServesSetup (files : FileFacts) (given : SetupArgs) (t : Task) : Type 0 where
-  pub setup : Setup
-  pub asks : AsksSetup given setup
-  pub task : IsSetupTask files setup t
 
 -- the inputs don't contradict one another, and give the chip these parameters
 pub record IsKnown (t : Task) (m : Parameters) : Type 0 where

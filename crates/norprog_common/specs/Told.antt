@@ -1,69 +1,47 @@
--- What a command line's answer is: what it asks for was done, or a refusal is told (this project's).
-use Rattle.std.specs.Prelude.{◌≡◌, ◌⊎◌, ⊤, ℕ, Bool, true, false, Option, List, [], ◌∷◌}
+-- What a command writes to, and what is told there of its end (this project's).
+use Rattle.std.specs.Prelude.{◌≡◌, ◌<◌, ◌++◌, ℕ, List, Option, Result, Ok, Err}
 use Rattle.std.specs.Io.KnownBytes.{Appends}
-use Rattle.nor_job.specs.declared.fault.BuildFault.{BuildFault}
-use Rattle.nor_job.specs.declared.fault.BuildFault.TheVariants.{Memory, Write}
-use Rattle.norprog_common.specs.declared.faults.FileName.{FileName}
-use Rattle.norprog_common.specs.declared.faults.FileName.TheVariants.{Script}
+use Rattle.nor_base.specs.Device.{Cuts}
+use Rattle.nor_job.specs.declared.fault.BuildFault.TheVariants.{Write}
 use Rattle.norprog_common.specs.declared.faults.Refusal.{Refusal}
-use Rattle.norprog_common.specs.declared.faults.Refusal.TheVariants.{Usage, File, Build}
+use Rattle.norprog_common.specs.declared.faults.Refusal.TheVariants.{Build}
 use Rattle.norprog_common.specs.Lines.{printed, status_after}
 
--- something that is asked for has this
-pub record ForAsked (A : Type 0) (Asked Has : A → Type 0) : Type 0 where
-  pub it : A
-  pub asked : Asked it
-  pub has : Has it
+-- what is written to: what it held before and holds after, where it says so, and how often it had failed before and after
+pub record Output : Type 0 where
+  pub before : Option (List ℕ)
+  pub after : Option (List ℕ)
+  pub failures : ℕ
+  pub failed : ℕ
 
--- a refusal that tells such a fault
-abbrev pub OfFault : (BuildFault → Type 0) → Refusal → Type 0
-OfFault Fault (Build why) = Fault why
-OfFault Fault other = ⊥
+abbrev pub between : Option (List ℕ) → Option (List ℕ) → ℕ → ℕ → Output
+between before after failures failed = record { before = before; after = after; failures = failures; failed = failed }
 
--- why work isn't done: a file that is told so couldn't be used, or a growth was refused; an output failed, in the work or after it
--- was done; else the fault of the work
-abbrev pub RefusesFor : (FileName → Type 0) → Type 0 → (Refusal → Type 0) → Type 0 → Refusal → Type 0
-RefusesFor Lacked Broke Fault Done (File name) = Lacked name ⊎ Fault (File name)
-RefusesFor Lacked Broke Fault Done (Build Memory) = ⊤
-RefusesFor Lacked Broke Fault Done (Build Write) = (Fault (Build Write) ⊎ Done) × Broke
-RefusesFor Lacked Broke Fault Done why = Fault why
+-- a writer from this state to that one
+abbrev pub output : {W : Type 0} → (W → Option (List ℕ)) → (W → ℕ) → W → W → Output
+output held count old new = between (held old) (held new) (count old) (count new)
 
--- this is so at out of memory
-abbrev pub AtMemory : Type 0 → Refusal → Type 0
-AtMemory Holds why = why ≡ Build Memory → Holds
+-- it failed meanwhile; it didn't
+abbrev pub Fails : Output → Type 0
+Fails out = out.failures < out.failed
 
--- that an output can't be written is told only where one failed
-abbrev pub TellsBroken : Type 0 → Refusal → Type 0
-TellsBroken Broke (Build Write) = Broke
-TellsBroken Broke other = ⊤
+abbrev pub Works : Output → Type 0
+Works out = out.failed ≡ out.failures
 
--- a script's file may also be told where a reading of it failed
-abbrev pub OrScript : (FileName → Type 0) → Type 0 → FileName → Type 0
-OrScript Lacked Failed name = Lacked name ⊎ ((name ≡ Script) × Failed)
+-- nothing was written to it
+abbrev pub IsQuiet : Output → Type 0
+IsQuiet out = (out.after ≡ out.before) × Works out
 
--- these bytes are some of a text's, in their order
-unfoldable pub ArePartOf : List ℕ → List ℕ → Type 0
-ArePartOf part [] = part ≡ []
-ArePartOf part (byte ∷ text) = ArePartOf part text ⊎ ((rest : List ℕ) × (part ≡ byte ∷ rest) × ArePartOf rest text)
+-- a text was written to it, unless it failed
+abbrev pub Tells : Output → List ℕ → Type 0
+Tells err text = Works err → Appends err.before err.after text
 
--- a text was written where the writer works; else some of its bytes were, in their order
-pub record Tells (Works : Type 0) (before after : Option (List ℕ)) (text : List ℕ) : Type 0 where
-  pub whole : Works → Appends before after text
-  pub part : List ℕ
-  pub some : ArePartOf part text
-  pub out : Appends before after part
+-- the status of a command that is done, of which nothing is told; or that of its refusal, which is told
+abbrev pub Ends : Output → ℕ → Result ℕ Refusal → Type 0
+Ends err status (Ok own) = (status ≡ own) × IsQuiet err
+Ends err status (Err why) = (status ≡ status_after why) × Tells err (printed why)
 
--- such a refusal ends with this status, and its text was written, or some of its bytes where the writer failed
-abbrev pub TellsOf : (Refusal → Type 0) → Type 0 → Option (List ℕ) → Option (List ℕ) → ℕ → Type 0
-TellsOf Why Works before after status =
-    (why : Refusal) × Why why × (status ≡ status_after why) × Tells Works before after (printed why)
-
--- usage where texts ask for nothing, else a refusal of the work that they ask for
-abbrev pub OrUsage : Bool → (Refusal → Type 0) → Refusal → Type 0
-OrUsage true Work why = Work why
-OrUsage false Work why = why ≡ Usage
-
--- what texts ask for was done; or no more than a part was printed, and such a refusal is told, or usage where they ask for nothing
-abbrev pub Answers : Bool → Type 0 → Type 0 → (Refusal → Type 0) → Type 0 → Option (List ℕ) → Option (List ℕ) → ℕ → Type 0
-Answers asks Done Cut Work Works before after status =
-    ((asks ≡ true) × Done) ⊎ (Cut × TellsOf (OrUsage asks Work) Works before after status)
+-- after a text was told lines are printed, whose status it is; or a proper prefix of them, since standard output failed, and that is told
+pub data Says (told lines : List ℕ) (own : ℕ) (out err : Output) (status : ℕ) : Type 0 where
+  All_said : status ≡ own → Appends out.before out.after lines → Tells err told → Says told lines own out err status
+  Cut_off : status ≡ 1 → Cuts out.before out.after lines → Fails out → Tells err (told ++ printed (Build Write)) → Says told lines own out err status

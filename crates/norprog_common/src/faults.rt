@@ -5,8 +5,8 @@ ghost use Rattle.nor_base.specs.Device.{Writes, Counts};
 ghost use Rattle.norprog_common.specs.Lines.{spelled, hex_text, layout_text, sfdp_text, plan_text};
 ghost use Rattle.norprog_common.specs.Lines.{script_text, fault_text, file_text, script_refusal};
 ghost use Rattle.norprog_common.specs.Lines.{program_line, printed, status_after};
-ghost use Rattle.norprog_common.specs.Told.{Tells};
-ghost use Rattle.nor_job.specs.declared.fault.BuildFault.TheVariants.{Memory};
+ghost use Rattle.norprog_common.specs.Told.{Tells, output};
+ghost use Rattle.nor_job.specs.declared.fault.BuildFault.TheVariants.{Memory, Write};
 ghost use Rattle.norprog_common.specs.declared.faults.Refusal.TheVariants.{Build};
 
 use itoa::Buffer;
@@ -113,8 +113,7 @@ impl From<ScriptFault> for Refusal {
 pub fn refuse<E: ByteOut>(refusal: &Refusal, err: &mut E) -> u8
     requires { E.count err.old < 2 ^ 64 - 1 }
     ensures status { result ≡ status_after refusal.now }
-    ensures told { Tells (E.count err.new ≡ E.count err.old) (E.held err.old) (E.held err.new)
-        (printed refusal.now) }
+    ensures told { Tells (output E.held E.count err.old err.new) (printed refusal.now) }
 {
     let _ = write_refusal(refusal, err);
     exit_status(refusal)
@@ -126,12 +125,26 @@ pub fn answered<E: ByteOut>(work: Result<u8, Refusal>, err: &mut E) -> u8
     requires { E.count err.old < 2 ^ 64 - 1 }
     ensures done { IfOk work (λ status. (result ≡ status) × (err.new ≡ err.old)) }
     ensures told { IfErr work (λ why. (result ≡ status_after why)
-        × Tells (E.count err.new ≡ E.count err.old) (E.held err.old) (E.held err.new)
-        (printed why)) }
+        × Tells (output E.held E.count err.old err.new) (printed why)) }
 {
     match work {
         Ok(status) => status,
         Err(refusal) => refuse(&refusal, err),
+    }
+}
+
+/// Tells that lines couldn't be printed, where what was told before them went out. Returns the
+/// status, 1.
+pub fn refuse_lines<E: ByteOut>(told: Result<(), Failed>, err: &mut E) -> u8
+    requires { IfOk told (λ _. E.count err.old < 2 ^ 64 - 1) }
+    ensures status { result ≡ 1 }
+    ensures told { IfOk told
+        (λ _. Tells (output E.held E.count err.old err.new) (printed (Build Write))) }
+    ensures lost { IfErr told (λ _. err.new ≡ err.old) }
+{
+    match told {
+        Ok(()) => refuse(&Refusal::WRITE, err),
+        Err(_) => 1,
     }
 }
 

@@ -6,35 +6,26 @@
 mod chip;
 mod content;
 mod faults;
-mod files;
 mod given;
 mod inputs;
 mod looked;
-mod opened;
 mod request;
 mod setup;
-mod store;
 mod strict;
-mod system_files;
-mod terminal;
 mod values;
 mod wrongs;
 
 pub use chip::{Chip, chip_of, optional_status, source_of};
 pub use content::read_content;
-pub use faults::{FileName, Refusal, answered, refuse};
-pub use files::{FileId, ScriptFile};
+pub use faults::{FileName, Refusal, answered, refuse, refuse_lines};
 pub use given::{
     BuildArgs, CheckArgs, ChipArgs, DrawArgs, FlashArgs, Given, HexArgs, ListArgs, PlanArgs,
     PlayArgs, ReadArgs, RunArgs, ScriptArgs, SetupArgs,
 };
 pub use inputs::{Texts, inputs_of};
 pub use looked::look_through;
-pub use opened::open_job;
 pub use request::{Request, request_of};
 pub use setup::{Setup, known_chip, setup_inputs, setup_of};
-pub use store::{FileStore, Journal, Ledger, noted_tables, tables_of};
 pub use strict::refuse_empty;
-pub use system_files::{SystemFiles, Unlisted, Unrecorded};
 pub use values::{base, decimal, limit, part, status};
 pub use wrongs::wrong_number;

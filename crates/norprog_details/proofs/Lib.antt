@@ -1,3 +1,1 @@
-pub mod HeardLemmas
-pub mod ListLemmas
-pub mod MayLemmas
+mod LookLemmas

@@ -1,8 +1,5 @@
 //! The forms of the options' values.
 
-ghost use Rattle.std.specs.Prelude.{◌≡◌};
-ghost use Rattle.norprog_details.specs.Form.{form_of, fits, form_words, are_numbers};
-
 use norprog_common::{base, decimal, limit, part, status};
 
 /// The form of a value.
@@ -37,9 +34,7 @@ const STATUS: &str = "six hexadecimal digits, without 0x";
 const PART: &str = "generic or w25q256jv";
 
 /// The form of the value of an option by its name.
-pub(crate) fn form_of(name: &str) -> Form
-    ensures { result ≡ form_of name.now }
-{
+pub(crate) fn form_of(name: &str) -> Form {
     match name {
         "uniform" | "page" | "from" | "steps" | "each-busy" => Form::Number,
         "limit" => Form::Limit,
@@ -52,9 +47,7 @@ pub(crate) fn form_of(name: &str) -> Form
 }
 
 /// Whether a value is of a form.
-pub(crate) fn fits(form: Form, value: &str) -> bool
-    ensures { result ≡ fits form value.now }
-{
+pub(crate) fn fits(form: Form, value: &str) -> bool {
     match form {
         Form::Any => true,
         Form::Number => decimal(value).is_some(),
@@ -67,9 +60,7 @@ pub(crate) fn fits(form: Form, value: &str) -> bool
 }
 
 /// Whether each part between commas is a number of 32 bits in decimal.
-fn are_numbers(value: &str) -> bool
-    ensures { result ≡ are_numbers value.now }
-{
+fn are_numbers(value: &str) -> bool {
     let mut all = true;
     for part in value.split(',') {
         all = all && decimal(part).is_some();
@@ -78,9 +69,7 @@ fn are_numbers(value: &str) -> bool
 }
 
 /// A form in words.
-pub(crate) fn form_words(form: Form) -> &'static str
-    ensures { result.now ≡ form_words form }
-{
+pub(crate) fn form_words(form: Form) -> &'static str {
     match form {
         Form::Any => "any text",
         Form::Number => NUMBER,

@@ -1,7 +1,6 @@
 //! A writer that keeps the last line that went through it.
 
-ghost use Rattle.std.specs.Prelude.{◌≡◌, [], true, Some};
-ghost use Rattle.norprog_details.specs.Heard.{heard_one, heard_text, IsLastLine};
+ghost use Rattle.std.specs.Prelude.{◌≡◌};
 
 use arrayvec::ArrayVec;
 use nor_base::{ByteOut, Failed};
@@ -20,10 +19,7 @@ struct Line {
 
 impl Line {
     /// Takes the next byte of a text: after an LF it begins another line.
-    fn take(&mut self, byte: u8)
-        ensures { (self.new.bytes.items, self.new.closed)
-            ≡ heard_one (self.old.bytes.items, self.old.closed) byte }
-    {
+    fn take(&mut self, byte: u8) {
         if self.closed {
             self.bytes.clear();
         }
@@ -34,8 +30,7 @@ impl Line {
     }
 }
 
-/// A writer, and the last line that was written. What it holds is known where its writer's bytes
-/// are, and the line is their last one: so from an empty one on.
+/// A writer, and the last line that was written.
 #[derive(Drop)]
 pub struct Heard<E: Drop> {
     /// The writer.
@@ -46,11 +41,7 @@ pub struct Heard<E: Drop> {
 impl<E: ByteOut + Drop> Heard<E> {
     /// A writer through which nothing went yet.
     pub fn new(out: E) -> Heard<E>
-        ensures out { result.out ≡ out }
-        ensures line { (result.line.bytes.items ≡ []) × (result.line.closed ≡ true) }
-        ensures held { E.held out ≡ Some []
-            → heard_text (E.held result.out) (result.line.bytes.items, result.line.closed)
-            ≡ Some [] }
+        ensures { result.out ≡ out }
     {
         let line = Line {
             bytes: ArrayVec::new(),
@@ -61,12 +52,7 @@ impl<E: ByteOut + Drop> Heard<E> {
 
     /// A copy of the last line that was written, without its LF; of a longer one its first 128
     /// bytes.
-    pub fn last_line(&self) -> ArrayVec<u8, ROOM>
-        ensures kept { result.items ≡ self.now.line.bytes.items }
-        ensures last { IsLastLine
-            (heard_text (E.held self.now.out) (self.now.line.bytes.items, self.now.line.closed))
-            result.items }
-    {
+    pub fn last_line(&self) -> ArrayVec<u8, ROOM> {
         let mut line = ArrayVec::new();
         let _ = line.try_extend_from_slice(self.line.bytes.as_slice());
         line
@@ -74,7 +60,7 @@ impl<E: ByteOut + Drop> Heard<E> {
 }
 
 impl<E: ByteOut + Drop> ByteOut for Heard<E> {
-    ghost held = { λ s. heard_text (E.held s.out) (s.line.bytes.items, s.line.closed) };
+    ghost held = { λ s. E.held s.out };
 
     ghost count = { λ s. E.count s.out };
 

@@ -12,6 +12,7 @@ mod heard;
 mod passage;
 mod seems;
 mod subject;
+mod text;
 mod typed;
 mod usage;
 

@@ -1,8 +1,5 @@
 //! What stands on a command line.
 
-ghost use Rattle.std.specs.Prelude.{◌≡◌, option_map};
-ghost use Rattle.norprog_details.specs.Typed.{is_typed, value_of};
-
 /// An option with its value.
 #[derive(Clone, Copy)]
 pub struct Typed<'a> {
@@ -24,20 +21,12 @@ pub struct CommandLine<'a> {
 }
 
 /// Whether an option of this name is given.
-pub(crate) fn is_typed(typed: &[Typed<'_>], name: &str) -> bool
-    ensures { result ≡ is_typed typed.now name.now }
-{
-    let mut any = false;
-    for option in typed {
-        any = any || option.name == name;
-    }
-    any
+pub(crate) fn is_typed(typed: &[Typed<'_>], name: &str) -> bool {
+    typed.iter().any(|option| option.name == name)
 }
 
 /// The value of the first option of this name.
-pub(crate) fn value_of<'a>(typed: &[Typed<'a>], name: &str) -> Option<&'a str>
-    ensures { option_map (λ value. value.now) result ≡ value_of typed.now name.now }
-{
+pub(crate) fn value_of<'a>(typed: &[Typed<'a>], name: &str) -> Option<&'a str> {
     for option in typed {
         if option.name == name {
             return Some(option.value);

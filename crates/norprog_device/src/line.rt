@@ -2,7 +2,7 @@
 
 ghost use Rattle.std.specs.Prelude.{◌≡◌, ◌<◌, ◌-◌, ◌^◌};
 ghost use Rattle.nor_base.specs.Device.{Counts, Writes};
-ghost use Rattle.norprog_common.specs.Told.{Tells};
+ghost use Rattle.norprog_common.specs.Told.{Tells, output};
 ghost use Rattle.norprog_device.specs.Line.{device_line, device_word, fault_word};
 
 use crate::fault::DeviceFault;
@@ -14,8 +14,7 @@ use nor_serprog::{Fault, GreetFault};
 pub fn refuse_device<E: ByteOut>(fault: DeviceFault, err: &mut E) -> u8
     requires { E.count err.old < 2 ^ 64 - 1 }
     ensures status { result ≡ 1 }
-    ensures told { Tells (E.count err.new ≡ E.count err.old) (E.held err.old) (E.held err.new)
-        (device_line fault) }
+    ensures told { Tells (output E.held E.count err.old err.new) (device_line fault) }
 {
     let _ = write_device(fault, err);
     1

@@ -1,6 +1,6 @@
 //! The pins of the chip behind a device.
 
-ghost use Rattle.std.specs.Prelude.{◌<◌, ◌≤◌, ◌+◌, ◌-◌, ◌^◌};
+ghost use Rattle.std.specs.Prelude.{◌≤◌, ◌+◌, ◌-◌, ◌^◌};
 ghost use Rattle.nor_base.specs.Device.{HaveRoom};
 ghost use Rattle.norprog_device.specs.Opened.{LetsGo};
 
@@ -12,8 +12,8 @@ use nor_serprog::release;
 #[tactic(auto, using(crate::proofs::Room::reads_rise, crate::proofs::Room::writes_rise))]
 pub fn let_go<R: ByteIn, W: ByteOut>(from: &mut R, to: &mut W, pins: bool)
     requires room { HaveRoom (R.count from.old) (W.count to.old) }
-    ensures goes { LetsGo (W.count to.old < W.count to.new) (W.held to.old) (W.held to.new)
-        (R.ahead from.old) (R.ahead from.new) pins }
+    ensures goes { LetsGo (W.held to.old) (W.held to.new) (R.ahead from.old) (R.ahead from.new)
+        pins }
     ensures reads { (R.count from.old ≤ R.count from.new)
         × (R.count from.new ≤ R.count from.old + 1) }
     ensures writes { (W.count to.old ≤ W.count to.new)

@@ -1,5 +1,5 @@
 -- What is told of a text that the program prints (this project's).
-use Rattle.std.specs.Prelude.{◌≡◌, ◌⊎◌, ℕ, Bool, nat_eq, if◌then◌else◌, List, [], ◌∷◌, ◌++◌, flat_map, map, bytes_eq, codes, Option, Some, None, option_map, unwrap_or}
+use Rattle.std.specs.Prelude.{◌≡◌, ℕ, Bool, nat_eq, if◌then◌else◌, List, [], ◌∷◌, ◌++◌, flat_map, map, bytes_eq, codes, Option, Some, None, option_map, unwrap_or, Result, Ok, Err}
 use Rattle.std.specs.Borrow.{Bor}
 use Rattle.std.specs.Io.KnownBytes.{Appends}
 use Rattle.std.specs.List.{find, starts_with}
@@ -8,7 +8,7 @@ use Rattle.nor_base.specs.Script.{closed}
 use Rattle.nor_job.specs.declared.fault.BuildFault.TheVariants.{Write}
 use Rattle.norprog_common.specs.declared.faults.Refusal.{Refusal}
 use Rattle.norprog_common.specs.declared.faults.Refusal.TheVariants.{Usage, Build}
-use Rattle.norprog_common.specs.Told.{TellsOf}
+use Rattle.norprog_common.specs.Told.{Fails, Output}
 
 -- the words that a text begins with, and what is told of it
 abbrev pub Topic : Type 0
@@ -69,8 +69,7 @@ abbrev pub RefusesText : Type 0 → Option (List ℕ) → Refusal → Type 0
 RefusesText Broke (Some text) why = (why ≡ Build Write) × Broke
 RefusesText Broke None why = why ≡ Usage
 
--- what `explain` answers to a command line, where `Broke` says that an output failed: the text at status 0, or a refusal
-abbrev pub AnswersExplain : Option (List ℕ) → Type 0 → Option (List ℕ) → Option (List ℕ) → Type 0 → Type 0 → Option (List ℕ) → Option (List ℕ) → ℕ → Type 0
-AnswersExplain text Broke before after Quiet Works told_before told_after status =
-    ((status ≡ 0) × Tells text before after × Quiet)
-    ⊎ (CutsText text before after × TellsOf (RefusesText Broke text) Works told_before told_after status)
+-- how `explain` ends: the text was printed; or some of it, where what is printed to failed, or none where there is none
+abbrev pub EndsExplain : Option (List ℕ) → Output → Result ℕ Refusal → Type 0
+EndsExplain text out (Ok status) = (status ≡ 0) × Tells text out.before out.after
+EndsExplain text out (Err why) = CutsText text out.before out.after × RefusesText (Fails out) text why

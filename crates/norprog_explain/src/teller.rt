@@ -1,16 +1,17 @@
 //! `explain`: from the words of a command line to what is reported of them.
 
-ghost use Rattle.std.specs.Prelude.{◌≡◌, ◌<◌, ◌≤◌, ◌-◌, ◌^◌, flat_map, IfOk, IfErr};
+ghost use Rattle.std.specs.Prelude.{◌≡◌, ◌<◌, ◌-◌, ◌^◌, flat_map, IfOk, IfErr};
 ghost use Rattle.nor_base.specs.Device.{Writes, Counts};
 ghost use Rattle.norprog_explain.specs.Explained.{answered, explained, nameless, listed, told};
 ghost use Rattle.norprog_explain.specs.Explained.{in_order, topic_text, Tells, CutsText};
-ghost use Rattle.norprog_explain.specs.Explained.{RefusesText, AnswersExplain};
+ghost use Rattle.norprog_explain.specs.Explained.{EndsExplain, RefusesText};
 ghost use Rattle.norprog_explain.specs.Topics.{topics};
+ghost use Rattle.norprog_common.specs.Told.{output};
 
 use crate::matching::{Text, topic_of};
 use crate::topics::{Topic, subjects};
 use nor_base::{ByteOut, Bytes, Failed, put_all, put_parts};
-use norprog_common::{Refusal, refuse};
+use norprog_common::Refusal;
 
 /// What the line of a refusal begins with.
 const NAME: &[u8] = b"norprog:";
@@ -19,19 +20,15 @@ const NAME: &[u8] = b"norprog:";
 /// first topic whose words it begins with; without words those of all topics, one a line. A first
 /// `norprog:` is passed over.
 ///
-/// Returns the status: 0 done, 1 a write failed, 2 usage: there is no such topic.
-pub fn explain<O: ByteOut, E: ByteOut>(words: &[Bytes], out: &mut O, err: &mut E) -> u8
-    requires out { O.count out.old < 2 ^ 64 - 1 }
-    requires err { E.count err.old < 2 ^ 64 - 1 }
-    ensures status { result ≤ 2 }
-    ensures quiet { result ≡ 0 → err.new ≡ err.old }
-    ensures answer { AnswersExplain (explained topics words.now) (O.count out.old < O.count out.new)
-        (O.held out.old) (O.held out.new) (err.new ≡ err.old)
-        (E.count err.new ≡ E.count err.old) (E.held err.old) (E.held err.new) result }
+/// Returns the status, 0. `WRITE` where `out` fails, `Usage` where there is no such topic.
+pub fn explain<O: ByteOut>(words: &[Bytes], out: &mut O) -> Result<u8, Refusal>
+    requires { O.count out.old < 2 ^ 64 - 1 }
+    ensures { EndsExplain (explained topics words.now) (output O.held O.count out.old out.new)
+        result }
 {
     match tell(&subjects(), nameless(words), out) {
-        Ok(()) => 0,
-        Err(refusal) => refuse(&refusal, err),
+        Ok(()) => Ok(0),
+        Err(refusal) => Err(refusal),
     }
 }
 

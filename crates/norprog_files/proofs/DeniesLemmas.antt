@@ -4,7 +4,7 @@ use Rattle.std.specs.declared.io.Error.{Error}
 use Rattle.norprog_common.specs.declared.faults.FileName.{FileName}
 use Rattle.norprog_common.specs.declared.faults.FileName.TheVariants.{Device}
 use Rattle.norprog_common.specs.declared.faults.Refusal.{Refusal}
-use Rattle.norprog_common.specs.declared.files.FileId.{FileId}
+use Rattle.norprog_files.specs.declared.disk.FileId.{FileId}
 use Rattle.norprog_files.specs.declared.disk.How.{How}
 use Rattle.norprog_files.specs.declared.disk.Stat.{Stat}
 use Rattle.norprog_files.specs.Disk.{Call}

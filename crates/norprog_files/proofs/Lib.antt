@@ -3,3 +3,4 @@ mod DeniesLemmas
 mod GuardsLemmas
 mod TerminalLemmas
 mod TraceLemmas
+mod QuestionLemmas

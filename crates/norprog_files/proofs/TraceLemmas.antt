@@ -11,7 +11,7 @@ use Rattle.nor_job.specs.declared.fault.BuildFault.TheVariants as fault
 use Rattle.norprog_common.specs.declared.faults.FileName.{FileName}
 use Rattle.norprog_common.specs.declared.faults.Refusal.{Refusal}
 use Rattle.norprog_common.specs.declared.faults.Refusal.TheVariants.{Build}
-use Rattle.norprog_common.specs.declared.files.FileId.{FileId}
+use Rattle.norprog_files.specs.declared.disk.FileId.{FileId}
 use Rattle.norprog_files.specs.Disk.{Call}
 use Rattle.norprog_files.specs.Files.{Adds, Denies, Event, Unallotted, came, closing}
 use Rattle.norprog_files.specs.Guards.{EndsOutput, GoesOut}

@@ -17,13 +17,14 @@ wire held given = record { sent = held; ahead = given }
 
 -- one thing that is done with the file of a name. `Opened`: it was opened to be read, this is ahead of its reader, and it has so many bytes.
 -- `Given`: it was read from its first byte to its last, and these are all. `Denied`: it couldn't be opened, read or made, or memory ran
--- out. `Made`: it was made, or emptied; it is none of the files that were opened before, nor that of standard output. `New`: it was made,
+-- out. `Asked`: the system was asked about it; it may have been opened meanwhile, but was neither made, emptied nor written to. `Made`: it was made, or emptied; it is none of the files that were opened before, nor that of standard output. `New`: it was made,
 -- and none of its name was there. `Sent`: it was closed, and all that it took has gone out. `Lost`: it was closed, and some may not have.
 -- `Wired`: a terminal was opened to be read and written. `Unwired`: it was closed. What a file or a line has then stands beside it
 pub data Event : Type 0 where
   Opened : List ℕ → Ahead → ℕ → Event
   Given : List ℕ → List ℕ → Event
   Denied : List ℕ → Event
+  Asked : List ℕ → Event
   Made : List ℕ → Option (List ℕ) → Event
   New : List ℕ → Option (List ℕ) → Event
   Sent : List ℕ → Option (List ℕ) → Event

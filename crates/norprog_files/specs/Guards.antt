@@ -11,7 +11,7 @@ use Rattle.norprog_common.specs.declared.faults.FileName.{FileName}
 use Rattle.norprog_common.specs.declared.faults.FileName.TheVariants as name
 use Rattle.norprog_common.specs.declared.faults.Refusal.{Refusal}
 use Rattle.norprog_common.specs.declared.faults.Refusal.TheVariants.{File, Build}
-use Rattle.norprog_common.specs.declared.files.FileId.{FileId}
+use Rattle.norprog_files.specs.declared.disk.FileId.{FileId}
 use Rattle.norprog_files.specs.declared.disk.How.{How}
 use Rattle.norprog_files.specs.declared.disk.How.TheVariants.{Read, Empty, Write}
 use Rattle.norprog_files.specs.declared.disk.Kind.{Kind}
@@ -127,3 +127,14 @@ pub data EndsDevice {F A : Type 0} (remaining : F → Option (List ℕ)) (path :
   Unwritable : (place : FileId) (from : F) (found reading writing : List (Call F)) (why : Refusal) → FindsTerminal remaining path found (Ok place)
       → OpensSame path Read place reading (Ok from) → OpensSame path Write place writing (Err why)
       → EndsDevice remaining path (found ++ (reading ++ writing)) (Err why)
+
+-- a call by which nothing is made, emptied or written: a question, or an opening to read, or to write what is there
+pub data IsQuestion {F : Type 0} : Call F → Type 0 where
+  OfName : (path : List ℕ) (found : Result Stat Error) → IsQuestion (Asks path found)
+  OfFile : (file : F) (found : Result Stat Error) → IsQuestion (Looks file found)
+  ToRead : (path : List ℕ) (result : Result F Error) → IsQuestion (Opens path Read result)
+  ToWrite : (path : List ℕ) (result : Result F Error) → IsQuestion (Opens path Write result)
+
+pub data AreQuestions {F : Type 0} : List (Call F) → Type 0 where
+  NoQuestion : AreQuestions []
+  OneQuestion : (call : Call F) (log : List (Call F)) → IsQuestion call → AreQuestions log → AreQuestions (call ∷ log)

@@ -9,11 +9,11 @@ use Rattle.std.specs.declared.io.Error.{Error}
 use Rattle.nor_base.specs.Device.{ahead_of}
 use Rattle.norprog_common.specs.declared.faults.FileName.{FileName}
 use Rattle.norprog_common.specs.declared.faults.Refusal.{Refusal}
-use Rattle.norprog_common.specs.declared.files.FileId.{FileId}
+use Rattle.norprog_files.specs.declared.disk.FileId.{FileId}
 use Rattle.norprog_files.specs.declared.disk.How.TheVariants.{Anew}
 use Rattle.norprog_files.specs.Disk.{Call}
-use Rattle.norprog_files.specs.Files.{Denied, Event, Given, Lost, Made, New, Opened, Sent, Unwired, Wire, Wired, wire}
-use Rattle.norprog_files.specs.Guards.{EndsDevice, EndsInput, EndsOpen, EndsOutput, GoesOut}
+use Rattle.norprog_files.specs.Files.{Asked, Denied, Event, Given, Lost, Made, New, Opened, Sent, Unwired, Wire, Wired, wire}
+use Rattle.norprog_files.specs.Guards.{AreQuestions, EndsDevice, EndsInput, EndsOpen, EndsOutput, GoesOut}
 
 -- what an open file reports: the bytes that it will give, and those that it holds
 pub record Reports (F : Type 0) : Type 0 where
@@ -31,6 +31,7 @@ pub data ComesTo {F : Type 0} (files : Reports F) (opened : List FileId) : List 
       → IfSome (files.remaining file) (λ given. bytes ≡ given) → ComesTo files opened calls (Given path bytes) (opened ++ ids)
   ToNoInput : (path : List ℕ) (name : FileName) (result : Result (F × ℕ) Refusal) (ids : List FileId) (calls : List (Call F)) → EndsInput path name calls ids result
       → ComesTo files opened calls (Denied path) (opened ++ ids)
+  ToAsked : (path : List ℕ) (calls : List (Call F)) → AreQuestions calls → ComesTo files opened calls (Asked path) opened
   ToMade : (path : List ℕ) (name : FileName) (file : BufWriter F Global) (calls : List (Call F)) → EndsOutput path opened name calls (Ok (writer_inner file))
       → writer_buffer file ≡ [] → ComesTo files opened calls (Made path (writer_contents files.contents file)) opened
   ToNoOutput : (path : List ℕ) (name : FileName) (result : Result F Refusal) (calls : List (Call F)) → EndsOutput path opened name calls result

@@ -5,7 +5,6 @@ ghost use Rattle.std.specs.Fs.{metadata_len, metadata_mode};
 ghost use Rattle.norprog_files.specs.Disk.{Asks, Call, HasKind, Looks, Opens, Syncs, options_of};
 ghost use Rattle.norprog_files.specs.Files.{Adds};
 
-use norprog_common::FileId;
 use std::fs::{self, Files, Metadata, OpenFile, OpenOptions};
 use std::io::{self, Read, Write};
 use std::marker::PhantomData;
@@ -19,6 +18,15 @@ pub enum Kind {
     /// A character device, of this number.
     Characters(u64),
     Other,
+}
+
+/// Which file of the system it is, by whatever name it was opened.
+#[derive(Clone, Copy, PartialEq, Eq)]
+pub struct FileId {
+    /// The device that the file is on.
+    pub device: u64,
+    /// Its number there.
+    pub inode: u64,
 }
 
 /// What the system says of a file.

@@ -2,8 +2,8 @@
 
 ghost use Rattle.std.specs.Prelude.{◌≡◌, ◌<◌, [], ◌∷◌, List, IfErr, IfOk};
 ghost use Rattle.norprog_common.specs.declared.faults.FileName.TheVariants.{Device};
-ghost use Rattle.norprog_files.specs.Files.{Adds, Denied, Denies, Event, Given, Made, New, Opened};
-ghost use Rattle.norprog_files.specs.Files.{Unwired, Wired, came, closing, wire};
+ghost use Rattle.norprog_files.specs.Files.{Adds, Asked, Denied, Denies, Event, Given, Made, New};
+ghost use Rattle.norprog_files.specs.Files.{Opened, Unwired, Wired, came, closing, wire};
 
 use nor_base::{ByteIn, ByteOut, Failed};
 use norprog_common::{FileName, Refusal};
@@ -137,6 +137,24 @@ pub trait Files {
     )
         ensures { Adds (Self.Trail.did trail.old) (Self.Trail.did trail.new) (Unwired path.now
             (wire (Self.ToDevice.held to) (Self.FromDevice.ahead from)) ∷ []) };
+
+    /// Whether a regular file of this name is there. None is opened.
+    fn is_regular(&self, trail: &mut Self::Trail, path: &str) -> bool
+        ensures { Adds (Self.Trail.did trail.old) (Self.Trail.did trail.new)
+            (Asked path.now ∷ []) };
+
+    /// What the system says of a file that it doesn't open to be read. Only a regular file is
+    /// opened for that, and closed. None where it is opened, or memory runs out.
+    fn trouble(&self, trail: &mut Self::Trail, alloc: Global, path: &str) -> Option<String>
+        ensures { Adds (Self.Trail.did trail.old) (Self.Trail.did trail.new)
+            (Asked path.now ∷ []) };
+
+    /// What it says of a terminal that it doesn't open to be read and written. Only a terminal is
+    /// opened for that, and closed. None where it is opened, where the system has no list of
+    /// terminals, or memory runs out.
+    fn device_trouble(&self, trail: &mut Self::Trail, alloc: Global, path: &str) -> Option<String>
+        ensures { Adds (Self.Trail.did trail.old) (Self.Trail.did trail.new)
+            (Asked path.now ∷ []) };
 
     /// A reader that has failed is one of a file.
     ghost failing: { (files : Self) (reader : Self.Input) → 0 < Self.Input.count reader

@@ -3,15 +3,15 @@
 ghost use Rattle.std.specs.Io.Buffered.{writer_contents};
 ghost use Rattle.std.specs.Io.KnownBytes.{Keeps};
 ghost use Rattle.std.specs.Prelude.{◌≡◌, ◌&&◌, ◌++◌, IfErr, IfOk, IfSome, List, is_ok, nat_eq};
-ghost use Rattle.norprog_common.specs.declared.files.FileId.{FileId as Id};
+ghost use Rattle.norprog_files.specs.declared.disk.FileId.{FileId as Id};
 ghost use Rattle.norprog_files.specs.Files.{Denies, Did};
 ghost use Rattle.norprog_files.specs.Guards.{EndsApart, EndsInput, EndsLook, EndsOpen, EndsOutput};
 ghost use Rattle.norprog_files.specs.Guards.{EndsDevice, FindsTerminal, GoesOut, OpensSame};
 ghost use Rattle.norprog_files.specs.Guards.{printed_to};
 
-use crate::disk::{Disk, How, Kind, Stat};
+use crate::disk::{Disk, FileId, How, Kind, Stat};
 use crate::terminal::is_listed;
-use norprog_common::{FileId, FileName, Refusal};
+use norprog_common::{FileName, Refusal};
 use std::alloc::Global;
 use std::io::{self, BufReader, BufWriter, ErrorKind, Read, Write};
 
@@ -19,7 +19,7 @@ use std::io::{self, BufReader, BufWriter, ErrorKind, Read, Write};
 pub(crate) const MOST_BYTES: u64 = 1 << 36;
 
 /// The system's list of the drivers of terminals.
-const DRIVERS: &str = "/proc/tty/drivers";
+pub(crate) const DRIVERS: &str = "/proc/tty/drivers";
 
 /// The name of the file of standard output.
 const STDOUT: &str = "/dev/stdout";

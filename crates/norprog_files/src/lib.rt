@@ -7,7 +7,8 @@ mod files;
 mod guards;
 mod system;
 mod terminal;
+mod trouble;
 
-pub use disk::{Calls, Disk, Host, How, Kind, Stat, Unkept};
+pub use disk::{Calls, Disk, FileId, Host, How, Kind, Stat, Unkept};
 pub use files::{Files, Trail};
 pub use system::{Places, System};

@@ -5,16 +5,17 @@ ghost use Rattle.std.specs.Io.Buffered.{writer_buffer, writer_inner};
 ghost use Rattle.nor_job.specs.declared.fault.BuildFault.TheVariants.{Memory};
 ghost use Rattle.norprog_common.specs.declared.faults.Refusal.TheVariants.{Build};
 
-use crate::disk::{Calls, Disk, Host, How, Unkept};
+use crate::disk::{Calls, Disk, FileId, Host, How, Kind, Unkept};
 use crate::files::{Files, Trail};
 use crate::guards::{
     MOST_BYTES, gone_out, open_as, open_input, open_output, open_terminal, read_opened, write_out,
 };
+use crate::trouble::{device_error, open_error};
 use nor_base::{Failed, FromRead, IntoWrite};
-use norprog_common::{FileId, FileName, Refusal};
+use norprog_common::{FileName, Refusal};
 use std::alloc::Global;
 use std::fs;
-use std::io::{BufReader, BufWriter, Read, Write};
+use std::io::{self, BufReader, BufWriter, Read, Write};
 
 /// Bytes that are gathered before they are written to a file.
 const BUFFER: usize = 65536;
@@ -160,7 +161,36 @@ impl<D: Disk> Files for System<D> {
         _to: IntoWrite<D::File>,
     ) {}
 
+    fn is_regular(&self, trail: &mut Places<D::Calls>, path: &str) -> bool {
+        match self.disk.stat(&mut trail.calls, path) {
+            Ok(stat) => matches!(stat.kind, Kind::Regular),
+            Err(_) => false,
+        }
+    }
+
+    fn trouble(&self, trail: &mut Places<D::Calls>, alloc: Global, path: &str) -> Option<String> {
+        said(alloc, open_error(&self.disk, &mut trail.calls, path))
+    }
+
+    fn device_trouble(
+        &self,
+        trail: &mut Places<D::Calls>,
+        alloc: Global,
+        path: &str,
+    ) -> Option<String> {
+        said(
+            alloc,
+            device_error(&self.disk, &mut trail.calls, alloc, path),
+        )
+    }
+
     ghost failing = { λ files reader failed. tt };
+}
+
+/// An error in the system's words.
+fn said(alloc: Global, error: Option<io::Error>) -> Option<String> {
+    let error = error?;
+    format!(in alloc; "{error}").ok()
 }
 
 /// A file that gathers what it is to take.

@@ -2,9 +2,5 @@ mod PlannedLemmas
 mod CarriedLemmas
 mod EndedLemmas
 mod LineLemmas
-mod OpenedLemmas
-mod ServedLemmas
-mod ReportLemmas
 mod StopsLemmas
-mod CountLemmas
 mod ResumedLemmas

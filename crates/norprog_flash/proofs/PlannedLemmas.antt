@@ -1,4 +1,4 @@
--- What follows for every chip from a chip that was read, saved and planned for, and from the work on it.
+-- What follows for every chip from a chip that was read and planned for, and from the work on it.
 use Rattle.std.proofs.Common.{◌≡◌, ◌∷◌, ℕ, Bool, true, false, List, All, Option, Result, Ok, refl, subst}
 use Rattle.nor_base.specs.declared.meaning.Start.{Start}
 use Rattle.nor_base.specs.declared.step.Step.{Step}
@@ -14,7 +14,6 @@ use Rattle.nor_serprog.specs.declared.limits.Limits.{Limits}
 use Rattle.nor_serprog.specs.Done.{HasDoneAll, IsDoable}
 use Rattle.nor_serprog.specs.Row.{HasHalted}
 use Rattle.nor_sfdp.specs.declared.fault.SfdpFault.{SfdpFault}
-use Rattle.norprog_common.specs.FileStore.{FileFacts}
 use Rattle.norprog_flash.specs.declared.job.Job.{Job}
 use Rattle.norprog_flash.specs.Begun.{HasPlanned}
 use Rattle.norprog_flash.specs.Task.{dump_of, flash_task, goal_of}
@@ -30,8 +29,8 @@ given_twice : (most : ℕ) (h i : Option (List ℕ)) (a b : Ahead) (m : Paramete
 given_twice most h i a b m start sure true content is given = given.known false
 given_twice most h i a b m start sure false content is given = absurd cc
 
-module _ (most : ℕ) (files : FileFacts) (job : Job) (h0 h1 : Option (List ℕ)) (a0 a1 : Ahead) (r : Reading) (goal : List ℕ) (steps : List Step)
-    (o0 o1 : Option (List ℕ)) (planned : HasPlanned most files job h0 h1 a0 a1 r goal steps o0 o1) where
+module _ (most : ℕ) (job : Job) (h0 h1 : Option (List ℕ)) (a0 a1 : Ahead) (r : Reading) (goal : List ℕ) (steps : List Step)
+    (o0 o1 : Option (List ℕ)) (planned : HasPlanned most job h0 h1 a0 a1 r goal steps o0 o1) where
   -- the work is that of the meaning that was read
   chip : planned.plan.work.m ≡ r.meaning
   chip = meaning_same _ planned.plan.work.m r.meaning planned.plan.work.accepted.means planned.read.read.means.means

@@ -1,5 +1,6 @@
 -- Why work isn't begun on a chip that was read.
-use Rattle.std.proofs.Common.{◌≡◌, ◌∙◌, ℕ, Bool, true, false, List, [], ◌∷◌, length, Option, unwrap_or, inl, inr, refl, sym, ap, subst}
+use Rattle.std.proofs.Common.{◌≡◌, ◌∙◌, ℕ, Bool, true, false, List, length, Option, unwrap_or, Result, Ok, Err, IfErr, inl, inr, refl, sym, ap, subst}
+use Rattle.std.specs.Prelude.{MatchResult}
 use Rattle.nor_base.specs.declared.meaning.Start.{Start}
 use Rattle.nor_base.specs.Device.{Ahead}
 use Rattle.nor_base.specs.Parameters.{Parameters}
@@ -11,22 +12,20 @@ use Rattle.nor_probe.specs.Status.{suits}
 use Rattle.nor_reader.specs.declared.by.ReadBy.{ReadBy}
 use Rattle.nor_reader.specs.Harmless.{HasSentHarmless, SendsHarmless}
 use Rattle.nor_reader.specs.Laws.{GivesBy}
-use Rattle.nor_reader.proofs.HarmlessLemmas.{whole_sent}
-use Rattle.norprog_common.specs.declared.faults.FileName.TheVariants as file
+use Rattle.nor_serprog.specs.Line.{TestsLine}
+use Rattle.nor_serprog.specs.declared.limits.Limits.{Limits}
 use Rattle.norprog_common.specs.declared.faults.Refusal.{Refusal}
 use Rattle.norprog_common.specs.declared.faults.Refusal.TheVariants.{Build}
-use Rattle.norprog_common.specs.FileStore.{FileFacts, Adds, Change, Created}
 use Rattle.norprog_common.specs.Strict.{RefusesEmpty}
-use Rattle.norprog_common.proofs.JournalLemmas.{adds_none}
 use Rattle.norprog_flash.specs.declared.ending.Unflashed.{Unflashed}
 use Rattle.norprog_flash.specs.declared.ending.Unflashed.TheVariants.{Refused, Closed}
 use Rattle.norprog_flash.specs.declared.job.Job.{Job}
-use Rattle.norprog_flash.specs.Begun.{HasRead, start_at}
-use Rattle.norprog_flash.specs.Stops.{CantPlan, MissesEnd, StopsBefore, StopsBegun}
+use Rattle.norprog_flash.specs.Begun.{start_at}
+use Rattle.norprog_flash.specs.Opened.{AtChip, StopsHolding}
+use Rattle.norprog_flash.specs.Stops.{CantPlan, MissesEnd, StopsBefore}
 use Rattle.norprog_flash.specs.Task.{dump_of, flash_task}
 use Rattle.norprog_read.specs.declared.asked.Reading.{Reading}
 use Rattle.norprog_read.specs.Chip.{GivesContent, HasReadChip}
-use Rattle.norprog_read.specs.Saved.{IsSaved, IsUnsaved}
 use Rattle.norprog_read.specs.Way.{first_by}
 use Rattle.norprog_work.specs.Refused.{RefusesWork}
 
@@ -69,45 +68,12 @@ goes_past most h i j a b c job r by content same read way why stop = inr (inr (r
   stop = subst (λ (xs : List ℕ). MissesEnd most i j b c by xs why) same stop;
 }))
 
-pub unread : (most : ℕ) (files : FileFacts) (before : Option (List Change)) (h i : Option (List ℕ)) (a b : Ahead) (job : Job) (o : Option (List ℕ))
-    (why : Unflashed) → StopsBefore most h i a b job why → SendsHarmless h i → StopsBegun most files (Adds before before) h i a b job o o why
-unread most files before h i a b job o why stops harmless =
-    record { stop = inl (refl, inl (adds_none before before refl, stops)); harmless = harmless }
-
-pub unsaved : (most : ℕ) (files : FileFacts) (Made : List Change → Type 0) (h i : Option (List ℕ)) (a b : Ahead) (job : Job)
-    (o : Option (List ℕ)) (r : Reading)
-    → HasRead most job h i a b r → HasSentHarmless h i → (content : List ℕ) → content ≡ r.content.items → (why : Refusal)
-    → IsUnsaved files job.before.now file.Before content Made why → StopsBegun most files Made h i a b job o o (Refused why)
-unsaved most files Made h i a b job o r read sent content same why fails = record {
-  stop = inl (
-    refl,
-    inr (record {
-      reading = r;
-      read = read;
-      refusal = why;
-      is = refl;
-      unsaved = subst (λ (xs : List ℕ). IsUnsaved files job.before.now file.Before xs Made why) same fails;
-    }),
-  );
-  harmless = whole_sent h i sent;
-}
-
-pub unplanned : (most : ℕ) (files : FileFacts) (Made : List Change → Type 0) (h i : Option (List ℕ)) (a b : Ahead) (job : Job)
-    (o p : Option (List ℕ)) (r : Reading)
-    → HasRead most job h i a b r → HasSentHarmless h i → (content : List ℕ) → content ≡ r.content.items → IsSaved files job.before.now content
-    → Made (Created job.before.now ∷ []) → (why : Refusal) → CantPlan job r o p why → StopsBegun most files Made h i a b job o p (Refused why)
-unplanned most files Made h i a b job o p r read sent content same saved made why cause = record {
-  stop = inr (record {
-    reading = r;
-    read = read;
-    saved = subst (IsSaved files job.before.now) same saved;
-    made = made;
-    refusal = why;
-    is = refl;
-    cause = cause;
-  });
-  harmless = whole_sent h i sent;
-}
+-- one of these, after the line was tested
+pub holds_not : {T : Type 0} (limits : Limits) (job : Job) (h i j : Option (List ℕ)) (a b c : Ahead) (result : Result T Unflashed) → TestsLine h i a b (Ok tt) limits
+    → IfErr result (StopsBefore limits.asked i j b c job) → MatchResult result (λ _. HasSentHarmless i j) (λ _. SendsHarmless i j)
+    → IfErr result (StopsHolding limits job h j a c)
+holds_not limits job h i j a b c (Ok held) tested stops harmless = tt
+holds_not limits job h i j a b c (Err why) tested stops harmless = AtChip i b why tested stops harmless
 
 -- ---- why the work isn't planned
 pub cant_plan : (job : Job) (r : Reading) (o p : Option (List ℕ)) (t : Task) (tables content old : List ℕ) (why : BuildFault)

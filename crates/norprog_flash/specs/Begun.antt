@@ -1,4 +1,4 @@
--- A chip that was read, saved and planned for (this project's).
+-- A chip that was read and planned for (this project's).
 use Rattle.std.specs.Prelude.{◌≡◌, ℕ, true, List, length, Option, unwrap_or, Ok}
 use Rattle.std.specs.Io.KnownBytes.{Appends}
 use Rattle.nor_base.specs.declared.meaning.Start.{Start}
@@ -11,14 +11,12 @@ use Rattle.nor_reader.specs.declared.by.ReadBy.{ReadBy}
 use Rattle.nor_reader.specs.Laws.{GivesBy}
 use Rattle.nor_reader.specs.Past.{ReadsPast}
 use Rattle.nor_sfdp.specs.Bits.{is_set}
-use Rattle.norprog_common.specs.FileStore.{FileFacts}
 use Rattle.norprog_flash.specs.declared.job.Job.{Job}
 use Rattle.norprog_flash.specs.Resumed.{IsOfDump}
 use Rattle.norprog_flash.specs.Task.{dump_of, flash_task}
 use Rattle.norprog_flash.specs.Way.{last_text}
 use Rattle.norprog_read.specs.declared.asked.Reading.{Reading}
 use Rattle.norprog_read.specs.Chip.{HasReadChip}
-use Rattle.norprog_read.specs.Saved.{IsSaved}
 use Rattle.norprog_work.specs.Work.{IsWork}
 
 -- the mode that was said, and the quad setting that a status has (QE, S9)
@@ -46,16 +44,21 @@ pub record PrintsPlan (job : Job) (r : Reading) (goal : List ℕ) (steps : List 
   pub kept : IsOfDump r.meaning r.content.items (unwrap_or (dump_of job) r.content.items) goal
   pub way : Appends middle out_after (last_text job r steps)
 
--- it was read, and nothing else was sent; what it holds is saved; and the work from that to the target was planned and printed
-pub record HasPlanned (most : ℕ) (files : FileFacts) (job : Job) (held_before held_after : Option (List ℕ))
-    (ahead_before ahead_after : Ahead) (r : Reading) (goal : List ℕ) (steps : List Step) (out_before out_after : Option (List ℕ)) : Type 0 where
+-- it was read, and nothing else was sent; and the work from what it holds to the target was planned and printed
+pub record HasPlanned (most : ℕ) (job : Job) (held_before held_after : Option (List ℕ)) (ahead_before ahead_after : Ahead) (r : Reading)
+    (goal : List ℕ) (steps : List Step) (out_before out_after : Option (List ℕ)) : Type 0 where
   pub read : HasRead most job held_before held_after ahead_before ahead_after r
-  pub saved : IsSaved files job.before.now r.content.items
   pub plan : PrintsPlan job r goal steps out_before out_after
 
 -- so, whatever went over the wire and was printed meanwhile
-abbrev pub IsPlannedOn : ℕ → FileFacts → Job → Reading → List ℕ → List Step → Type 0
-IsPlannedOn most files job r goal steps =
+abbrev pub IsPlannedOn : ℕ → Job → Reading → List ℕ → List Step → Type 0
+IsPlannedOn most job r goal steps =
     (held_before : Option (List ℕ)) × (held_after : Option (List ℕ)) × (ahead_before : Ahead) × (ahead_after : Ahead)
     × (out_before : Option (List ℕ)) × (out_after : Option (List ℕ))
-    × HasPlanned most files job held_before held_after ahead_before ahead_after r goal steps out_before out_after
+    × HasPlanned most job held_before held_after ahead_before ahead_after r goal steps out_before out_after
+
+-- a chip was read so that gave this
+abbrev pub IsReadOn : ℕ → Job → Reading → Type 0
+IsReadOn most job r =
+    (held_before : Option (List ℕ)) × (held_after : Option (List ℕ)) × (ahead_before : Ahead) × (ahead_after : Ahead)
+    × HasRead most job held_before held_after ahead_before ahead_after r

@@ -11,5 +11,4 @@ pub mod Blame
 pub mod Opened
 pub mod Stops
 pub mod Request
-pub mod Served
 pub mod Answer

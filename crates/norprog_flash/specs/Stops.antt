@@ -1,5 +1,5 @@
--- Why work isn't begun; and that nothing went over the wire till then that changes what a chip holds (this project's).
-use Rattle.std.specs.Prelude.{◌≡◌, ◌≤◌, ◌+◌, ◌⊎◌, ⊤, ℕ, Bool, false, not, ◌&&◌, List, [], ◌∷◌, length, Option, unwrap_or, Result, Ok, Err, ◌≢◌}
+-- Why work isn't begun (this project's).
+use Rattle.std.specs.Prelude.{◌≡◌, ◌≢◌, ◌⊎◌, ℕ, false, List, length, Option, unwrap_or, Err}
 use Rattle.nor_base.specs.declared.step.Step.{Step}
 use Rattle.nor_base.specs.Device.{Ahead, Cuts}
 use Rattle.nor_job.specs.declared.fault.BuildFault.{BuildFault}
@@ -9,28 +9,16 @@ use Rattle.nor_probe.specs.declared.difference.Difference.{Difference}
 use Rattle.nor_probe.specs.declared.difference.Mismatch.TheVariants.{Exchange, Differs}
 use Rattle.nor_probe.specs.Status.{suits}
 use Rattle.nor_reader.specs.declared.by.ReadBy.{ReadBy}
-use Rattle.nor_reader.specs.Harmless.{SendsHarmless}
 use Rattle.nor_reader.specs.Laws.{GivesBy}
 use Rattle.nor_reader.specs.Past.{ReadsPast}
-use Rattle.nor_serprog.specs.declared.fault.Fault.{Fault}
-use Rattle.nor_serprog.specs.declared.fault.GreetFault.{GreetFault}
-use Rattle.nor_serprog.specs.declared.limits.Limits.{Limits}
-use Rattle.nor_serprog.specs.Greeting.{Greeted}
-use Rattle.nor_serprog.specs.Line.{TestsLine}
 use Rattle.norprog_common.specs.declared.faults.FileName.TheVariants as file
 use Rattle.norprog_common.specs.declared.faults.Refusal.{Refusal}
 use Rattle.norprog_common.specs.declared.faults.Refusal.TheVariants.{Build, File}
-use Rattle.norprog_common.specs.FileStore.{FileFacts, Breaks, Change, Created}
 use Rattle.norprog_common.specs.Strict.{RefusesEmpty}
-use Rattle.norprog_common.specs.Told.{TellsBroken}
-use Rattle.norprog_device.specs.declared.fault.DeviceFault.TheVariants.{Greet, Line}
-use Rattle.norprog_device.specs.Blame.{is_cut, Blames}
-use Rattle.norprog_device.specs.Opened.{LetsGo}
 use Rattle.norprog_flash.specs.declared.ending.Unflashed.{Unflashed}
 use Rattle.norprog_flash.specs.declared.ending.Unflashed.TheVariants.{Refused, Device, Unlike, Closed}
 use Rattle.norprog_flash.specs.declared.job.Job.{Job}
-use Rattle.norprog_flash.specs.Begun.{HasRead, start_at}
-use Rattle.norprog_flash.specs.Blame.{fault_of_stop}
+use Rattle.norprog_flash.specs.Begun.{start_at}
 use Rattle.norprog_flash.specs.Resumed.{IsOfAnother}
 use Rattle.norprog_flash.specs.Task.{dump_of, flash_task}
 use Rattle.norprog_flash.specs.Way.{last_text}
@@ -40,23 +28,11 @@ use Rattle.norprog_read.specs.declared.fault.Unlike.TheVariants.{Asking, At}
 use Rattle.norprog_read.specs.declared.fault.Unread.{Unread}
 use Rattle.norprog_read.specs.declared.fault.Unread.TheVariants as unread
 use Rattle.norprog_read.specs.Chip.{HasReadChip}
-use Rattle.norprog_read.specs.Saved.{IsSaved, IsUnsaved}
 use Rattle.norprog_read.specs.Stops.{StopsChip}
 use Rattle.norprog_work.specs.Refused.{RefusesWork}
 use Rattle.norprog_work.specs.Work.{IsWork}
 
--- that an output can't be written is told only where one failed
-abbrev pub TellsFailed : Type 0 → Unflashed → Type 0
-TellsFailed Broke (Refused why) = TellsBroken Broke why
-TellsFailed Broke other = ⊤
-
--- the output that is printed to didn't fail where the job ended, else once at most; where it is told that an output can't be written, it
--- did, or one that was made
-abbrev pub CountsOut : {T : Type 0} → FileFacts → ℕ → ℕ → Result T Unflashed → Type 0
-CountsOut files before after (Ok x) = after ≡ before
-CountsOut files before after (Err why) = (before ≤ after) × (after ≤ before + 1) × TellsFailed (Breaks files before after) why
-
--- the same of a reading
+-- why a chip isn't read is why work isn't begun
 abbrev pub of_reading : Unread → Unflashed
 of_reading (unread.Refused why) = Refused why
 of_reading (unread.Device why) = Device why
@@ -108,15 +84,6 @@ StopsBefore most held_before held_after ahead_before ahead_after job why =
     ⊎ (StopsUnsuited most held_before held_after ahead_before ahead_after job why
     ⊎ StopsPast most held_before held_after ahead_before ahead_after job why)
 
--- it was read, and what it holds couldn't be saved in its file
-pub record StopsUnsaved (most : ℕ) (files : FileFacts) (Made : List Change → Type 0) (held_before held_after : Option (List ℕ))
-    (ahead_before ahead_after : Ahead) (job : Job) (why : Unflashed) : Type 0 where
-  pub reading : Reading
-  pub read : HasRead most job held_before held_after ahead_before ahead_after reading
-  pub refusal : Refusal
-  pub is : why ≡ Refused refusal
-  pub unsaved : IsUnsaved files job.before.now file.Before reading.content.items Made refusal
-
 -- the work from the content to the target was planned and printed, but not all of how to go on
 pub record LacksWay (job : Job) (r : Reading) (out_before out_after : Option (List ℕ)) : Type 0 where
   pub goal : List ℕ
@@ -140,78 +107,3 @@ CantPlan job r out_before out_after why =
     (unwrap_or (dump_of job) r.content.items) out_before out_after fault)
     ⊎ (((why ≡ Build Write) × LacksWay job r out_before out_after)
     ⊎ ((why ≡ File file.Resume) × IsOnAnother job r out_before out_after)))
-
--- it was read and saved, and its work couldn't be planned or printed
-pub record StopsUnplanned (most : ℕ) (files : FileFacts) (Made : List Change → Type 0) (held_before held_after : Option (List ℕ))
-    (ahead_before ahead_after : Ahead) (job : Job) (out_before out_after : Option (List ℕ)) (why : Unflashed) : Type 0 where
-  pub reading : Reading
-  pub read : HasRead most job held_before held_after ahead_before ahead_after reading
-  pub saved : IsSaved files job.before.now reading.content.items
-  pub made : Made (Created job.before.now ∷ [])
-  pub refusal : Refusal
-  pub is : why ≡ Refused refusal
-  pub cause : CantPlan job reading out_before out_after refusal
-
--- one of these; nothing was made except that file, and nothing printed except of a plan
-abbrev pub StopsWork : ℕ → FileFacts → (List Change → Type 0) → Option (List ℕ) → Option (List ℕ) → Ahead → Ahead → Job → Option (List ℕ)
-    → Option (List ℕ) → Unflashed → Type 0
-StopsWork most files Made held_before held_after ahead_before ahead_after job out_before out_after why =
-    ((out_after ≡ out_before) × ((Made [] × StopsBefore most held_before held_after ahead_before ahead_after job why)
-    ⊎ StopsUnsaved most files Made held_before held_after ahead_before ahead_after job why))
-    ⊎ StopsUnplanned most files Made held_before held_after ahead_before ahead_after job out_before out_after why
-
--- and then only operations were asked for that change nothing
-pub record StopsBegun (most : ℕ) (files : FileFacts) (Made : List Change → Type 0) (held_before held_after : Option (List ℕ))
-    (ahead_before ahead_after : Ahead) (job : Job) (out_before out_after : Option (List ℕ)) (why : Unflashed) : Type 0 where
-  pub stop : StopsWork most files Made held_before held_after ahead_before ahead_after job out_before out_after why
-  pub harmless : SendsHarmless held_before held_after
-
--- the line was tested, and then that
-pub record StopsAfter (files : FileFacts) (Made : List Change → Type 0) (held_before held_after : Option (List ℕ)) (ahead_before ahead_after : Ahead)
-    (limits : Limits) (job : Job) (out_before out_after : Option (List ℕ)) (why : Unflashed) : Type 0 where
-  pub held : Option (List ℕ)
-  pub ahead : Ahead
-  pub tested : TestsLine held_before held ahead_before ahead (Ok tt) limits
-  pub begun : StopsBegun limits.asked files Made held held_after ahead ahead_after job out_before out_after why
-
--- the test of the line stopped, or so
-abbrev pub StopsTested : FileFacts → (List Change → Type 0) → Option (List ℕ) → Option (List ℕ) → Ahead → Ahead → Limits → Job → Option (List ℕ)
-    → Option (List ℕ) → Unflashed → Type 0
-StopsTested files Made held_before held_after ahead_before ahead_after limits job out_before out_after why =
-    ((fault : Fault) × (why ≡ Device (Line fault)) × TestsLine held_before held_after ahead_before ahead_after (Err fault) limits
-    × Made [] × (out_after ≡ out_before))
-    ⊎ StopsAfter files Made held_before held_after ahead_before ahead_after limits job out_before out_after why
-
--- the handshake was done, what came after it stopped so, and the pins were let go, unless a request was cut: then nothing followed it.
--- `Unsent`: the device failed as it was written to
-pub record StopsGreeted (Unsent : Type 0) (files : FileFacts) (Made : List Change → Type 0) (held_before held_after : Option (List ℕ))
-    (ahead_before ahead_after : Ahead) (job : Job) (out_before out_after : Option (List ℕ)) (why : Unflashed) : Type 0 where
-  pub held : Option (List ℕ)
-  pub ahead : Ahead
-  pub limits : Limits
-  pub greeted : Greeted held_before held ahead_before ahead (Ok limits)
-  pub held_late : Option (List ℕ)
-  pub ahead_late : Ahead
-  pub stops : StopsTested files Made held held_late ahead ahead_late limits job out_before out_after why
-  pub released : LetsGo Unsent held_late held_after ahead_late ahead_after (limits.pins && not (is_cut (fault_of_stop why)))
-
--- the handshake stopped, or so
-abbrev pub StopsOpened : Type 0 → FileFacts → (List Change → Type 0) → Option (List ℕ) → Option (List ℕ) → Ahead → Ahead → Job → Option (List ℕ)
-    → Option (List ℕ) → Unflashed → Type 0
-StopsOpened Unsent files Made held_before held_after ahead_before ahead_after job out_before out_after why =
-    ((fault : GreetFault) × (why ≡ Device (Greet fault)) × Greeted held_before held_after ahead_before ahead_after (Err fault)
-    × Made [] × (out_after ≡ out_before))
-    ⊎ StopsGreeted Unsent files Made held_before held_after ahead_before ahead_after job out_before out_after why
-
--- the device of this name was opened, had this ahead, and had taken that; then the job on its chip stopped so, and nothing was sent after
--- that. The reader is blamed only where the device failed as it was read, and the writer only where it failed as it was written to
-pub record StopsOn (files : FileFacts) (device : List ℕ) (Made : List Change → Type 0) (job : Job) (out_before out_after : Option (List ℕ))
-    (why : Unflashed) : Type 0 where
-  pub ahead_first : Ahead
-  pub held_first : Option (List ℕ)
-  pub opened : files.device device ahead_first held_first
-  pub held : Option (List ℕ)
-  pub ahead : Ahead
-  pub stops : StopsOpened files.unsent files Made held_first held ahead_first ahead job out_before out_after why
-  pub left : files.left held
-  pub blamed : Blames files.unread files.unsent (fault_of_stop why)

@@ -5,7 +5,6 @@ use Rattle.nor_base.specs.Device.{Ahead}
 use Rattle.nor_base.specs.Parameters.{Parameters}
 use Rattle.nor_base.specs.Step.{expected, step_clocks}
 use Rattle.nor_probe.specs.declared.difference.Mismatch.{Mismatch}
-use Rattle.nor_progress.specs.Text.{Reports}
 use Rattle.nor_reader.specs.declared.by.ReadBy.{ReadBy}
 use Rattle.nor_job.specs.Status.{start_of}
 use Rattle.nor_reader.specs.Laws.{GivesBy}
@@ -76,22 +75,10 @@ WorksOut held_before held_after ahead_before ahead_after limits turns m by steps
     HasFailedAt held_before held_after ahead_before ahead_after limits turns m steps step why
     ⊎ HasMissed held_before held_after ahead_before ahead_after limits turns by steps goal step why
 
--- a writer that held this, and had failed so often, took just what reports that of these steps the first so many were done
-abbrev pub Showing : Option (List ℕ) → Option (List ℕ) → ℕ → ℕ → List Step → ℕ → Type 0
-Showing held_before held_after count_before count_after steps n = Reports steps n held_before held_after count_before count_after
-
--- it is so of how many steps work did that ended so: of those before the one that failed, and of all where the chip was read after them
-abbrev pub IsSoOfDone : (ℕ → Type 0) → Ending → Type 0
-IsSoOfDone Shown Planned = ⊥
-IsSoOfDone Shown (Done transactions) = Shown transactions
-IsSoOfDone Shown (Failed step why) = Shown step
-
 -- what work that was planned says: some step can't be done by the device, and nothing was sent; or each can, and it went so, in a way by
--- which the chip is read back; and how many steps were done is reported
-abbrev pub GoesOn : Option (List ℕ) → Option (List ℕ) → Ahead → Ahead → Limits → Job → Reading → List ℕ → List Step → (ℕ → Type 0) → Ending
-    → Type 0
-GoesOn held_before held_after ahead_before ahead_after limits job r goal steps Shown ending =
-    ((step : ℕ) × (ending ≡ Failed step Carried) × IsFirstNotCarried limits steps step × (held_after ≡ held_before) × (ahead_after ≡ ahead_before)
-    × Shown 0)
+-- which the chip is read back
+abbrev pub GoesOn : Option (List ℕ) → Option (List ℕ) → Ahead → Ahead → Limits → Job → Reading → List ℕ → List Step → Ending → Type 0
+GoesOn held_before held_after ahead_before ahead_after limits job r goal steps ending =
+    ((step : ℕ) × (ending ≡ Failed step Carried) × IsFirstNotCarried limits steps step × (held_after ≡ held_before) × (ahead_after ≡ ahead_before))
     ⊎ ((by : ReadBy) × GivesBy r.meaning (start_of (flash_task job r.tables.items)) by × AreCarried limits steps
-    × WorksOut held_before held_after ahead_before ahead_after limits job.ask.turns r.meaning by steps goal ending × IsSoOfDone Shown ending)
+    × WorksOut held_before held_after ahead_before ahead_after limits job.ask.turns r.meaning by steps goal ending)

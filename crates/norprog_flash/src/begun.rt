@@ -1,4 +1,4 @@
-//! A chip that is read, saved and planned for.
+//! A chip that is read, and planned for.
 
 ghost use Rattle.std.specs.Prelude.{◌≡◌, ◌<◌, ◌≤◌, ◌+◌, ◌-◌, ◌^◌, [], ◌∷◌, true, length, unwrap_or};
 ghost use Rattle.std.specs.Prelude.{IfOk, IfErr, MatchResult, Ok};
@@ -7,18 +7,17 @@ ghost use Rattle.nor_probe.specs.Status.{suits};
 ghost use Rattle.nor_job.specs.Shares.{HasNoneEmpty};
 ghost use Rattle.nor_job.specs.Status.{start_of};
 ghost use Rattle.norprog_common.specs.Content.{CountsWriter};
-ghost use Rattle.norprog_common.specs.FileStore.{Adds, Created};
 ghost use Rattle.norprog_common.specs.Strict.{RefusesEmpty};
 ghost use Rattle.norprog_flash.specs.Blame.{fault_before};
-ghost use Rattle.norprog_flash.specs.Begun.{HasRead, HasPlanned, PrintsPlan, start_at};
+ghost use Rattle.norprog_flash.specs.Begun.{HasRead, PrintsPlan, start_at};
 ghost use Rattle.norprog_flash.specs.Task.{dump_of, flash_task};
 ghost use Rattle.norprog_work.specs.Work.{IsWork};
 ghost use Rattle.nor_reader.specs.Harmless.{HasSentHarmless, SendsHarmless};
 ghost use Rattle.nor_reader.specs.Laws.{GivesBy};
 ghost use Rattle.nor_reader.specs.Past.{ReadsPast};
 ghost use Rattle.norprog_read.specs.Blame.{CountsBoth};
-ghost use Rattle.norprog_flash.specs.Stops.{CantPlan, CountsOut, MissesEnd, StopsBefore};
-ghost use Rattle.norprog_flash.specs.Stops.{StopsBegun};
+ghost use Rattle.norprog_flash.specs.Opened.{HasHeld, StopsHolding};
+ghost use Rattle.norprog_flash.specs.Stops.{CantPlan, MissesEnd, StopsBefore};
 
 use crate::ending::Unflashed;
 use crate::job::{Job, inputs_for};
@@ -28,70 +27,50 @@ use nor_base::{ByteIn, ByteOut, Start};
 use nor_job::BuildFault;
 use nor_probe::{Mismatch, suits};
 use nor_reader::{ReadBy, read_past};
-use nor_serprog::Limits;
-use norprog_common::{FileName, FileStore, Refusal, refuse_empty};
-use norprog_read::{Reading, Unlike, first_by, read_chip, save};
+use nor_serprog::{Limits, test_line};
+use norprog_common::{FileName, Refusal, refuse_empty};
+use norprog_device::DeviceFault;
+use norprog_read::{Reading, Unlike, first_by, read_chip};
 use norprog_work::{Work, work_for};
 use std::alloc::Global;
 
-/// A chip that was read and planned for.
+/// A chip that was read.
 #[derive(Drop)]
-pub(crate) struct Begun {
-    pub(crate) reading: Reading,
-    pub(crate) work: Work,
-    /// How the chip is read back.
-    pub(crate) by: ReadBy,
+pub struct Held {
+    pub reading: Reading,
+    /// How it is read back.
+    pub by: ReadBy,
 }
 
-/// Reads the chip, saves what it holds in a new file, and plans; the lines of the plan are printed,
-/// and how to go on.
-pub(crate) fn begin<S: FileStore, R: ByteIn, W: ByteOut, O: ByteOut>(
+/// Tests the line to a device, and reads its chip, which has to be able to take the work. Nothing
+/// is sent that changes the chip.
+pub fn hold<R: ByteIn, W: ByteOut>(
     alloc: Global,
-    store: &S,
-    journal: &mut S::Journal,
     from: &mut R,
     to: &mut W,
     limits: &Limits,
     job: &Job<'_>,
-    out: &mut O,
-) -> Result<Begun, Unflashed>
-    requires whole { job.now.ask.content ≡ true }
-    requires room { HaveRoom (R.count from.old) (W.count to.old)
-        × (O.count out.old < 2 ^ 64 - 1) }
-    ensures planned { IfOk result
-        (λ begun. HasPlanned limits.now.asked (S.facts store.now) job.now (W.held to.old)
-        (W.held to.new) (R.ahead from.old)
-        (R.ahead from.new) begun.reading begun.work.goal.items begun.work.steps.items
-        (O.held out.old) (O.held out.new)
-        × GivesBy begun.reading.meaning (start_of (flash_task job.now begun.reading.tables.items))
-        begun.by
-        × Adds (S.Journal.changes journal.old) (S.Journal.changes journal.new)
-        (Created job.now.before.now ∷ [])) }
-    ensures stops { IfErr result
-        (StopsBegun limits.now.asked (S.facts store.now)
-        (Adds (S.Journal.changes journal.old) (S.Journal.changes journal.new)) (W.held to.old)
-        (W.held to.new) (R.ahead from.old) (R.ahead from.new) job.now (O.held out.old)
-        (O.held out.new)) }
+) -> Result<Held, Unflashed>
+    requires asked { (job.now.ask.content ≡ true)
+        × (R.count from.old < 2 ^ 64 - 3) × (W.count to.old < 2 ^ 64 - 3) }
+    ensures held { IfOk result (λ held. HasHeld limits.now job.now (W.held to.old) (W.held to.new)
+        (R.ahead from.old) (R.ahead from.new) held.reading
+        × GivesBy held.reading.meaning
+        (start_of (flash_task job.now held.reading.tables.items)) held.by) }
+    ensures stops { IfErr result (StopsHolding limits.now job.now (W.held to.old) (W.held to.new)
+        (R.ahead from.old) (R.ahead from.new)) }
     ensures counts { CountsBoth (R.count from.old) (R.count from.new) (W.count to.old)
         (W.count to.new) (fault_before result) }
-    ensures out_counts { CountsOut (S.facts store.now) (O.count out.old) (O.count out.new) result }
 {
-    let (reading, by) = read_suited(alloc, from, to, limits, job)?;
-    save(
-        alloc,
-        store,
-        journal,
-        job.before,
-        FileName::Before,
-        reading.content.as_slice(),
-    )?;
-    let work = print_plan(alloc, job, &reading, out)?;
-    Ok(Begun { reading, work, by })
+    match test_line(from, to, limits) {
+        Ok(()) => read_suited(alloc, from, to, limits, job),
+        Err(why) => Err(Unflashed::Device(DeviceFault::Line(why))),
+    }
 }
 
 /// Plans for a chip that was read; prints the lines of the plan, and then how to go on where the
 /// work stops on the way. Where work is resumed the chip has to be the one of the older dump.
-fn print_plan<O: ByteOut>(
+pub(crate) fn print_plan<O: ByteOut>(
     alloc: Global,
     job: &Job<'_>,
     reading: &Reading,
@@ -165,15 +144,15 @@ fn read_suited<R: ByteIn, W: ByteOut>(
     to: &mut W,
     limits: &Limits,
     job: &Job<'_>,
-) -> Result<(Reading, ReadBy), Unflashed>
+) -> Result<Held, Unflashed>
     requires asked { (job.now.ask.content ≡ true)
         × HaveRoom (R.count from.old) (W.count to.old) }
     ensures read { IfOk result
-        (λ read. HasRead limits.now.asked job.now (W.held to.old) (W.held to.new)
-        (R.ahead from.old) (R.ahead from.new) read.0) }
+        (λ held. HasRead limits.now.asked job.now (W.held to.old) (W.held to.new)
+        (R.ahead from.old) (R.ahead from.new) held.reading) }
     ensures way { IfOk result
-        (λ read. GivesBy read.0.meaning (start_of (flash_task job.now read.0.tables.items))
-        read.1) }
+        (λ held. GivesBy held.reading.meaning
+        (start_of (flash_task job.now held.reading.tables.items)) held.by) }
     ensures stops { IfErr result
         (StopsBefore limits.now.asked (W.held to.old) (W.held to.new) (R.ahead from.old)
         (R.ahead from.new) job.now) }
@@ -190,7 +169,7 @@ fn read_suited<R: ByteIn, W: ByteOut>(
     let by = first_by(&reading.meaning, said_start(job));
     refuse_unfilled(alloc, job, &reading)?;
     see_end(from, to, limits, by, reading.content.as_slice())?;
-    Ok((reading, by))
+    Ok(Held { reading, by })
 }
 
 /// Reads a chip of this content past its end, and sees that it ends there.

@@ -11,7 +11,7 @@ use norprog_read::fault_of_unlike;
 
 /// How the exchange ended early for which a job isn't done. None where it is done, and where no
 /// exchange is the cause.
-pub(crate) fn fault_in(ended: &Result<Ending, Unflashed>) -> Option<Fault>
+pub fn fault_in(ended: &Result<Ending, Unflashed>) -> Option<Fault>
     ensures { result ≡ fault_in ended.now }
 {
     match ended {

@@ -25,8 +25,6 @@ pub struct Job<'a> {
     pub base: u32,
     /// What the image doesn't give, where work is resumed: the content before the first try.
     pub old: Option<&'a [u8]>,
-    /// The name of the file that the content is saved in.
-    pub before: &'a str,
     /// Each chosen region has to get a byte of the image.
     pub strict: bool,
     /// Only the plan is wanted.

@@ -1,21 +1,18 @@
 //! `norprog flash`: has a programmer read a chip, plan for what it holds, and do that work
 //! (docs/FORMATS.md, section 14).
 //!
-//! [`flash`] does what the texts of a command line ask for. [`flash_opened`] does the work from the
-//! handshake on, over any reader and writer; [`flash_chip`] after it: nothing that changes the chip
-//! is sent before what it holds is saved, and before the whole plan is known. [`write_ending`]
-//! writes how it ended.
+//! [`look_at`] refuses a job for a fault that shows before its chip is read. [`hold`] tests the
+//! line and reads the chip; what that held is to be saved then. [`go_on`] plans, prints the plan,
+//! and does the work. [`report_ending`] tells how it ended.
 #![tactic(auto)]
 
 mod begun;
 mod blame;
-mod command;
 mod device;
+mod early;
 mod ending;
-mod files;
 mod job;
 mod line;
-mod opened;
 mod options;
 mod report;
 mod request;
@@ -23,11 +20,13 @@ mod resumed;
 mod way;
 mod work;
 
-pub use command::flash;
-pub use device::flash_chip;
+pub use begun::{Held, hold};
+pub use blame::fault_in;
+pub use device::go_on;
+pub use early::look_at;
 pub use ending::{Ending, Unflashed};
 pub use job::Job;
-pub use line::write_ending;
+pub use line::{write_closed, write_ending};
 pub use norprog_common::FlashArgs;
-pub use opened::flash_opened;
+pub use report::{family_of, report_ending};
 pub use request::{FlashRequest, request_of};

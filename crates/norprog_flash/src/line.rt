@@ -36,11 +36,7 @@ pub fn write_ending<W: ByteOut>(ending: Ending, writer: &mut W) -> Result<(), Fa
 
 /// Writes `unlike status` and the status: S7 to S0 in two digits, of a part whose registers are
 /// known S23 to S0 in six; and LF.
-pub(crate) fn write_closed<W: ByteOut>(
-    part: Part,
-    status: u32,
-    writer: &mut W,
-) -> Result<(), Failed>
+pub fn write_closed<W: ByteOut>(part: Part, status: u32, writer: &mut W) -> Result<(), Failed>
     requires { W.count writer.old < 2 ^ 64 - 1 }
     ensures bytes { Writes (W.held writer.old) (W.held writer.new) result
         (closed_line part status) }

@@ -1,20 +1,17 @@
 //! What is reported of an ending, and its status.
 
-ghost use Rattle.std.specs.Prelude.{◌≡◌, ◌≤◌, ◌<◌, ◌-◌, ◌^◌, false, IfOk, IfErr};
+ghost use Rattle.std.specs.Prelude.{◌≡◌, ◌≤◌, ◌<◌, ◌-◌, ◌^◌, false};
 ghost use Rattle.nor_base.specs.Device.{Counts, Writes};
-ghost use Rattle.nor_job.specs.declared.fault.BuildFault.TheVariants.{Write};
-ghost use Rattle.norprog_common.specs.declared.faults.Refusal.TheVariants.{Build};
-ghost use Rattle.norprog_common.specs.Lines.{printed};
-ghost use Rattle.norprog_common.specs.Told.{Tells};
-ghost use Rattle.norprog_flash.specs.Answer.{state_told, ReportsEnding};
-ghost use Rattle.norprog_flash.specs.Line.{is_partial, is_sent, status_of};
+ghost use Rattle.norprog_common.specs.Told.{Says, output};
+ghost use Rattle.norprog_flash.specs.Answer.{family_of, state_told};
+ghost use Rattle.norprog_flash.specs.Line.{ending_line, is_partial, is_sent, status_of};
 ghost use Rattle.norprog_flash.specs.State.{state_front, state_line};
 
 use crate::ending::Ending;
 use crate::line::write_ending;
 use crate::options::{first_name, write_way_on};
-use nor_base::{ByteOut, Failed, put_all, put_parts};
-use norprog_common::{FlashArgs, Refusal, refuse};
+use nor_base::{ByteOut, Failed, Part, put_all, put_parts};
+use norprog_common::{FlashArgs, part, refuse_lines};
 use norprog_failure::Failure;
 
 /// What is written around the name of the file that has what the chip held before the first try.
@@ -26,7 +23,7 @@ const GO_ON: &[u8] =
 /// Writes to `err` how to go on with a chip that may hold a part of the work, and then the line of
 /// an ending to `out`, or to `err` that it can't be written. Returns the status: 0 where all was
 /// done and printed, else 1.
-pub(crate) fn report_ending<O: ByteOut, E: ByteOut>(
+pub fn report_ending<O: ByteOut, E: ByteOut>(
     ending: Ending,
     given: &FlashArgs<'_>,
     out: &mut O,
@@ -34,31 +31,15 @@ pub(crate) fn report_ending<O: ByteOut, E: ByteOut>(
 ) -> u8
     requires out { O.count out.old < 2 ^ 64 - 1 }
     requires err { E.count err.old < 2 ^ 64 - 1 }
-    ensures reported { ReportsEnding ending given.now (O.count out.old < O.count out.new)
-        (O.held out.old) (O.held out.new) (err.new ≡ err.old)
-        (E.count err.new ≡ E.count err.old) (E.held err.old) (E.held err.new) result }
+    ensures said { Says (state_told ending given.now) (ending_line ending) (status_of ending)
+        (output O.held O.count out.old out.new) (output E.held E.count err.old err.new) result }
     ensures status { result ≤ 1 }
     ensures quiet { result ≡ 0 → err.new ≡ err.old }
 {
     let told = write_state(ending, given, err);
     match write_ending(ending, out) {
         Ok(()) => status_of(ending),
-        Err(_) => refuse_line(told, err),
-    }
-}
-
-/// Writes that the line of an ending can't be written, where what came before was. Returns the
-/// status, 1.
-fn refuse_line<E: ByteOut>(told: Result<(), Failed>, err: &mut E) -> u8
-    requires { IfOk told (λ _. E.count err.old < 2 ^ 64 - 1) }
-    ensures status { result ≡ 1 }
-    ensures told { IfOk told (λ _. Tells (E.count err.new ≡ E.count err.old)
-        (E.held err.old) (E.held err.new) (printed (Build Write))) }
-    ensures lost { IfErr told (λ _. err.new ≡ err.old) }
-{
-    match told {
-        Ok(()) => refuse(&Refusal::WRITE, err),
-        Err(_) => 1,
+        Err(_) => refuse_lines(told, err),
     }
 }
 
@@ -125,4 +106,11 @@ fn status_of(ending: Ending) -> u8
         Ending::Planned | Ending::Done { .. } => 0,
         Ending::Failed { .. } => 1,
     }
+}
+
+/// The part that is named, else that of which nothing is known.
+pub fn family_of(given: &FlashArgs<'_>) -> Part
+    ensures { result ≡ family_of given.now }
+{
+    part(given.chip.part.unwrap_or("generic")).unwrap_or(Part::Generic)
 }

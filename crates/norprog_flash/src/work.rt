@@ -1,4 +1,4 @@
-//! The work on a chip that was read, saved and planned for.
+//! The work on a chip that was read and planned for.
 
 ghost use Rattle.std.specs.Prelude.{◌≡◌, ◌<◌, ◌≤◌, ◌+◌, ◌-◌, ◌^◌, All, length};
 ghost use Rattle.nor_base.specs.Device.{HaveRoom};
@@ -7,10 +7,8 @@ ghost use Rattle.nor_probe.specs.Compared.{CountsMismatch};
 ghost use Rattle.nor_serprog.specs.Done.{IsDoable};
 ghost use Rattle.nor_serprog.specs.declared.fault.Fault.TheVariants.{Read, Write};
 ghost use Rattle.norprog_flash.specs.Blame.{fault_of_ending};
-ghost use Rattle.norprog_flash.specs.Worked.{IsFailureAt, IsSoOfDone, ReadsBack};
-ghost use Rattle.norprog_flash.specs.Worked.{Showing, WorksOut};
+ghost use Rattle.norprog_flash.specs.Worked.{IsFailureAt, ReadsBack, WorksOut};
 ghost use Rattle.norprog_read.specs.Blame.{CountsBoth};
-ghost use Rattle.norprog_read.specs.Saved.{IsSaved};
 
 use crate::ending::Ending;
 use nor_base::{ByteIn, ByteOut, Meaning, Step};
@@ -18,28 +16,13 @@ use nor_flasher::{Halt, do_steps};
 use nor_probe::Mismatch;
 use nor_reader::{ReadBy, read_again, read_past};
 use nor_serprog::Limits;
-use norprog_common::FileStore;
 use norprog_failure::{Failure, failure_by, failure_of};
 
-/// A chip that can be worked on, and where what it holds is saved.
-#[derive(Drop)]
-pub(crate) struct Bench<'a, S: FileStore> {
-    /// The files.
-    pub(crate) store: &'a S,
-    /// The name of the file in which its content is.
-    pub(crate) before: &'a str,
-    /// Its content, from address 0 on.
-    pub(crate) content: &'a [u8],
-    /// What it means.
-    pub(crate) meaning: &'a Meaning,
-    /// How it is read back.
-    pub(crate) by: ReadBy,
-}
-
 /// Has the device do the steps, and then read the chip, which must give the goal's bytes, and end
-/// there. What it held must be saved first.
-pub(crate) fn do_work<S: FileStore, R: ByteIn, W: ByteOut, P: ByteOut>(
-    bench: &Bench<'_, S>,
+/// there.
+pub(crate) fn do_work<R: ByteIn, W: ByteOut, P: ByteOut>(
+    meaning: &Meaning,
+    by: ReadBy,
     from: &mut R,
     to: &mut W,
     limits: &Limits,
@@ -48,30 +31,24 @@ pub(crate) fn do_work<S: FileStore, R: ByteIn, W: ByteOut, P: ByteOut>(
     goal: &[u8],
     progress: &mut P,
 ) -> Ending
-    requires saved { IsSaved (S.facts bench.now.store.now) bench.now.before.now
-        bench.now.content.now }
     requires form { All IsDoable steps.now }
     requires size { length goal.now ≤ 2 ^ 32 }
     requires room { HaveRoom (R.count from.old) (W.count to.old) }
     requires told { P.count progress.old < 2 ^ 64 - 1 }
     ensures ends { WorksOut (W.held to.old) (W.held to.new) (R.ahead from.old) (R.ahead from.new)
-        limits.now turns bench.now.meaning.now bench.now.by
-        steps.now goal.now result }
-    ensures shown { IsSoOfDone (Showing (P.held progress.old) (P.held progress.new)
-        (P.count progress.old)
-        (P.count progress.new) steps.now) result }
+        limits.now turns meaning.now by steps.now goal.now result }
     ensures counts { CountsBoth (R.count from.old) (R.count from.new) (W.count to.old)
         (W.count to.new) (fault_of_ending result) }
 {
     if let Err(halt) = do_steps(from, to, limits, turns, steps, progress) {
-        let why = failure_at(bench.meaning, steps, halt);
+        let why = failure_at(meaning, steps, halt);
         return Ending::Failed {
             step: halt.step,
             why,
         };
     }
     let transactions = steps.len() as u64;
-    match read_back(from, to, limits, bench.by, goal) {
+    match read_back(from, to, limits, by, goal) {
         Ok(()) => Ending::Done { transactions },
         Err(why) => Ending::Failed {
             step: transactions,

@@ -1,5 +1,5 @@
 -- The files of a job that were opened.
-use Rattle.std.proofs.Common.{◌≡◌, ℕ, List, [], ◌∷◌, ◌++◌, Global, IfErr, Option, Result, Ok, Err, Vec, subst, sym}
+use Rattle.std.proofs.Common.{◌≡◌, ℕ, List, [], ◌∷◌, ◌++◌, Global, IfErr, Option, Some, Result, Ok, Err, Vec, subst, sym}
 use Rattle.std.specs.Prelude.{IsErrAnd}
 use Rattle.nor_base.specs.Device.{Ahead}
 use Rattle.nor_job.specs.Task.{Task}
@@ -10,7 +10,7 @@ use Rattle.norprog_common.specs.declared.faults.Refusal.{Refusal}
 use Rattle.norprog_common.specs.declared.request.Request.{Request}
 use Rattle.norprog_files.specs.Files.{AreUsed, Denied, Denies, Event, Given, Here, IsGiven, IsOpened, NoneUsed, OneUsed, Opened, StopsOpening, came}
 use Rattle.norprog_files.proofs.FilesLemmas.{Inputs}
-use Rattle.norprog_named.specs.Job.{IsJobOf, Named, NoTables, Opens_job, Reading, Reads, ReadsTables, Tables, Unnamed, job_files, named_by, tables_of}
+use Rattle.norprog_named.specs.Job.{IsJobOf, Named, NoChip, NoTables, OfChip, Opens_job, Reading, Reads, ReadsNamed, ReadsTables, Tables, Unnamed, chip_files, job_files, named_by, tables_of}
 
 pub reads_used : (name : FileName) {path bytes : Option (List ℕ)} {log : List Event} → Reads path bytes log → AreUsed (named_by name path) log
 reads_used name Unnamed = NoneUsed
@@ -42,3 +42,13 @@ pub tables_read : (path bits : List ℕ) (result : Result (Vec ℕ Global) Refus
     → Reading ((file.Sfdp, path) ∷ []) (λ bytes. ReadsTables (Sfdp path bits) bytes.items) result (came result (λ bytes. Given path bytes.items) (Denied path))
 tables_read path bits (Ok bytes) denied = Tables path bits bytes.items
 tables_read path bits (Err why) denied = Here file.Sfdp path [] why denied
+
+pub named_used : {chip : Option Origin} {tables : List ℕ} {log : List Event} → ReadsNamed chip tables log → AreUsed (chip_files chip) log
+named_used (NoChip tables) = NoneUsed
+named_used (OfChip origin tables log read) = tables_used read
+
+pub chip_read : (origin : Origin) (result : Result (Vec ℕ Global) Refusal) (log : List Event)
+    → Reading (named_by file.Sfdp (tables_of origin)) (λ bytes. ReadsTables origin bytes.items) result log
+    → Reading (chip_files (Some origin)) (λ tables. ReadsNamed (Some origin) tables.items) result log
+chip_read origin (Ok bytes) log read = OfChip origin bytes.items log read
+chip_read origin (Err why) log stops = stops

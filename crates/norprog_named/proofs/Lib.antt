@@ -6,4 +6,7 @@ mod ListLemmas
 mod RunLemmas
 mod PlanLemmas
 mod ScriptLemmas
-mod AskedLemmas
+mod SavedLemmas
+mod ReadLemmas
+mod PlayLemmas
+mod FlashLemmas

@@ -14,8 +14,9 @@ use Rattle.nor_script.specs.declared.fault.ScriptFault.TheVariants as script
 use Rattle.norprog_common.specs.Chip.{origin_of}
 use Rattle.norprog_common.specs.Setup.{IsKnown, setup_task}
 use Rattle.norprog_files.specs.Files.{Event, Opened}
+use Rattle.norprog_common.specs.Told.{Fails, Output}
 use Rattle.norprog_named.specs.Job.{ReadsTables}
-use Rattle.norprog_named.specs.List.{BadOutput, BadReading, BadScript, EndsList, IsListingOf, Listed, NoMemory, Opens, Opens_script, Sheet, refusal_of}
+use Rattle.norprog_named.specs.List.{BadOutput, BadReading, BadScript, EndsList, IsListingOf, Listed, NoMemory, Opens, Opens_script, refusal_of}
 use Rattle.norprog_named.specs.declared.list_files.ListRequest.{ListRequest}
 
 -- both files of a request are opened
@@ -25,7 +26,7 @@ opens r script len {log = log} is tables =
     subst (λ (u : Task). Opens r u script (log ++ (Opened r.script.now script len ∷ []))) (sym is) (Opens_script _ script len log tables)
 
 -- what was printed of the script, by the chip that is known
-module _ {t : Task} {m : Parameters} {four : Bool} {ahead : Ahead} (Unread : Type 0) (r : ListRequest) (out : Sheet) (rest : Ahead) (log : List Event)
+module _ {t : Task} {m : Parameters} {four : Bool} {ahead : Ahead} (Unread : Type 0) (r : ListRequest) (out : Output) (rest : Ahead) (log : List Event)
     (opened : Opens r t ahead log) (known : IsKnown t m) (begins : four ≡ begins4 m (start_of t)) where
   of : (text : List ℕ) → IsTextOf ahead rest text → IsListingOf r (record { chip = m; four = four; text = text }) log
   of text had = record { task = t; script = ahead; rest = rest; opens = opened; known = known; begins = begins; text = had }
@@ -35,7 +36,7 @@ module _ {t : Task} {m : Parameters} {four : Bool} {ahead : Ahead} (Unread : Typ
 
   -- its reader failed, or the output did, where its count of failures rose
   pub stopped : (n n' k k' : ℕ) (s : Stop) → Lists m four ahead rest out.before out.after (Err s) → CountsStop n n' (Err s) → CountsOut {T = Unit {0}} k k' (Err s)
-      → (n < n' → Unread) → (k < k' → out.failed) → EndsList Unread r out log (Err (refusal_of s))
+      → (n < n' → Unread) → (k < k' → Fails out) → EndsList Unread r out log (Err (refusal_of s))
   stopped n n' k k' (stop.Script (read.Script (script.Header i))) did reads writes unread broke = BadScript _ log (script.Header i) (of did.0 did.1) did.2
   stopped n n' k k' (stop.Script (read.Script (script.BadLine i))) did reads writes unread broke = BadScript _ log (script.BadLine i) (of did.0 did.1) did.2
   stopped n n' k k' (stop.Script (read.Script (script.BadSymbol i))) did reads writes unread broke = BadScript _ log (script.BadSymbol i) (of did.0 did.1) did.2

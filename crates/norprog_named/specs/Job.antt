@@ -3,7 +3,7 @@ use Rattle.std.specs.Prelude.{◌≡◌, ℕ, List, [], ◌∷◌, ◌++◌, Opt
 use Rattle.nor_base.specs.Device.{Ahead}
 use Rattle.nor_job.specs.Task.{Task}
 use Rattle.norprog_common.specs.Chip.{Origin, Sfdp, Uniform, origin_of}
-use Rattle.norprog_common.specs.Served.{Held, task_by}
+use Rattle.norprog_common.specs.Held.{Held, task_by}
 use Rattle.norprog_common.specs.declared.faults.FileName.{FileName}
 use Rattle.norprog_common.specs.declared.faults.FileName.TheVariants as file
 use Rattle.norprog_common.specs.declared.faults.Refusal.{Refusal}
@@ -35,6 +35,16 @@ pub data Reads : Option (List ℕ) → Option (List ℕ) → List Event → Type
 pub data ReadsTables : Origin → List ℕ → List Event → Type 0 where
   Tables : (path bits bytes : List ℕ) → ReadsTables (Sfdp path bits) bytes (Given path bytes ∷ [])
   NoTables : (size : ℕ) (bytes : List ℕ) → ReadsTables (Uniform size) bytes []
+
+-- the file of the tables of a chip that is named, where it has one
+abbrev pub chip_files : Option Origin → List (FileName × List ℕ)
+chip_files None = []
+chip_files (Some origin) = named_by file.Sfdp (tables_of origin)
+
+-- they were read; where no chip is named there are none, and the bytes have no part in it
+pub data ReadsNamed : Option Origin → List ℕ → List Event → Type 0 where
+  NoChip : (tables : List ℕ) → ReadsNamed None tables []
+  OfChip : (origin : Origin) (tables : List ℕ) (log : List Event) → ReadsTables origin tables log → ReadsNamed (Some origin) tables log
 
 -- a reading of such a file: it was read, or it can't be
 abbrev pub Reading : {A : Type 0} → List (FileName × List ℕ) → (A → List Event → Type 0) → Result A Refusal → List Event → Type 0

@@ -10,3 +10,8 @@ pub mod List
 pub mod Run
 pub mod Plan
 pub mod Asked
+pub mod Saved
+pub mod Read
+pub mod Play
+pub mod Flash
+pub mod AskedDevice

@@ -19,6 +19,7 @@ use Rattle.norprog_common.specs.declared.faults.FileName.{FileName}
 use Rattle.norprog_common.specs.declared.faults.FileName.TheVariants as file
 use Rattle.norprog_common.specs.declared.faults.Refusal.{Refusal}
 use Rattle.norprog_common.specs.declared.faults.Refusal.TheVariants.{File, Build, Script}
+use Rattle.norprog_common.specs.Told.{Fails, Output}
 use Rattle.norprog_common.specs.declared.given.ListArgs.{ListArgs}
 use Rattle.norprog_files.specs.Files.{Event, Opened, StopsOpening}
 use Rattle.norprog_named.specs.Job.{ReadsTables, named_by, tables_of}
@@ -32,15 +33,6 @@ is_list given = is_setup given.setup && is_some given.script
 pub record AsksList (given : ListArgs) (request : ListRequest) : Type 0 where
   pub setup : AsksSetup given.setup request.setup
   pub script : given.script ≡ Some request.script
-
--- what is printed on: it failed, what it held before and what it holds
-pub record Sheet : Type 1 where
-  pub failed : Type 0
-  pub before : Option (List ℕ)
-  pub after : Option (List ℕ)
-
-abbrev pub sheet : Type 0 → Option (List ℕ) → Option (List ℕ) → Sheet
-sheet failed before after = record { failed = failed; before = before; after = after }
 
 -- the files that a listing reads, in the order in which they are opened
 abbrev pub list_files : ListRequest → List (FileName × List ℕ)
@@ -74,7 +66,7 @@ refusal_of (stop.Script (read.Device failed)) = File file.Script
 refusal_of (stop.Out failed) = Build fault.Write
 
 -- how `list` ends, and what was done with files by then
-pub data EndsList (Unread : Type 0) (r : ListRequest) (out : Sheet) : List Event → Result ℕ Refusal → Type 0 where
+pub data EndsList (Unread : Type 0) (r : ListRequest) (out : Output) : List Event → Result ℕ Refusal → Type 0 where
   -- the listing of the script was printed
   Listed : (l : Listing) (log : List Event) → IsListingOf r l log → PutsSome (IsWhole l.chip l.four l.text) out.before out.after → EndsList Unread r out log (Ok 0)
   -- a file can't be opened: nothing is printed
@@ -91,5 +83,5 @@ pub data EndsList (Unread : Type 0) (r : ListRequest) (out : Sheet) : List Event
   NoMemory : (l : Listing) (log : List Event) → IsListingOf r l log → PutsSome (AreFirstLines l.chip l.four l.text) out.before out.after
       → EndsList Unread r out log (Err (Build fault.Memory))
   -- printing failed: a proper prefix of the listing was printed, or of the lines of the script's first steps
-  BadOutput : (l : Listing) (log : List Event) → IsListingOf r l log → CutsSome (IsListed l.chip l.four l.text) out.before out.after → out.failed
+  BadOutput : (l : Listing) (log : List Event) → IsListingOf r l log → CutsSome (IsListed l.chip l.four l.text) out.before out.after → Fails out
       → EndsList Unread r out log (Err (Build fault.Write))

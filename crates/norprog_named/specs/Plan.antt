@@ -7,6 +7,7 @@ use Rattle.nor_job.specs.Task.{Task}
 use Rattle.nor_job.specs.declared.fault.BuildFault.TheVariants as fault
 use Rattle.norprog.specs.Plan.{StopsPlan}
 use Rattle.norprog_common.specs.Request as job
+use Rattle.norprog_common.specs.Told.{Fails, Output}
 use Rattle.norprog_common.specs.declared.faults.FileName.TheVariants as file
 use Rattle.norprog_common.specs.declared.faults.Refusal.{Refusal}
 use Rattle.norprog_common.specs.declared.faults.Refusal.TheVariants.{Build}
@@ -14,7 +15,6 @@ use Rattle.norprog_common.specs.declared.given.PlanArgs.{PlanArgs}
 use Rattle.norprog_files.specs.Files.{Event, Leaves, Lost, Made, Sends, StopsOpening}
 use Rattle.norprog_named.specs.Build.{Undone, Work, work}
 use Rattle.norprog_named.specs.Job.{IsJobOf, job_files, named_by}
-use Rattle.norprog_named.specs.List.{Sheet}
 use Rattle.norprog_named.specs.declared.plan_files.MapFile.{MapFile}
 use Rattle.norprog_named.specs.declared.plan_files.PlanRequest.{PlanRequest}
 use Rattle.norprog_plan.specs.Outline.{IsOutline, Outline}
@@ -71,7 +71,7 @@ abbrev pub Untold : Bool → Work → Type 0 → Type 0 → Refusal → Type 0
 Untold strict w = Undone strict w (StopsPlan w.task w.len w.content w.rest w.begun w.ended)
 
 -- how `plan` ends, and what was done with files by then
-pub data EndsPlan (Unread : Type 0) (r : PlanRequest) (out : Sheet) : List Event → Result ℕ Refusal → Type 0 where
+pub data EndsPlan (Unread : Type 0) (r : PlanRequest) (out : Output) : List Event → Result ℕ Refusal → Type 0 where
   -- the lines of the plan and what stands behind them were printed, and its picture went out
   Told : (o : Outline) (job map : List Event) → TellsJob r o job → SendsMap o.picture (map_of r) map → Appends out.before out.after (o.lines ++ o.rest)
       → EndsPlan Unread r out (job ++ map) (Ok 0)
@@ -82,10 +82,10 @@ pub data EndsPlan (Unread : Type 0) (r : PlanRequest) (out : Sheet) : List Event
       → StopsOpening (named_by file.Map (map_of r)) map why → out.after ≡ out.before → EndsPlan Unread r out (job ++ map) (Err why)
   -- the plan isn't told, and the file of the picture is left empty
   NotTold : (t : Task) (content rest : Ahead) (len : ℕ) (job map : List Event) (why : Refusal) → IsJobOf r.job t content len job → LeavesMap (map_of r) map
-      → Untold r.job.strict (work t len content rest out.before out.after) Unread out.failed why → EndsPlan Unread r out (job ++ map) (Err why)
+      → Untold r.job.strict (work t len content rest out.before out.after) Unread (Fails out) why → EndsPlan Unread r out (job ++ map) (Err why)
   -- all lines were printed, and some of the picture hasn't gone out
   Undrawn : (o : Outline) (job map : List Event) → TellsJob r o job → LosesMap (map_of r) map → Appends out.before out.after o.lines
       → EndsPlan Unread r out (job ++ map) (Err (Build fault.Write))
   -- all lines were, the picture went out, and printing failed: a proper prefix of what stands behind the lines was printed
   Unprinted : (o : Outline) (job map : List Event) (middle : Option (List ℕ)) → TellsJob r o job → SendsMap o.picture (map_of r) map → Appends out.before middle o.lines
-      → Cuts middle out.after o.rest → out.failed → EndsPlan Unread r out (job ++ map) (Err (Build fault.Write))
+      → Cuts middle out.after o.rest → Fails out → EndsPlan Unread r out (job ++ map) (Err (Build fault.Write))

@@ -1,7 +1,7 @@
 -- How `script` ends (this project's).
-use Rattle.std.specs.Prelude.{◌≡◌, ℕ, Bool, List, [], ◌∷◌, ◌++◌, Option, Some, None, Result, Ok, Err}
+use Rattle.std.specs.Prelude.{◌≡◌, ℕ, Bool, List, [], ◌∷◌, ◌++◌, Option, Some, None, option_map, Result, Ok, Err}
 use Rattle.nor_job.specs.declared.fault.BuildFault.TheVariants as fault
-use Rattle.norprog_common.specs.Chip.{origin_of}
+use Rattle.norprog_common.specs.Chip.{Origin, origin_of}
 use Rattle.norprog_common.specs.Setup.{setup_task}
 use Rattle.norprog_common.specs.declared.faults.FileName.{FileName}
 use Rattle.norprog_common.specs.declared.faults.FileName.TheVariants as file
@@ -9,19 +9,18 @@ use Rattle.norprog_common.specs.declared.faults.Refusal.{Refusal}
 use Rattle.norprog_common.specs.declared.faults.Refusal.TheVariants.{Build}
 use Rattle.norprog_common.specs.declared.setup.Setup.{Setup}
 use Rattle.norprog_files.specs.Files.{Event, Denied, Denies, Given, IsClosed, Lost, Made, Sent, StopsOpening}
-use Rattle.norprog_named.specs.Job.{ReadsTables, named_by, tables_of}
+use Rattle.norprog_named.specs.Job.{ReadsNamed, chip_files}
 use Rattle.norprog_script.specs.Written.{Source, WasWritten, RefusesLog, foreign, listed}
 use Rattle.norprog_script.specs.declared.request.ScriptRequest.{ScriptRequest}
 use Rattle.norprog_script.specs.declared.tally.Tally.{Tally}
 
--- the tables of the chip of a listing, where it has a file
-abbrev pub chip_file : Option Setup → List (FileName × List ℕ)
-chip_file None = []
-chip_file (Some setup) = named_by file.Sfdp (tables_of (origin_of setup.chip))
+-- the chip of a listing
+abbrev pub origin_in : Option Setup → Option Origin
+origin_in setup = option_map (λ s. origin_of s.chip) setup
 
 -- the files that are read, each with its option, in the order in which they are opened
 abbrev pub script_files : ScriptRequest → List (FileName × List ℕ)
-script_files r = chip_file r.chip ++ ((file.Log, r.log.now) ∷ [])
+script_files r = chip_files (origin_in r.chip) ++ ((file.Log, r.log.now) ∷ [])
 
 -- what the log is: a listing of the chip, which has these tables; else a log of another tool
 abbrev pub source : Bool → Option Setup → List ℕ → Source
@@ -31,14 +30,9 @@ source without (Some setup) tables = listed (setup_task setup tables)
 abbrev pub source_of : ScriptRequest → List ℕ → Source
 source_of r tables = source r.without_identity r.chip tables
 
--- the tables of the chip of a listing were read, where it has a file
-pub data ReadsChip : Option Setup → List ℕ → List Event → Type 0 where
-  NoChip : (tables : List ℕ) → ReadsChip None tables []
-  OfChip : (setup : Setup) (tables : List ℕ) (log : List Event) → ReadsTables (origin_of setup.chip) tables log → ReadsChip (Some setup) tables log
-
--- they were, and then the log was: this is its text
+-- the tables of its chip were read, where they have a file, and then the log was: this is its text
 pub data IsLogOf (r : ScriptRequest) (tables text : List ℕ) : List Event → Type 0 where
-  Read_log : (log : List Event) → ReadsChip r.chip tables log → IsLogOf r tables text (log ++ (Given r.log.now text ∷ []))
+  Read_log : (log : List Event) → ReadsNamed (origin_in r.chip) tables log → IsLogOf r tables text (log ++ (Given r.log.now text ∷ []))
 
 -- how `script` ends, and what was done with files by then
 pub data EndsScript (r : ScriptRequest) : List Event → Result Tally Refusal → Type 0 where

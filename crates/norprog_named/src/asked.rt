@@ -2,11 +2,11 @@
 
 ghost use Rattle.std.specs.Prelude.{◌≡◌, ◌<◌, ◌≤◌, ◌-◌, ◌^◌, IfOk};
 ghost use Rattle.norprog_files.specs.Files.{Did};
-ghost use Rattle.norprog_named.specs.Asked.{Answered, EndsBuildAsked, EndsCheckAsked};
+ghost use Rattle.norprog_common.specs.Told.{output};
+ghost use Rattle.norprog_named.specs.Asked.{EndsBuildAsked, EndsCheckAsked};
 ghost use Rattle.norprog_named.specs.Asked.{EndsDrawAsked, EndsHexAsked, EndsListAsked};
 ghost use Rattle.norprog_named.specs.Asked.{EndsPlanAsked, EndsRunAsked, EndsScriptAsked};
-ghost use Rattle.norprog_named.specs.Asked.{EndsSfdpAsked, told};
-ghost use Rattle.norprog_named.specs.List.{sheet};
+ghost use Rattle.norprog_named.specs.Asked.{EndsSfdpAsked};
 
 use crate::build_files::build;
 use crate::check_files::{check, verdict_status};
@@ -23,7 +23,7 @@ use norprog::{sfdp_text, write_report};
 use norprog_check::write_finding;
 use norprog_common::{
     BuildArgs, CheckArgs, ChipArgs, DrawArgs, HexArgs, ListArgs, PlanArgs, Refusal, RunArgs,
-    ScriptArgs, SetupArgs, answered, request_of as job_of, setup_of,
+    ScriptArgs, SetupArgs, request_of as job_of, setup_of,
 };
 use norprog_draw::request_of as drawing_of;
 use norprog_files::{Files, Trail};
@@ -31,28 +31,8 @@ use norprog_run::{request_of as play_of, status_of, write_verdict};
 use norprog_script::{request_of as log_of, write_tally};
 use std::alloc::Global;
 
-/// Does what the values of a command line of `hex` ask for. A refusal goes to `err`. Returns the
-/// status: 0 done, 1 refused, 2 usage.
-pub fn hex_asked<F: Files, E: ByteOut>(
-    alloc: Global,
-    files: &F,
-    trail: &mut F::Trail,
-    given: HexArgs<'_>,
-    err: &mut E,
-) -> u8
-    requires { E.count err.old < 2 ^ 64 - 1 }
-    ensures status { result ≤ 2 }
-    ensures quiet { result ≡ 0 → err.new ≡ err.old }
-    ensures ends { Did (F.Trail.did trail.old) (F.Trail.did trail.new)
-        (λ log. Answered (told (err.new ≡ err.old) (E.count err.new ≡ E.count err.old)
-        (E.held err.old) (E.held err.new)) result
-        (EndsHexAsked (F.unread files.now) given.entry log)) }
-{
-    answered(hex_given(alloc, files, trail, given), err)
-}
-
-/// Does it. Returns the status, 0.
-fn hex_given<F: Files>(
+/// Does what the values of a command line of `hex` ask for. Returns the status, 0.
+pub fn hex_asked<F: Files>(
     alloc: Global,
     files: &F,
     trail: &mut F::Trail,
@@ -68,31 +48,9 @@ fn hex_given<F: Files>(
     }
 }
 
-/// Does what the values of a command line of `build` ask for. The report goes to `out`, a refusal
-/// to `err`. Returns the status: 0 done, 1 refused, 2 usage.
-pub fn build_asked<F: Files, O: ByteOut, E: ByteOut>(
-    alloc: Global,
-    files: &F,
-    trail: &mut F::Trail,
-    given: BuildArgs<'_>,
-    out: &mut O,
-    err: &mut E,
-) -> u8
-    requires out { O.count out.old < 2 ^ 64 - 1 }
-    requires err { E.count err.old < 2 ^ 64 - 1 }
-    ensures status { result ≤ 2 }
-    ensures quiet { result ≡ 0 → err.new ≡ err.old }
-    ensures ends { Did (F.Trail.did trail.old) (F.Trail.did trail.new)
-        (λ log. Answered (told (err.new ≡ err.old) (E.count err.new ≡ E.count err.old)
-        (E.held err.old) (E.held err.new)) result
-        (EndsBuildAsked (F.unread files.now) given.entry (O.count out.old < O.count out.new)
-        (O.held out.old) (O.held out.new) log)) }
-{
-    answered(build_given(alloc, files, trail, given, out), err)
-}
-
-/// Builds, and prints the report. Returns the status, 0.
-fn build_given<F: Files, O: ByteOut>(
+/// Builds what the values of a command line of `build` ask for, and prints the report. Returns the
+/// status, 0.
+pub fn build_asked<F: Files, O: ByteOut>(
     alloc: Global,
     files: &F,
     trail: &mut F::Trail,
@@ -103,7 +61,7 @@ fn build_given<F: Files, O: ByteOut>(
     ensures status { IfOk result (λ status. status ≡ 0) }
     ensures ends { Did (F.Trail.did trail.old) (F.Trail.did trail.new)
         (λ log. EndsBuildAsked (F.unread files.now) given.entry
-        (O.count out.old < O.count out.new) (O.held out.old) (O.held out.new) log result) }
+        (output O.held O.count out.old out.new) log result) }
 {
     let Some(request) = job_of(given.job) else {
         return Err(Refusal::Usage);
@@ -118,32 +76,9 @@ fn build_given<F: Files, O: ByteOut>(
     }
 }
 
-/// Does what the values of a command line of `check` ask for. What is found goes to `out`, a
-/// refusal to `err`. Returns the status: 0 the script does the job, 1 it doesn't or is refused, 2
-/// usage.
-pub fn check_asked<F: Files, O: ByteOut, E: ByteOut>(
-    alloc: Global,
-    files: &F,
-    trail: &mut F::Trail,
-    given: CheckArgs<'_>,
-    out: &mut O,
-    err: &mut E,
-) -> u8
-    requires out { O.count out.old < 2 ^ 64 - 1 }
-    requires err { E.count err.old < 2 ^ 64 - 1 }
-    ensures status { result ≤ 2 }
-    ensures quiet { result ≡ 0 → err.new ≡ err.old }
-    ensures ends { Did (F.Trail.did trail.old) (F.Trail.did trail.new)
-        (λ log. Answered (told (err.new ≡ err.old) (E.count err.new ≡ E.count err.old)
-        (E.held err.old) (E.held err.new)) result
-        (EndsCheckAsked (F.unread files.now) given.entry
-        (sheet (O.count out.old < O.count out.new) (O.held out.old) (O.held out.new)) log)) }
-{
-    answered(check_given(alloc, files, trail, given, out), err)
-}
-
-/// Checks, and prints what is found. Returns the verdict's status.
-fn check_given<F: Files, O: ByteOut>(
+/// Checks what the values of a command line of `check` ask for, and prints what is found. Returns
+/// the status: 0 the script does the job, 1 it doesn't.
+pub fn check_asked<F: Files, O: ByteOut>(
     alloc: Global,
     files: &F,
     trail: &mut F::Trail,
@@ -154,8 +89,7 @@ fn check_given<F: Files, O: ByteOut>(
     ensures status { IfOk result (λ status. status ≤ 1) }
     ensures ends { Did (F.Trail.did trail.old) (F.Trail.did trail.new)
         (λ log. EndsCheckAsked (F.unread files.now) given.entry
-        (sheet (O.count out.old < O.count out.new) (O.held out.old) (O.held out.new))
-        log result) }
+        (output O.held O.count out.old out.new) log result) }
 {
     let Some(request) = job_of(given.job) else {
         return Err(Refusal::Usage);
@@ -170,27 +104,8 @@ fn check_given<F: Files, O: ByteOut>(
     }
 }
 
-/// Does what the values of a command line of `draw` ask for. A refusal goes to `err`. Returns the
-/// status: 0 done, 1 refused, 2 usage.
-pub fn draw_asked<F: Files, E: ByteOut>(
-    alloc: Global,
-    files: &F,
-    trail: &mut F::Trail,
-    given: DrawArgs<'_>,
-    err: &mut E,
-) -> u8
-    requires { E.count err.old < 2 ^ 64 - 1 }
-    ensures status { result ≤ 2 }
-    ensures quiet { result ≡ 0 → err.new ≡ err.old }
-    ensures ends { Did (F.Trail.did trail.old) (F.Trail.did trail.new)
-        (λ log. Answered (told (err.new ≡ err.old) (E.count err.new ≡ E.count err.old)
-        (E.held err.old) (E.held err.new)) result (EndsDrawAsked given.entry log)) }
-{
-    answered(draw_given(alloc, files, trail, given), err)
-}
-
-/// Does it. Returns the status, 0.
-fn draw_given<F: Files>(
+/// Does what the values of a command line of `draw` ask for. Returns the status, 0.
+pub fn draw_asked<F: Files>(
     alloc: Global,
     files: &F,
     trail: &mut F::Trail,
@@ -206,31 +121,9 @@ fn draw_given<F: Files>(
     }
 }
 
-/// Does what the values of a command line of `script` ask for. The number of steps goes to `out`, a
-/// refusal to `err`. Returns the status: 0 done, 1 refused, 2 usage.
-pub fn script_asked<F: Files, O: ByteOut, E: ByteOut>(
-    alloc: Global,
-    files: &F,
-    trail: &mut F::Trail,
-    given: ScriptArgs<'_>,
-    out: &mut O,
-    err: &mut E,
-) -> u8
-    requires out { O.count out.old < 2 ^ 64 - 1 }
-    requires err { E.count err.old < 2 ^ 64 - 1 }
-    ensures status { result ≤ 2 }
-    ensures quiet { result ≡ 0 → err.new ≡ err.old }
-    ensures ends { Did (F.Trail.did trail.old) (F.Trail.did trail.new)
-        (λ log. Answered (told (err.new ≡ err.old) (E.count err.new ≡ E.count err.old)
-        (E.held err.old) (E.held err.new)) result
-        (EndsScriptAsked given.entry (O.count out.old < O.count out.new) (O.held out.old)
-        (O.held out.new) log)) }
-{
-    answered(script_given(alloc, files, trail, given, out), err)
-}
-
-/// Does it, and prints the number of steps. Returns the status, 0.
-fn script_given<F: Files, O: ByteOut>(
+/// Does what the values of a command line of `script` ask for, and prints the number of steps.
+/// Returns the status, 0.
+pub fn script_asked<F: Files, O: ByteOut>(
     alloc: Global,
     files: &F,
     trail: &mut F::Trail,
@@ -240,8 +133,8 @@ fn script_given<F: Files, O: ByteOut>(
     requires { O.count out.old < 2 ^ 64 - 1 }
     ensures status { IfOk result (λ status. status ≡ 0) }
     ensures ends { Did (F.Trail.did trail.old) (F.Trail.did trail.new)
-        (λ log. EndsScriptAsked given.entry (O.count out.old < O.count out.new) (O.held out.old)
-        (O.held out.new) log result) }
+        (λ log. EndsScriptAsked given.entry (output O.held O.count out.old out.new) log
+        result) }
 {
     let Some(request) = log_of(given) else {
         return Err(Refusal::Usage);
@@ -253,31 +146,9 @@ fn script_given<F: Files, O: ByteOut>(
     }
 }
 
-/// Does what the values of a command line of `sfdp` ask for. The lines go to `out`, a refusal to
-/// `err`. Returns the status: 0 done, 1 refused, 2 usage.
-pub fn sfdp_asked<F: Files, O: ByteOut, E: ByteOut>(
-    alloc: Global,
-    files: &F,
-    trail: &mut F::Trail,
-    given: ChipArgs<'_>,
-    out: &mut O,
-    err: &mut E,
-) -> u8
-    requires out { O.count out.old < 2 ^ 64 - 1 }
-    requires err { E.count err.old < 2 ^ 64 - 1 }
-    ensures status { result ≤ 2 }
-    ensures quiet { result ≡ 0 → err.new ≡ err.old }
-    ensures ends { Did (F.Trail.did trail.old) (F.Trail.did trail.new)
-        (λ log. Answered (told (err.new ≡ err.old) (E.count err.new ≡ E.count err.old)
-        (E.held err.old) (E.held err.new)) result
-        (EndsSfdpAsked given.entry (O.count out.old < O.count out.new)
-        (O.held out.old) (O.held out.new) log)) }
-{
-    answered(sfdp_given(alloc, files, trail, given, out), err)
-}
-
-/// Prints what a chip's tables mean. Returns the status, 0.
-fn sfdp_given<F: Files, O: ByteOut>(
+/// Prints the meaning of the chip that the values of a command line of `sfdp` ask for. Returns the
+/// status, 0.
+pub fn sfdp_asked<F: Files, O: ByteOut>(
     alloc: Global,
     files: &F,
     trail: &mut F::Trail,
@@ -287,8 +158,8 @@ fn sfdp_given<F: Files, O: ByteOut>(
     requires { O.count out.old < 2 ^ 64 - 1 }
     ensures status { IfOk result (λ status. status ≡ 0) }
     ensures ends { Did (F.Trail.did trail.old) (F.Trail.did trail.new)
-        (λ log. EndsSfdpAsked given.entry (O.count out.old < O.count out.new)
-        (O.held out.old) (O.held out.new) log result) }
+        (λ log. EndsSfdpAsked given.entry (output O.held O.count out.old out.new) log
+        result) }
 {
     let alone = SetupArgs {
         chip: given,
@@ -307,31 +178,8 @@ fn sfdp_given<F: Files, O: ByteOut>(
     }
 }
 
-/// Does what the values of a command line of `list` ask for. The listing goes to `out`, a refusal
-/// to `err`. Returns the status: 0 done, 1 refused, 2 usage.
-pub fn list_asked<F: Files, O: ByteOut, E: ByteOut>(
-    alloc: Global,
-    files: &F,
-    trail: &mut F::Trail,
-    given: ListArgs<'_>,
-    out: &mut O,
-    err: &mut E,
-) -> u8
-    requires out { O.count out.old < 2 ^ 64 - 1 }
-    requires err { E.count err.old < 2 ^ 64 - 1 }
-    ensures status { result ≤ 2 }
-    ensures quiet { result ≡ 0 → err.new ≡ err.old }
-    ensures ends { Did (F.Trail.did trail.old) (F.Trail.did trail.new)
-        (λ log. Answered (told (err.new ≡ err.old) (E.count err.new ≡ E.count err.old)
-        (E.held err.old) (E.held err.new)) result
-        (EndsListAsked (F.unread files.now) given.entry
-        (sheet (O.count out.old < O.count out.new) (O.held out.old) (O.held out.new)) log)) }
-{
-    answered(list_given(alloc, files, trail, given, out), err)
-}
-
-/// Lists. Returns the status, 0.
-fn list_given<F: Files, O: ByteOut>(
+/// Lists what the values of a command line of `list` ask for. Returns the status, 0.
+pub fn list_asked<F: Files, O: ByteOut>(
     alloc: Global,
     files: &F,
     trail: &mut F::Trail,
@@ -342,8 +190,7 @@ fn list_given<F: Files, O: ByteOut>(
     ensures status { IfOk result (λ status. status ≡ 0) }
     ensures ends { Did (F.Trail.did trail.old) (F.Trail.did trail.new)
         (λ log. EndsListAsked (F.unread files.now) given.entry
-        (sheet (O.count out.old < O.count out.new) (O.held out.old) (O.held out.new))
-        log result) }
+        (output O.held O.count out.old out.new) log result) }
 {
     match list_of(given) {
         Some(request) => list(alloc, files, trail, request, out),
@@ -351,31 +198,9 @@ fn list_given<F: Files, O: ByteOut>(
     }
 }
 
-/// Does what the values of a command line of `run` ask for. The verdict's line goes to `out`, a
-/// refusal to `err`. Returns the status: 0 played, 1 gone wrong or refused, 2 usage.
-pub fn run_asked<F: Files, O: ByteOut, E: ByteOut>(
-    alloc: Global,
-    files: &F,
-    trail: &mut F::Trail,
-    given: RunArgs<'_>,
-    out: &mut O,
-    err: &mut E,
-) -> u8
-    requires out { O.count out.old < 2 ^ 64 - 1 }
-    requires err { E.count err.old < 2 ^ 64 - 1 }
-    ensures status { result ≤ 2 }
-    ensures quiet { result ≡ 0 → err.new ≡ err.old }
-    ensures ends { Did (F.Trail.did trail.old) (F.Trail.did trail.new)
-        (λ log. Answered (told (err.new ≡ err.old) (E.count err.new ≡ E.count err.old)
-        (E.held err.old) (E.held err.new)) result
-        (EndsRunAsked (F.unread files.now) given.entry
-        (sheet (O.count out.old < O.count out.new) (O.held out.old) (O.held out.new)) log)) }
-{
-    answered(run_given(alloc, files, trail, given, out), err)
-}
-
-/// Plays, and prints the verdict's line. Returns the verdict's status.
-fn run_given<F: Files, O: ByteOut>(
+/// Plays what the values of a command line of `run` ask for, and prints the verdict's line. Returns
+/// its status: 0 played, 1 gone wrong.
+pub fn run_asked<F: Files, O: ByteOut>(
     alloc: Global,
     files: &F,
     trail: &mut F::Trail,
@@ -386,8 +211,7 @@ fn run_given<F: Files, O: ByteOut>(
     ensures status { IfOk result (λ status. status ≤ 1) }
     ensures ends { Did (F.Trail.did trail.old) (F.Trail.did trail.new)
         (λ log. EndsRunAsked (F.unread files.now) given.entry
-        (sheet (O.count out.old < O.count out.new) (O.held out.old) (O.held out.new))
-        log result) }
+        (output O.held O.count out.old out.new) log result) }
 {
     let request = play_of(alloc, given)?;
     let verdict = run(alloc, files, trail, request)?;
@@ -397,31 +221,8 @@ fn run_given<F: Files, O: ByteOut>(
     }
 }
 
-/// Does what the values of a command line of `plan` ask for. The plan goes to `out`, a refusal to
-/// `err`. Returns the status: 0 done, 1 refused, 2 usage.
-pub fn plan_asked<F: Files, O: ByteOut, E: ByteOut>(
-    alloc: Global,
-    files: &F,
-    trail: &mut F::Trail,
-    given: PlanArgs<'_>,
-    out: &mut O,
-    err: &mut E,
-) -> u8
-    requires out { O.count out.old < 2 ^ 64 - 1 }
-    requires err { E.count err.old < 2 ^ 64 - 1 }
-    ensures status { result ≤ 2 }
-    ensures quiet { result ≡ 0 → err.new ≡ err.old }
-    ensures ends { Did (F.Trail.did trail.old) (F.Trail.did trail.new)
-        (λ log. Answered (told (err.new ≡ err.old) (E.count err.new ≡ E.count err.old)
-        (E.held err.old) (E.held err.new)) result
-        (EndsPlanAsked (F.unread files.now) given.entry
-        (sheet (O.count out.old < O.count out.new) (O.held out.old) (O.held out.new)) log)) }
-{
-    answered(plan_given(alloc, files, trail, given, out), err)
-}
-
-/// Plans. Returns the status, 0.
-fn plan_given<F: Files, O: ByteOut>(
+/// Prints the plan that the values of a command line of `plan` ask for. Returns the status, 0.
+pub fn plan_asked<F: Files, O: ByteOut>(
     alloc: Global,
     files: &F,
     trail: &mut F::Trail,
@@ -432,8 +233,7 @@ fn plan_given<F: Files, O: ByteOut>(
     ensures status { IfOk result (λ status. status ≡ 0) }
     ensures ends { Did (F.Trail.did trail.old) (F.Trail.did trail.new)
         (λ log. EndsPlanAsked (F.unread files.now) given.entry
-        (sheet (O.count out.old < O.count out.new) (O.held out.old) (O.held out.new))
-        log result) }
+        (output O.held O.count out.old out.new) log result) }
 {
     match plan_of(given) {
         Some(request) => plan(alloc, files, trail, &request, out),

@@ -2,11 +2,11 @@
 
 ghost use Rattle.std.specs.Prelude.{◌≡◌, IfOk, option_map};
 ghost use Rattle.norprog_common.specs.Chip.{origin_of};
-ghost use Rattle.norprog_common.specs.Served.{held_in, task_by};
+ghost use Rattle.norprog_common.specs.Held.{held_in, task_by};
 ghost use Rattle.norprog_common.specs.declared.faults.FileName.TheVariants.{Sfdp};
 ghost use Rattle.norprog_files.specs.Files.{Did};
-ghost use Rattle.norprog_named.specs.Job.{IsJobOf, Reading, Reads, ReadsTables, job_files};
-ghost use Rattle.norprog_named.specs.Job.{named_by, tables_of};
+ghost use Rattle.norprog_named.specs.Job.{IsJobOf, Reading, Reads, ReadsNamed, ReadsTables};
+ghost use Rattle.norprog_named.specs.Job.{chip_files, job_files, named_by, tables_of};
 
 use norprog_common::{Chip, FileName, Refusal, Request, Texts};
 use norprog_files::{Files, Trail};
@@ -33,7 +33,7 @@ pub(crate) fn open_job<F: Files>(
 }
 
 /// Reads a file whole, where one is named.
-fn read_named<F: Files>(
+pub(crate) fn read_named<F: Files>(
     alloc: Global,
     files: &F,
     trail: &mut F::Trail,
@@ -65,5 +65,22 @@ pub(crate) fn read_tables<F: Files>(
     match chip {
         Chip::Sfdp { file, bits: _ } => files.read(trail, alloc, file, FileName::Sfdp),
         Chip::Uniform(_) => Ok(Vec::new(alloc)),
+    }
+}
+
+/// Reads the tables of a chip that is named, where it has a file.
+pub(crate) fn read_chip<F: Files>(
+    alloc: Global,
+    files: &F,
+    trail: &mut F::Trail,
+    chip: Option<Chip<'_>>,
+) -> Result<Vec<u8>, Refusal>
+    ensures { Did (F.Trail.did trail.old) (F.Trail.did trail.new) (Reading
+        (chip_files (option_map origin_of chip.entry))
+        (λ tables. ReadsNamed (option_map origin_of chip.entry) tables.items) result) }
+{
+    match chip {
+        Some(chip) => read_tables(alloc, files, trail, chip),
+        None => Ok(Vec::new(alloc)),
     }
 }

@@ -2,7 +2,8 @@
 
 ghost use Rattle.std.specs.Prelude.{◌≡◌, ◌<◌, ◌-◌, ◌^◌, is_some, IfOk, IfSome};
 ghost use Rattle.norprog_files.specs.Files.{Did};
-ghost use Rattle.norprog_named.specs.List.{AsksList, EndsList, is_list, refusal_of, sheet};
+ghost use Rattle.norprog_named.specs.List.{AsksList, EndsList, is_list, refusal_of};
+ghost use Rattle.norprog_common.specs.Told.{output};
 
 use crate::job::read_tables;
 use nor_base::ByteOut;
@@ -41,7 +42,7 @@ pub fn list<F: Files, O: ByteOut>(
     requires { O.count out.old < 2 ^ 64 - 1 }
     ensures { Did (F.Trail.did trail.old) (F.Trail.did trail.new)
         (λ log. EndsList (F.unread files.now) request.entry
-        (sheet (O.count out.old < O.count out.new) (O.held out.old) (O.held out.new))
+        (output O.held O.count out.old out.new)
         log result) }
 {
     let tables = read_tables(alloc, files, trail, request.setup.chip)?;

@@ -9,7 +9,7 @@ ghost use Rattle.norprog_common.specs.declared.faults.FileName.TheVariants.{Map}
 ghost use Rattle.norprog_files.specs.Files.{Did, Event};
 ghost use Rattle.norprog_named.specs.Build.{IsFull, work};
 ghost use Rattle.norprog_named.specs.Job.{Reading, named_by};
-ghost use Rattle.norprog_named.specs.List.{sheet};
+ghost use Rattle.norprog_common.specs.Told.{output};
 ghost use Rattle.norprog_named.specs.Plan.{AsksPlan, EndsPlan, LeavesMap, LosesMap, MakesMap};
 ghost use Rattle.norprog_named.specs.Plan.{SendsMap, Untold, shows_of};
 ghost use Rattle.norprog_plan.specs.Outline.{IsOutline, outline};
@@ -67,7 +67,7 @@ pub fn plan<F: Files, O: ByteOut>(
     requires { O.count out.old < 2 ^ 64 - 1 }
     ensures { Did (F.Trail.did trail.old) (F.Trail.did trail.new)
         (λ log. EndsPlan (F.unread files.now) request.now
-        (sheet (O.count out.old < O.count out.new) (O.held out.old) (O.held out.new))
+        (output O.held O.count out.old out.new)
         log result) }
 {
     let (texts, mut content, len) = open_job(alloc, files, trail, &request.job)?;

@@ -1,17 +1,18 @@
 //! `script` on its files.
 
-ghost use Rattle.std.specs.Prelude.{◌≡◌, ◌<◌, ◌-◌, ◌^◌, IfErr, IfOk};
+ghost use Rattle.std.specs.Prelude.{◌≡◌, ◌<◌, ◌-◌, ◌^◌, IfErr, IfOk, option_map};
 ghost use Rattle.nor_job.specs.declared.fault.BuildFault.TheVariants.{Write};
+ghost use Rattle.norprog_common.specs.Chip.{origin_of};
 ghost use Rattle.norprog_common.specs.declared.faults.Refusal.TheVariants.{Build};
 ghost use Rattle.norprog_files.specs.Files.{Did};
 ghost use Rattle.norprog_named.specs.Job.{Reading};
-ghost use Rattle.norprog_named.specs.Script.{EndsScript, IsLogOf, ReadsChip, chip_file};
+ghost use Rattle.norprog_named.specs.Script.{EndsScript, IsLogOf, origin_in};
 ghost use Rattle.norprog_named.specs.Script.{script_files, source_of};
 ghost use Rattle.norprog_script.specs.Written.{RefusesLog, WasWritten};
 
-use crate::job::read_tables;
+use crate::job::read_chip;
 use nor_base::ByteOut;
-use norprog_common::{FileName, Refusal, Setup, setup_inputs};
+use norprog_common::{Chip, FileName, Refusal, Setup, setup_inputs};
 use norprog_files::{Files, Trail};
 use norprog_script::{ScriptRequest, Tally, script_listing, script_log};
 use std::alloc::Global;
@@ -49,24 +50,18 @@ fn read_log<F: Files>(
         (script_files request.entry)
         (λ read. IsLogOf request.entry read.0.items read.1.items) result) }
 {
-    let tables = read_chip(alloc, files, trail, request.chip)?;
+    let tables = read_chip(alloc, files, trail, chip_in(request.chip))?;
     let text = files.read(trail, alloc, request.log, FileName::Log)?;
     Ok((tables, text))
 }
 
-/// Reads the tables of a chip that is said, where it has a file.
-fn read_chip<F: Files>(
-    alloc: Global,
-    files: &F,
-    trail: &mut F::Trail,
-    chip: Option<Setup<'_>>,
-) -> Result<Vec<u8>, Refusal>
-    ensures { Did (F.Trail.did trail.old) (F.Trail.did trail.new) (Reading (chip_file chip.entry)
-        (λ tables. ReadsChip chip.entry tables.items) result) }
+/// The chip of a listing.
+fn chip_in<'a>(setup: Option<Setup<'a>>) -> Option<Chip<'a>>
+    ensures { option_map origin_of result ≡ origin_in setup.entry }
 {
-    match chip {
-        Some(setup) => read_tables(alloc, files, trail, setup.chip),
-        None => Ok(Vec::new(alloc)),
+    match setup {
+        Some(setup) => Some(setup.chip),
+        None => None,
     }
 }
 

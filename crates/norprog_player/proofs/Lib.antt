@@ -9,4 +9,3 @@ mod ComparedLemmas
 mod LikenessLemmas
 pub mod OpenedLemmas
 mod LineLemmas
-pub mod ReportLemmas

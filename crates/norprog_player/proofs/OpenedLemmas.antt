@@ -1,7 +1,6 @@
 -- Where memory is refused after the handshake.
-use Rattle.std.proofs.Common.{◌≡◌, ◌∙◌, ap, Bool, true, false, not, ◌&&◌, ℕ, List, [], ◌∷◌, Option, Ok, Err, Result, inr, refl, sym, subst}
+use Rattle.std.proofs.Common.{◌≡◌, ◌∙◌, ap, Bool, true, false, not, ◌&&◌, ℕ, List, Option, Ok, Err, Result, sym, subst}
 use Rattle.std.specs.Prelude.{MatchResult, IsErrAnd}
-use Rattle.nor_base.specs.declared.meaning.Start.{Start}
 use Rattle.nor_base.specs.declared.step.Step.{Step}
 use Rattle.nor_base.specs.Port.{Shown}
 use Rattle.nor_base.specs.Device.{Ahead}
@@ -10,22 +9,21 @@ use Rattle.nor_serprog.specs.Greeting.{Greeted}
 use Rattle.nor_serprog.specs.Line.{TestsLine}
 use Rattle.nor_job.specs.declared.fault.BuildFault.TheVariants.{Memory}
 use Rattle.nor_serprog.specs.declared.limits.Limits.{Limits}
-use Rattle.norprog_common.specs.FileStore.{FileFacts, Change, Opened as Opening}
 use Rattle.norprog_common.specs.declared.faults.Refusal.TheVariants.{Build}
 use Rattle.norprog_player.specs.declared.ending.Ending.{Ending}
 use Rattle.norprog_device.specs.declared.fault.DeviceFault.{DeviceFault}
 use Rattle.norprog_device.specs.declared.fault.DeviceFault.TheVariants.{Greet, Line}
 use Rattle.norprog_player.specs.declared.unplayed.Unplayed.{Unplayed}
 use Rattle.norprog_player.specs.declared.unplayed.Unplayed.TheVariants.{Refused, Device}
-use Rattle.norprog_device.specs.Blame.{Blames, is_cut}
+use Rattle.norprog_device.specs.Blame.{is_cut}
 use Rattle.norprog_player.specs.Blame.{fault_in}
-use Rattle.norprog_player.specs.Early.{MayPlay, chip_with}
+use Rattle.norprog_player.specs.Early.{MayPlay}
 use Rattle.norprog_player.specs.Ending.{EndsSo}
 use Rattle.norprog_player.specs.Expected.{Expectation}
 use Rattle.norprog_player.specs.Moment.{Moment, moment}
 use Rattle.norprog_device.specs.Opened.{Opens}
 use Rattle.norprog_player.specs.Opened.{FailsTest, GreetsSo, HasPlayed, Releases, StopsBefore, StopsOpening}
-use Rattle.norprog_player.specs.Played.{EndsOnDevice, Stands, StopsPlay}
+use Rattle.norprog_player.specs.Played.{AtGreeting, AtLine, AtMemory, EndsOnDevice, Play, StopsOnDevice, shown_in}
 
 pub for_memory : {T : Type 0} (P : T → Type 0) (first limits : Limits) (before after : Moment) (r : Result T Unplayed) → IsErrAnd r (λ why. why ≡ Refused (Build Memory))
     → GreetsSo before after (Ok limits) → MatchResult r P (StopsBefore first limits before after)
@@ -53,110 +51,58 @@ has_played limits limits' turns turns' x m before between after steps ending sam
       (subst (λ n. EndsSo limits n x m between steps ending after) as_many ends);
 }
 
--- the pins, where more counts as a failure of the writer
-pub releases_wider : (B C : Type 0) → (B → C) → (pins : Bool) (reached after : Moment) → Releases B pins reached after → Releases C pins reached after
-releases_wider B C wider true reached after released = record {
-  shown = released.shown;
-  answer = released.answer;
-  asked = released.asked;
-  sent = λ is. wider (released.sent is);
-}
-releases_wider B C wider false reached after released = released
-
 -- the pins, by what the code says of a request that was cut
-released_so : (Unsent : Type 0) (pins cut cut' : Bool) (reached after : Moment) → cut ≡ cut' → Releases Unsent (pins && not cut) reached after
-    → Releases Unsent (pins && not cut') reached after
-released_so Unsent pins cut cut' reached after same released = subst (λ (b : Bool). Releases Unsent (pins && not b) reached after) same released
+released_so : (pins cut cut' : Bool) (reached after : Moment) → cut ≡ cut' → Releases (pins && not cut) reached after → Releases (pins && not cut') reached after
+released_so pins cut cut' reached after same released = subst (λ (b : Bool). Releases (pins && not b) reached after) same released
 
 -- where none was cut
-uncut : (Unsent : Type 0) (pins : Bool) (reached after : Moment) → Releases Unsent (pins && true) reached after → Releases Unsent pins reached after
-uncut Unsent true reached after released = released
-uncut Unsent false reached after released = released
+uncut : (pins : Bool) (reached after : Moment) → Releases (pins && true) reached after → Releases pins reached after
+uncut true reached after released = released
+uncut false reached after released = released
 
 -- a play on that device of steps that may be played
-pub known_ends : (files : FileFacts) (name : List ℕ) (Made : List Change → Type 0) (limit turns : ℕ) (first limits : Limits) (x : Expectation) (m : Parameters) (content : List ℕ) (steps : List Step) (before reached after : Moment)
-    (cut : Bool) (r : Result Ending Unplayed) → MayPlay (chip_with m x.start content) steps → Stands (files.device name) m x.start content before → turns ≡ limit → first.pins ≡ false
-    → cut ≡ is_cut (fault_in r) → Blames files.unread files.unsent (fault_in r) → Releases files.unsent (limits.pins && not cut) reached after
-    → files.left after.held → Made (Opening name ∷ [])
-    → MatchResult r (λ ending. HasPlayed limits turns x m before steps ending reached) (StopsBefore first limits before reached)
-    → MatchResult r (EndsOnDevice files name Made limit x m content steps) (StopsPlay files name Made m x.start content steps)
-known_ends files name Made limit turns first limits x m content steps before reached after cut (Ok ending) may stands same none so blamed released left made is = record {
-  may = may;
-  before = before;
-  reached = reached;
-  after = after;
-  limits = limits;
-  stands = stands;
-  played = subst (λ n. HasPlayed limits n x m before steps ending reached) same is;
-  released = released_so files.unsent limits.pins cut (is_cut (fault_in (Ok ending))) reached after so released;
-  left = left;
-  blamed = blamed;
-  made = made;
-}
-known_ends files name Made limit turns first limits x m content steps before reached after cut (Err (Device (Greet why))) may stands same none so blamed released left made is =
-    let undriven : limits.pins ≡ false = ap (λ (l : Limits). l.pins) is.stops.0 ∙ none in (
-      record {
+module _ (p : Play) (first limits : Limits) (before reached after : Moment) (cut : Bool) (may : MayPlay (shown_in p) p.steps) (none : first.pins ≡ false)
+    (released : Releases (limits.pins && not cut) reached after) where
+  pub known_ends : (turns : ℕ) (r : Result Ending Unplayed) → turns ≡ p.limit → cut ≡ is_cut (fault_in r)
+      → MatchResult r (λ ending. HasPlayed limits turns p.expected p.meaning before p.steps ending reached) (StopsBefore first limits before reached)
+      → MatchResult r (EndsOnDevice p before after) (StopsOnDevice p before after)
+  known_ends turns (Ok ending) same so is = record {
+    may = may;
+    reached = reached;
+    limits = limits;
+    played = subst (λ n. HasPlayed limits n p.expected p.meaning before p.steps ending reached) same is;
+    released = released_so limits.pins cut (is_cut (fault_in (Ok ending))) reached after so released;
+  }
+  known_ends turns (Err (Device (Greet why))) same so is =
+      let undriven : limits.pins ≡ false = ap (λ (l : Limits). l.pins) is.stops.0 ∙ none in AtGreeting why (record {
         may = may;
-        before = before;
         reached = reached;
-        after = after;
-        stands = stands;
         greeted = record { shown = is.shown; opened = is.stops.1 };
-        released = subst (λ (b : Bool). Releases files.unsent (b && not cut) reached after) undriven released;
-        left = left;
-        made = made;
-      },
-      blamed,
-    )
-known_ends files name Made limit turns first limits x m content steps before reached after cut (Err (Device (Line why))) may stands same none so blamed released left made is = (
-  (
-    limits,
-    record {
-      may = may;
-      before = before;
-      reached = reached;
-      after = after;
-      stands = stands;
-      greeted = record { shown = is.shown; opened = is.stops };
-      released = released_so files.unsent limits.pins cut (is_cut (fault_in (Err (Device (Line why))))) reached after so released;
-      left = left;
-      made = made;
-    },
-  ),
-  blamed,
-)
-known_ends files name Made limit turns first limits x m content steps before reached after cut (Err (Refused (Build Memory))) may stands same none so blamed released left made is = inr (
-  refl,
-  (
-    limits,
-    record {
-      may = may;
-      before = before;
-      reached = reached;
-      after = after;
-      stands = stands;
-      greeted = is;
-      released = uncut files.unsent limits.pins reached after
-          (released_so files.unsent limits.pins cut (is_cut (fault_in (Err (Refused (Build Memory))))) reached after so released);
-      left = left;
-      made = made;
-    },
-  ),
-)
-known_ends files name Made limit turns first limits x m content steps before reached after cut (Err (Refused other)) may stands same none so blamed released left made is = absurd is
-
--- what is handed on of a refusal
-pub handed : {T : Type 0} (P : T → Type 0) (Q : Unplayed → Type 0) (why : Unplayed) (r : Result T Unplayed) → IsErrAnd r (λ other. other ≡ why) → Q why → MatchResult r P Q
-handed P Q why (Ok x) is of = absurd is
-handed P Q why (Err other) is of = subst Q (sym is) of
+        released = subst (λ (b : Bool). Releases (b && not cut) reached after) undriven released;
+      })
+  known_ends turns (Err (Device (Line why))) same so is = AtLine why limits (record {
+    may = may;
+    reached = reached;
+    greeted = record { shown = is.shown; opened = is.stops };
+    released = released_so limits.pins cut (is_cut (fault_in (Err (Device (Line why))))) reached after so released;
+  })
+  known_ends turns (Err (Refused (Build Memory))) same so is = AtMemory limits (record {
+    may = may;
+    reached = reached;
+    greeted = is;
+    released = uncut limits.pins reached after (released_so limits.pins cut (is_cut (fault_in (Err (Refused (Build Memory))))) reached after so released);
+  })
+  known_ends turns (Err (Refused other)) same so is = absurd is
 
 -- a chip in memory beside a reader and a writer as they were opened
-pub stands_so : (Opened : Ahead → Option (List ℕ) → Type 0) (m : Parameters) (start : Start) (content : List ℕ) (shown : Shown) (held held' : Option (List ℕ)) (ahead ahead' : Ahead)
-    → Opened ahead held → shown ≡ chip_with m start content → held' ≡ held → ahead' ≡ ahead → Stands Opened m start content (moment shown held' ahead')
-stands_so Opened m start content shown held held' ahead ahead' opened is taken given = record {
-  ahead = ahead;
-  held = held;
-  opened = opened;
-  is = ap (λ (s : Shown). moment s held' ahead') is ∙ ap (λ o. moment (chip_with m start content) o ahead') taken
-      ∙ ap (λ (o : Ahead). moment (chip_with m start content) held o) given;
-}
+pub begun_so : (now : Shown) (begun : Shown) (held held' : Option (List ℕ)) (ahead ahead' : Ahead) → now ≡ begun → held' ≡ held → ahead' ≡ ahead
+    → moment now held' ahead' ≡ moment begun held ahead
+begun_so now begun held held' ahead ahead' is taken given =
+    ap (λ (s : Shown). moment s held' ahead') is ∙ ap (λ o. moment begun o ahead') taken ∙ ap (λ (o : Ahead). moment begun held o) given
+
+-- a play that began so began as it is said
+pub begun_by : (limits first : Limits) (turns : ℕ) (p : Play) (now begun reached : Moment) (r : Result Ending Unplayed) → now ≡ begun
+    → MatchResult r (λ ending. HasPlayed limits turns p.expected p.meaning now p.steps ending reached) (StopsBefore first limits now reached)
+    → MatchResult r (λ ending. HasPlayed limits turns p.expected p.meaning begun p.steps ending reached) (StopsBefore first limits begun reached)
+begun_by limits first turns p now begun reached r is ends =
+    subst (λ (b : Moment). MatchResult r (λ ending. HasPlayed limits turns p.expected p.meaning b p.steps ending reached) (StopsBefore first limits b reached)) is ends

@@ -17,3 +17,4 @@ pub mod Opened
 pub mod Blame
 pub mod Played
 pub mod State
+pub mod Request

@@ -5,7 +5,6 @@ use Rattle.nor_base.specs.Device.{Ahead}
 use Rattle.nor_base.specs.Parameters.{Parameters}
 use Rattle.nor_job.specs.declared.fault.BuildFault.TheVariants.{Memory}
 use Rattle.nor_serprog.specs.declared.fault.Fault.{Fault}
-use Rattle.nor_serprog.specs.declared.fault.Fault.TheVariants.{Write}
 use Rattle.nor_serprog.specs.declared.limits.Limits.{Limits}
 use Rattle.nor_serprog.specs.Exchange.{Answers, Asks}
 use Rattle.nor_serprog.specs.Greeting.{Greeted, release_bytes}
@@ -63,15 +62,13 @@ StopsBefore first limits before after (Device why) = StopsGreeting first limits 
 StopsBefore first limits before after (Refused (Build Memory)) = GreetsSo before after (Ok limits)
 StopsBefore first limits before after other = ⊥
 
--- the device was asked to drive the pins of the chip no more, whatever it answered; `Unsent`: it failed as it was written to
-pub record LetsGo (Unsent : Type 0) (before after : Moment) : Type 0 where
+-- the device was asked to drive the pins of the chip no more, whatever it answered
+pub record LetsGo (before after : Moment) : Type 0 where
   pub shown : after.shown ≡ before.shown
   pub answer : Result (Unit {0}) Fault
   pub asked : Asks before.held after.held before.ahead after.ahead answer release_bytes (Answers before.ahead after.ahead answer [])
-  -- all of that was sent, unless the device failed as it was written to
-  pub sent : answer ≡ Err Write → Unsent
 
 -- so, where that was to be; else nothing was done
-abbrev pub Releases : Type 0 → Bool → Moment → Moment → Type 0
-Releases Unsent true before after = LetsGo Unsent before after
-Releases Unsent false before after = after ≡ before
+abbrev pub Releases : Bool → Moment → Moment → Type 0
+Releases true before after = LetsGo before after
+Releases false before after = after ≡ before

@@ -32,7 +32,7 @@ use std::alloc::Global;
 /// `Device` where the handshake or the test of the line ended early: nothing was sent to the chip
 /// except what it ignores. `Refused` for `Memory` where a growth is refused: then nothing else was
 /// done.
-pub fn greet_and_play<R: ByteIn + Drop, W: ByteOut + Drop, P: ByteOut>(
+pub(crate) fn greet_and_play<R: ByteIn + Drop, W: ByteOut + Drop, P: ByteOut>(
     alloc: Global,
     meaning: &Meaning,
     expected: Expected<'_>,
@@ -164,12 +164,12 @@ fn test_port<R: ByteIn + Drop, W: ByteOut + Drop>(
 
 /// Has the device of a port drive the pins of the chip no more, where it does, whatever it answers;
 /// after a request that was cut nothing is sent.
-pub fn release_pins<R: ByteIn + Drop, W: ByteOut + Drop>(port: &mut Shadowed<'_, R, W>, cut: bool)
-    requires count { port.old.failed < 2 ^ 64 - 1 }
-    ensures rise { (R.count port.old.from ≤ R.count port.new.from)
-        × (W.count port.old.to ≤ W.count port.new.to) }
-    ensures released { Releases (W.count port.old.to < W.count port.new.to)
-        (port.old.limits.pins && not cut)
+pub(crate) fn release_pins<R: ByteIn + Drop, W: ByteOut + Drop>(
+    port: &mut Shadowed<'_, R, W>,
+    cut: bool,
+)
+    requires { port.old.failed < 2 ^ 64 - 1 }
+    ensures { Releases (port.old.limits.pins && not cut)
         (moment port.old.chip (W.held port.old.to) (R.ahead port.old.from))
         (moment port.new.chip (W.held port.new.to) (R.ahead port.new.from)) }
 {

@@ -3,7 +3,7 @@
 //!
 //! [`job_of`] reads what is to be played from the bytes of the inputs, [`ends_early`] plays it on
 //! the chip in memory, checks that every chip does the same, and tells how it ends whatever the
-//! device is, [`greet_and_play`] does the work from the handshake on, over any reader and writer.
+//! device is, [`play_on`] does the work from the handshake on, over any reader and writer.
 //!
 //! [`play_on_device`] does the work, after the handshake, of steps that went well on the chip in
 //! memory: none goes out before each is one operation of the device and, unless the chip behind the
@@ -25,7 +25,9 @@ mod job;
 mod likeness;
 mod line;
 mod piece;
+mod played;
 mod rehearsal;
+mod request;
 mod script;
 mod state;
 mod step;
@@ -33,17 +35,17 @@ mod together;
 mod unplayed;
 mod within;
 
-pub use blame::fault_in;
 pub use device::play_on_device;
-pub use early::{Early, ends_early, widest};
+pub use early::{Early, ends_early};
 pub use ending::{Ending, Unlike};
 pub use expected::{Expected, known_tables};
-pub use greeted::{greet_and_play, release_pins};
 pub use job::{Job, job_of};
 pub use line::write_ending;
 pub use norprog_device::DeviceFault;
 pub use norprog_failure::Failure;
+pub use played::play_on;
 pub use rehearsal::{Rehearsal, rehearse};
+pub use request::{PlayRequest, request_of};
 pub use state::report_ending;
 pub use unplayed::Unplayed;
 pub use within::carried;

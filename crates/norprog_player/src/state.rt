@@ -1,18 +1,15 @@
 //! What is reported beside an ending, and its status.
 
-ghost use Rattle.std.specs.Prelude.{◌≡◌, ◌≤◌, ◌<◌, ◌-◌, ◌^◌, false, IfOk, IfErr};
+ghost use Rattle.std.specs.Prelude.{◌≡◌, ◌≤◌, ◌<◌, ◌-◌, ◌^◌, false};
 ghost use Rattle.nor_base.specs.Device.{Writes, Counts};
-ghost use Rattle.nor_job.specs.declared.fault.BuildFault.TheVariants.{Write};
-ghost use Rattle.norprog_common.specs.declared.faults.Refusal.TheVariants.{Build};
-ghost use Rattle.norprog_common.specs.Lines.{printed};
-ghost use Rattle.norprog_common.specs.Told.{Tells};
+ghost use Rattle.norprog_common.specs.Told.{Says, output};
+ghost use Rattle.norprog_player.specs.Line.{ending_line};
 ghost use Rattle.norprog_player.specs.State.{is_partial, is_sent, state_told, status_of};
-ghost use Rattle.norprog_player.specs.State.{ReportsEnding};
 
 use crate::ending::Ending;
 use crate::line::write_ending;
 use nor_base::{ByteOut, Failed, put_all};
-use norprog_common::{Refusal, refuse};
+use norprog_common::refuse_lines;
 use norprog_failure::Failure;
 
 /// What is written where the chip may hold a part of what the steps do.
@@ -27,31 +24,15 @@ const STATE: &[u8] =
 pub fn report_ending<O: ByteOut, E: ByteOut>(ending: &Ending, out: &mut O, err: &mut E) -> u8
     requires out { O.count out.old < 2 ^ 64 - 1 }
     requires err { E.count err.old < 2 ^ 64 - 1 }
-    ensures reported { ReportsEnding ending.now (O.count out.old < O.count out.new)
-        (O.held out.old) (O.held out.new) (err.new ≡ err.old)
-        (E.count err.new ≡ E.count err.old) (E.held err.old) (E.held err.new) result }
+    ensures said { Says (state_told ending.now) (ending_line ending.now) (status_of ending.now)
+        (output O.held O.count out.old out.new) (output E.held E.count err.old err.new) result }
     ensures status { result ≤ 1 }
     ensures quiet { result ≡ 0 → err.new ≡ err.old }
 {
     let told = write_state(ending, err);
     match write_ending(ending, out) {
         Ok(()) => status_of(ending),
-        Err(_) => refuse_line(told, err),
-    }
-}
-
-/// Writes that the line of an ending can't be written, where what came before was. Returns the
-/// status, 1.
-fn refuse_line<E: ByteOut>(told: Result<(), Failed>, err: &mut E) -> u8
-    requires { IfOk told (λ _. E.count err.old < 2 ^ 64 - 1) }
-    ensures status { result ≡ 1 }
-    ensures told { IfOk told (λ _. Tells (E.count err.new ≡ E.count err.old)
-        (E.held err.old) (E.held err.new) (printed (Build Write))) }
-    ensures lost { IfErr told (λ _. err.new ≡ err.old) }
-{
-    match told {
-        Ok(()) => refuse(&Refusal::WRITE, err),
-        Err(_) => 1,
+        Err(_) => refuse_lines(told, err),
     }
 }
 

@@ -50,32 +50,12 @@ as_well : (b : Bool) → b && true ≡ b
 as_well true = refl
 as_well false = refl
 
--- a count of failed writes doesn't fall
-writes_stay : (before after : ℕ) (why : Option Fault) → CountsFault Write before after why → before ≤ after
-writes_stay before after None counts = omega (arith, counts)
-writes_stay before after (Some Read) counts = omega (arith, counts)
-writes_stay before after (Some Write) counts = omega (arith, counts)
-writes_stay before after (Some Silent) counts = omega (arith, counts)
-writes_stay before after (Some Nak) counts = omega (arith, counts)
-writes_stay before after (Some Differs) counts = omega (arith, counts)
-
--- pins that were let go, where more counts as a failure
-pub goes_wider : (B C : Type 0) → (B → C) → (j k : Option (List ℕ)) (c d : Ahead) (pins : Bool) → LetsGo B j k c d pins → LetsGo C j k c d pins
-goes_wider B C wider j k c d true goes = (goes.0, goes.1, λ is. wider (goes.2 is))
-goes_wider B C wider j k c d false goes = goes
-
--- where the count rose as they were, it did from the handshake on
-pub goes_in_all : (l m n o : ℕ) (why : Option Fault) (j k : Option (List ℕ)) (c d : Ahead) (pins : Bool) → l ≤ m → CountsFault Write m n why
-    → LetsGo (n < o) j k c d pins → LetsGo (l < o) j k c d pins
-goes_in_all l m n o why j k c d pins first counts goes =
-    let stay : m ≤ n = writes_stay m n why counts in goes_wider (n < o) (l < o) (λ rose. omega (arith, rose)) j k c d pins goes
-
 -- a chip was read after the handshake, and then the pins were let go
-pub opened_by : (Unsent : Type 0) (h i j k : Option (List ℕ)) (a b c d : Ahead) (limits : Limits) (ask : Ask) (r : Result Reading Unread)
+pub opened_by : (h i j k : Option (List ℕ)) (a b c d : Ahead) (limits : Limits) (ask : Ask) (r : Result Reading Unread)
     (pins : Bool) → Greeted h i a b (Ok limits) → IfOk r (λ reading. HasReadTested i j b c limits ask reading)
     → pins ≡ (limits.pins && not (is_cut (fault_in r)))
-    → LetsGo Unsent j k c d pins → IfOk r (λ reading. HasReadOpened Unsent h k a d ask reading)
-opened_by Unsent h i j k a b c d limits ask (Ok reading) pins greeted read is released = record {
+    → LetsGo j k c d pins → IfOk r (λ reading. HasReadOpened h k a d ask reading)
+opened_by h i j k a b c d limits ask (Ok reading) pins greeted read is released = record {
   held = i;
   ahead = b;
   limits = limits;
@@ -83,15 +63,15 @@ opened_by Unsent h i j k a b c d limits ask (Ok reading) pins greeted read is re
   held_late = j;
   ahead_late = c;
   read = read;
-  released = subst (λ (frees : Bool). LetsGo Unsent j k c d frees) (is ∙ as_well limits.pins) released;
+  released = subst (λ (frees : Bool). LetsGo j k c d frees) (is ∙ as_well limits.pins) released;
 }
-opened_by Unsent h i j k a b c d limits ask (Err why) pins greeted read is released = tt
+opened_by h i j k a b c d limits ask (Err why) pins greeted read is released = tt
 
 -- or it stopped
-greeted_stops : (Unsent : Type 0) (h i j k : Option (List ℕ)) (a b c d : Ahead) (limits : Limits) (ask : Ask) (why : Unread) (pins : Bool)
+greeted_stops : (h i j k : Option (List ℕ)) (a b c d : Ahead) (limits : Limits) (ask : Ask) (why : Unread) (pins : Bool)
     → Greeted h i a b (Ok limits) → StopsTested i j b c limits ask why → pins ≡ (limits.pins && not (is_cut (fault_of_stop why)))
-    → LetsGo Unsent j k c d pins → StopsGreeted Unsent h k a d ask why
-greeted_stops Unsent h i j k a b c d limits ask why pins greeted stops is released = record {
+    → LetsGo j k c d pins → StopsGreeted h k a d ask why
+greeted_stops h i j k a b c d limits ask why pins greeted stops is released = record {
   held = i;
   ahead = b;
   limits = limits;
@@ -99,20 +79,20 @@ greeted_stops Unsent h i j k a b c d limits ask why pins greeted stops is releas
   held_late = j;
   ahead_late = c;
   stops = stops;
-  released = subst (λ (frees : Bool). LetsGo Unsent j k c d frees) is released;
+  released = subst (λ (frees : Bool). LetsGo j k c d frees) is released;
 }
 
-pub stops_by : (Unsent : Type 0) (h i j k : Option (List ℕ)) (a b c d : Ahead) (limits : Limits) (ask : Ask) (r : Result Reading Unread) (pins : Bool)
+pub stops_by : (h i j k : Option (List ℕ)) (a b c d : Ahead) (limits : Limits) (ask : Ask) (r : Result Reading Unread) (pins : Bool)
     → Greeted h i a b (Ok limits) → IfErr r (StopsTested i j b c limits ask) → pins ≡ (limits.pins && not (is_cut (fault_in r)))
-    → LetsGo Unsent j k c d pins → IfErr r (StopsOpened Unsent h k a d ask)
-stops_by Unsent h i j k a b c d limits ask (Ok reading) pins greeted stops is released = tt
-stops_by Unsent h i j k a b c d limits ask (Err (Device (Greet why))) pins greeted stops is released = absurd stops
-stops_by Unsent h i j k a b c d limits ask (Err (Device (Line why))) pins greeted stops is released =
-    greeted_stops Unsent h i j k a b c d limits ask (Device (Line why)) pins greeted stops is released
-stops_by Unsent h i j k a b c d limits ask (Err (Refused why)) pins greeted stops is released =
-    greeted_stops Unsent h i j k a b c d limits ask (Refused why) pins greeted stops is released
-stops_by Unsent h i j k a b c d limits ask (Err (Unlike why)) pins greeted stops is released =
-    greeted_stops Unsent h i j k a b c d limits ask (Unlike why) pins greeted stops is released
+    → LetsGo j k c d pins → IfErr r (StopsOpened h k a d ask)
+stops_by h i j k a b c d limits ask (Ok reading) pins greeted stops is released = tt
+stops_by h i j k a b c d limits ask (Err (Device (Greet why))) pins greeted stops is released = absurd stops
+stops_by h i j k a b c d limits ask (Err (Device (Line why))) pins greeted stops is released =
+    greeted_stops h i j k a b c d limits ask (Device (Line why)) pins greeted stops is released
+stops_by h i j k a b c d limits ask (Err (Refused why)) pins greeted stops is released =
+    greeted_stops h i j k a b c d limits ask (Refused why) pins greeted stops is released
+stops_by h i j k a b c d limits ask (Err (Unlike why)) pins greeted stops is released =
+    greeted_stops h i j k a b c d limits ask (Unlike why) pins greeted stops is released
 
 -- a chip that is asked never stops at the device, nor because an output can't be written
 abbrev pub IsOfChip : Unread → Type 0

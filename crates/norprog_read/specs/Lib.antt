@@ -7,11 +7,7 @@ pub mod Modes
 pub mod Size
 pub mod Chip
 pub mod Stops
-pub mod Saved
-pub mod Made
 pub mod Blame
 pub mod Opened
 pub mod Line
 pub mod Request
-pub mod Served
-pub mod Answer

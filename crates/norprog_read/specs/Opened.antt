@@ -1,17 +1,16 @@
 -- A chip that was read, or wasn't, from the handshake on (this project's).
-use Rattle.std.specs.Prelude.{◌⊎◌, ℕ, not, ◌&&◌, List, [], ◌∷◌, Option, Ok, Err}
+use Rattle.std.specs.Prelude.{ℕ, not, ◌&&◌, List, Option, Ok, Err}
 use Rattle.nor_base.specs.Device.{Ahead}
 use Rattle.nor_serprog.specs.declared.limits.Limits.{Limits}
 use Rattle.nor_serprog.specs.Greeting.{Greeted}
 use Rattle.nor_serprog.specs.Line.{TestsLine}
-use Rattle.norprog_common.specs.FileStore.{FileFacts, Change, Opened as Opening}
 use Rattle.norprog_device.specs.declared.fault.DeviceFault.TheVariants.{Greet, Line}
-use Rattle.norprog_device.specs.Blame.{is_cut, Blames}
-use Rattle.norprog_device.specs.Opened.{LacksDevice, LetsGo}
+use Rattle.norprog_device.specs.Blame.{is_cut}
+use Rattle.norprog_device.specs.Opened.{LetsGo}
 use Rattle.norprog_read.specs.declared.asked.Ask.{Ask}
 use Rattle.norprog_read.specs.declared.asked.Reading.{Reading}
 use Rattle.norprog_read.specs.declared.fault.Unread.{Unread}
-use Rattle.norprog_read.specs.declared.fault.Unread.TheVariants.{Refused, Device}
+use Rattle.norprog_read.specs.declared.fault.Unread.TheVariants.{Device}
 use Rattle.norprog_read.specs.Chip.{HasReadChip}
 use Rattle.norprog_read.specs.Blame.{fault_of_stop}
 use Rattle.norprog_read.specs.Stops.{StopsChip}
@@ -40,8 +39,8 @@ StopsTested held_before held_after ahead_before ahead_after limits ask (Device (
 StopsTested held_before held_after ahead_before ahead_after limits ask why =
     StopsReading held_before held_after ahead_before ahead_after limits ask why
 
--- the handshake, the test of the line, the chip, the pins: nothing else was sent (`Unsent`: the device failed as it was written to)
-pub record HasReadOpened (Unsent : Type 0) (held_before held_after : Option (List ℕ)) (ahead_before ahead_after : Ahead) (ask : Ask)
+-- the handshake, the test of the line, the chip, the pins: nothing else was sent
+pub record HasReadOpened (held_before held_after : Option (List ℕ)) (ahead_before ahead_after : Ahead) (ask : Ask)
     (r : Reading) : Type 0 where
   pub held : Option (List ℕ)
   pub ahead : Ahead
@@ -50,11 +49,10 @@ pub record HasReadOpened (Unsent : Type 0) (held_before held_after : Option (Lis
   pub held_late : Option (List ℕ)
   pub ahead_late : Ahead
   pub read : HasReadTested held held_late ahead ahead_late limits ask r
-  pub released : LetsGo Unsent held_late held_after ahead_late ahead_after limits.pins
+  pub released : LetsGo held_late held_after ahead_late ahead_after limits.pins
 
 -- the handshake was done, what came after it stopped so, and the pins were let go, unless a request was cut: then nothing followed it
--- (`Unsent`: the device failed as it was written to)
-pub record StopsGreeted (Unsent : Type 0) (held_before held_after : Option (List ℕ)) (ahead_before ahead_after : Ahead) (ask : Ask)
+pub record StopsGreeted (held_before held_after : Option (List ℕ)) (ahead_before ahead_after : Ahead) (ask : Ask)
     (why : Unread) : Type 0 where
   pub held : Option (List ℕ)
   pub ahead : Ahead
@@ -63,42 +61,11 @@ pub record StopsGreeted (Unsent : Type 0) (held_before held_after : Option (List
   pub held_late : Option (List ℕ)
   pub ahead_late : Ahead
   pub stops : StopsTested held held_late ahead ahead_late limits ask why
-  pub released : LetsGo Unsent held_late held_after ahead_late ahead_after (limits.pins && not (is_cut (fault_of_stop why)))
+  pub released : LetsGo held_late held_after ahead_late ahead_after (limits.pins && not (is_cut (fault_of_stop why)))
 
 -- the handshake stopped so, or what came after it
-abbrev pub StopsOpened : Type 0 → Option (List ℕ) → Option (List ℕ) → Ahead → Ahead → Ask → Unread → Type 0
-StopsOpened Unsent held_before held_after ahead_before ahead_after ask (Device (Greet why)) =
+abbrev pub StopsOpened : Option (List ℕ) → Option (List ℕ) → Ahead → Ahead → Ask → Unread → Type 0
+StopsOpened held_before held_after ahead_before ahead_after ask (Device (Greet why)) =
     Greeted held_before held_after ahead_before ahead_after (Err why)
-StopsOpened Unsent held_before held_after ahead_before ahead_after ask why =
-    StopsGreeted Unsent held_before held_after ahead_before ahead_after ask why
-
--- the device of this name was opened, had this ahead, and had taken that; the chip behind it was read so, and nothing was sent after that
-pub record IsReadOn (files : FileFacts) (device : List ℕ) (ask : Ask) (r : Reading) : Type 0 where
-  pub ahead_first : Ahead
-  pub held_first : Option (List ℕ)
-  pub opened : files.device device ahead_first held_first
-  pub held : Option (List ℕ)
-  pub ahead : Ahead
-  pub read : HasReadOpened files.unsent held_first held ahead_first ahead ask r
-  pub left : files.left held
-
--- or that stopped so; the reader is blamed only where the device failed as it was read, and the writer only where it failed as it was
--- written to
-pub record StopsOnDevice (files : FileFacts) (device : List ℕ) (ask : Ask) (why : Unread) : Type 0 where
-  pub ahead_first : Ahead
-  pub held_first : Option (List ℕ)
-  pub opened : files.device device ahead_first held_first
-  pub held : Option (List ℕ)
-  pub ahead : Ahead
-  pub stops : StopsOpened files.unsent held_first held ahead_first ahead ask why
-  pub left : files.left held
-  pub blamed : Blames files.unread files.unsent (fault_of_stop why)
-
--- just that device was opened, and that stopped so
-abbrev pub StopsNamed : FileFacts → List ℕ → (List Change → Type 0) → Ask → Unread → Type 0
-StopsNamed files device Made ask why = Made (Opening device ∷ []) × StopsOnDevice files device ask why
-
--- why the chip behind it isn't read: it couldn't be opened, or memory ran out before it was, and nothing was changed; or that
-abbrev pub IsUnreadOn : FileFacts → List ℕ → (List Change → Type 0) → Ask → Unread → Type 0
-IsUnreadOn files device Made ask (Refused why) = (LacksDevice files device why × Made []) ⊎ StopsNamed files device Made ask (Refused why)
-IsUnreadOn files device Made ask why = StopsNamed files device Made ask why
+StopsOpened held_before held_after ahead_before ahead_after ask why =
+    StopsGreeted held_before held_after ahead_before ahead_after ask why

@@ -28,12 +28,10 @@ pub fn read_opened<R: ByteIn, W: ByteOut>(
     requires reader { R.count from.old < 2 ^ 64 - 2 }
     requires writer { W.count to.old < 2 ^ 64 - 2 }
     ensures read { IfOk result
-        (λ reading. HasReadOpened (W.count to.old < W.count to.new) (W.held to.old)
-        (W.held to.new) (R.ahead from.old) (R.ahead from.new)
-        ask.now reading) }
+        (λ reading. HasReadOpened (W.held to.old) (W.held to.new) (R.ahead from.old)
+        (R.ahead from.new) ask.now reading) }
     ensures stops { IfErr result
-        (StopsOpened (W.count to.old < W.count to.new) (W.held to.old) (W.held to.new)
-        (R.ahead from.old) (R.ahead from.new)
+        (StopsOpened (W.held to.old) (W.held to.new) (R.ahead from.old) (R.ahead from.new)
         ask.now) }
     ensures blamed { Blames (R.count from.old < R.count from.new)
         (W.count to.old < W.count to.new) (fault_in result) }

@@ -1,8 +1,6 @@
 //! Whole work on chips behind devices in memory: what goes out, what is saved and printed, and how
 //! it ends.
 
-ghost use Rattle.std.specs.Prelude.{◌≡◌, true};
-
 mod rows;
 
 use crate::line::{ANSWERS, PUT, joined};
@@ -10,13 +8,14 @@ use crate::same::{holds, same};
 use crate::scripts::{
     AT_END, BUT_ONE, CELL, DONE, GREETED, GREETING, MANY, PAST, REST, STATUS, STEPS,
 };
-use crate::store::{FromLine, Store, ToLine};
-use nor_base::{FromRead, IntoWrite, Part, put_parts};
+use crate::store::{Store, Untold};
+use nor_base::{IntoWrite, Part, put_parts};
 use nor_script::hex_pair;
-use norprog_common::{ChipArgs, FileStore, Unrecorded, refuse};
+use norprog_common::{Chip, ChipArgs, refuse};
 use norprog_device::refuse_device;
-use norprog_flash::{Ending, FlashArgs, Job, Unflashed, flash_opened, write_ending};
-use norprog_read::{Ask, Known, write_unlike};
+use norprog_flash::{Ending, FlashArgs, FlashRequest, Unflashed, write_ending};
+use norprog_named::flash;
+use norprog_read::{ReadRequest, write_unlike};
 use rows::{DONES, HALVES, KEPTS, UNLIKES};
 use std::alloc::{AllocError, Global};
 use std::cell::Cell;
@@ -193,6 +192,7 @@ fn line_of(alloc: Global, ended: Result<Ending, Unflashed>) -> Vec<u8> {
 fn store_of<'a>(
     alloc: Global,
     row: &Row,
+    old: &'a [u8],
     answers: &'a [u8],
     cut: Option<usize>,
     put: &'a Cell<Vec<u8>>,
@@ -202,8 +202,8 @@ fn store_of<'a>(
     let place = if row.free { Some(saved) } else { None };
     Store {
         alloc,
-        content: &[],
-        script: "",
+        content: old,
+        script: row.hex,
         tables: &[],
         answers,
         end: row.end,
@@ -222,11 +222,18 @@ fn flashes(rt: &impl Abort, alloc: Global, row: &Row) -> Result<(), AllocError> 
     let saved = Cell::new(Vec::new(alloc));
     let want = wanted(alloc, row)?;
     let cut = row.cut.then_some(want.len());
-    let store = store_of(alloc, row, answers.as_slice(), cut, &put, &left, &saved);
-    match store.open_device(&mut Unrecorded, alloc, "device") {
-        Ok(line) => works(rt, alloc, &store, line, row)?,
-        Err(_) => holds(rt, "a device", false),
-    }
+    let old = old_in(alloc, row)?;
+    let store = store_of(
+        alloc,
+        row,
+        old.as_slice(),
+        answers.as_slice(),
+        cut,
+        &put,
+        &left,
+        &saved,
+    );
+    works(rt, alloc, &store, row)?;
     let found = put.replace(Vec::new(alloc));
     same(rt, "how many were put", found.len(), want.len());
     holds(rt, "what was put", found.as_slice() == want.as_slice());
@@ -273,61 +280,44 @@ fn no_texts(alloc: Global) -> FlashArgs<'static> {
     }
 }
 
-/// The job of a row, on a chip of 8 KiB without tables.
-fn job_of<'a>(row: &Row, old: &'a [u8], texts: &'a FlashArgs<'a>) -> Job<'a>
-    ensures whole { result.ask.content ≡ true }
-{
-    let older = if row.old.is_some() { Some(old) } else { None };
-    Job {
-        ask: Ask {
-            known: Known::Uniform(8192),
-            bits: "",
-            part: Part::Generic,
-            mode4: false,
-            turns: 3,
-            content: true,
-            erased_only: false,
-            raw: false,
-            fresh: true,
-            any_size: false,
-        },
-        hex: row.hex.as_bytes(),
+/// What is asked of a chip of 8 KiB without tables, whose image is the file `script`, and the older
+/// dump the file `content`.
+fn request_of<'a>(row: &Row, texts: &'a FlashArgs<'a>) -> FlashRequest<'a> {
+    let read = ReadRequest {
+        chip: Some(Chip::Uniform(8192)),
+        bits: "",
+        part: Part::Generic,
+        mode4: false,
+        device: "device",
+        limit: 3,
+        tables: None,
+        out: Some("before"),
+        raw: false,
+        fresh: true,
+        any_size: false,
+    };
+    FlashRequest {
+        read,
+        hex: "script",
         layout: None,
-        regions: &[],
         base: 0,
-        old: older,
         before: "before",
+        resume: row.old.map(|_| "content"),
+        erased_only: false,
         strict: false,
-        dry: row.dry,
+        dry_run: row.dry,
+        regions: &[],
         texts,
     }
 }
 
-/// Does the work of a row over this line, and compares what is printed.
-fn works(
-    rt: &impl Abort,
-    alloc: Global,
-    store: &Store<'_>,
-    line: (FromRead<FromLine<'_>>, IntoWrite<ToLine<'_>>),
-    row: &Row,
-) -> Result<(), AllocError> {
-    let old = old_in(alloc, row)?;
-    let mut from = FromRead::new(line.0.into_inner());
-    let mut to = IntoWrite::new(line.1.into_inner());
+/// Does the work of a row, and compares what is printed.
+fn works(rt: &impl Abort, alloc: Global, store: &Store<'_>, row: &Row) -> Result<(), AllocError> {
     let mut out = IntoWrite::new(Held::new(alloc, 1000));
     let mut progress = IntoWrite::new(Held::new(alloc, 1000));
     let texts = no_texts(alloc);
-    let job = job_of(row, old.as_slice(), &texts);
-    let ended = flash_opened(
-        alloc,
-        store,
-        &mut Unrecorded,
-        &mut from,
-        &mut to,
-        &job,
-        &mut out,
-        &mut progress,
-    );
+    let request = request_of(row, &texts);
+    let ended = flash(alloc, store, &mut Untold, &request, &mut out, &mut progress);
     let line = line_of(alloc, ended);
     holds(rt, "the line", line.as_slice() == row.line);
     let plan = out.into_inner().bytes;

@@ -4,10 +4,10 @@ mod rows;
 
 use crate::line::{ANSWERS, PUT, joined};
 use crate::same::{holds, same};
-use crate::store::Store;
+use crate::store::{Store, Untold};
 use nor_base::IntoWrite;
-use norprog_common::{ChipArgs, PlayArgs, SetupArgs, Unlisted, Unrecorded};
-use norprog_play::play;
+use norprog_common::{ChipArgs, PlayArgs, SetupArgs};
+use norprog_named::play_asked;
 use rows::{CUTS, DONES, HALVES, LINES, UNLIKES};
 use std::alloc::{AllocError, Global};
 use std::cell::Cell;
@@ -245,12 +245,10 @@ fn tells<'a>(
     let mut out = IntoWrite::new(Held::new(alloc, row.room));
     let mut err = IntoWrite::new(Held::new(alloc, 1000));
     let mut progress = IntoWrite::new(Held::new(alloc, 1000));
-    let mut journal = Unrecorded;
-    let code = play(
+    let code = play_asked(
         alloc,
         &store,
-        &mut journal,
-        &mut Unlisted,
+        &mut Untold,
         given(row),
         &mut out,
         &mut err,

@@ -1,17 +1,15 @@
 //! Files in memory, and the device that a play opens beside them.
 
-ghost use Rattle.std.specs.Prelude.{◌≤◌, ◌^◌, length, IfOk, IfErr};
-ghost use Rattle.norprog_common.specs.Files.{RefusesFile, IsOfFiles};
+ghost use Rattle.std.specs.Prelude.{IfErr};
+ghost use Rattle.norprog_files.specs.Files.{Denies};
 
 use nor_base::{Failed, FromRead, IntoWrite};
-use norprog_common::{FileId, FileName, FileStore, Refusal, ScriptFile, Unlisted, Unrecorded};
+use norprog_common::{FileName, Refusal};
+use norprog_files::{Files, Trail};
 use std::alloc::Global;
 use std::cell::Cell;
 use std::io;
 use test_devices::{Canned, End};
-
-/// A file of more bytes isn't read whole.
-const MOST_BYTES: u64 = 1 << 36;
 
 /// The files `content`, `script` and `tables`, and a device that gives these answers, whose writer
 /// fails once, after so many bytes. What it took, and how many bytes of its answers are left. Where
@@ -79,35 +77,31 @@ impl<'a> io::Write for ToLine<'a> {
 }
 
 impl<'a> Store<'a> {
-    /// The file of this name, and which one it is.
-    fn file(&self, path: &str, name: FileName) -> Result<(&'a [u8], FileId), Refusal>
-        ensures refused { IfErr result (RefusesFile name) }
-        ensures files { IfErr result IsOfFiles }
+    /// The file of this name.
+    fn file(&self, path: &str, name: FileName) -> Result<&'a [u8], Refusal>
+        ensures { IfErr result (Denies name) }
     {
-        let (bytes, inode): (&'a [u8], u64) = match path {
-            "content" => (self.content, 0),
-            "script" => (self.script.as_bytes(), 1),
-            "tables" => (self.tables, 2),
-            _ => return Err(Refusal::File(name)),
-        };
-        Ok((bytes, FileId { device: 0, inode }))
+        match path {
+            "content" => Ok(self.content),
+            "script" => Ok(self.script.as_bytes()),
+            "tables" => Ok(self.tables),
+            _ => Err(Refusal::File(name)),
+        }
     }
 }
 
-/// The bytes of a file, where there are at most 2^36.
-fn whole(alloc: Global, bytes: &[u8], name: FileName) -> Result<Vec<u8>, Refusal>
-    ensures length { IfOk result (λ read. length read.items ≤ 2 ^ 36) }
-    ensures refused { IfErr result (RefusesFile name) }
-    ensures files { IfErr result IsOfFiles }
-{
-    if bytes.len() as u64 > MOST_BYTES {
-        return Err(Refusal::File(name));
-    }
-    Ok(Vec::from_slice(alloc, bytes)?)
+/// Notes nothing of what is done with files.
+#[derive(Drop)]
+pub(crate) struct Untold;
+
+impl Trail for Untold {
+    ghost use Rattle.std.specs.Prelude.{⊤};
+
+    ghost did = { λ _ _. ⊤ };
 }
 
-impl<'a> FileStore for Store<'a> {
-    ghost use Rattle.norprog_common.specs.FileStore.{nothing_known};
+impl<'a> Files for Store<'a> {
+    ghost use Rattle.std.specs.Prelude.{⊤};
 
     type Input = FromRead<&'a [u8]>;
 
@@ -117,60 +111,48 @@ impl<'a> FileStore for Store<'a> {
 
     type ToDevice = IntoWrite<ToLine<'a>>;
 
-    type Journal = Unrecorded;
+    type Trail = Untold;
 
-    type Ledger = Unlisted;
+    ghost unread = { λ _. ⊤ };
 
-    ghost facts = { λ _. nothing_known };
-
-    fn read(
-        &self,
-        _ledger: &mut Unlisted,
-        alloc: Global,
-        path: &str,
-        name: FileName,
-    ) -> Result<(Vec<u8>, FileId), Refusal> {
-        let (bytes, place) = self.file(path, name)?;
-        Ok((whole(alloc, bytes, name)?, place))
-    }
+    ghost failing = { λ _ _ _. tt };
 
     fn open(
         &self,
-        _ledger: &mut Unlisted,
+        _trail: &mut Untold,
         path: &str,
         name: FileName,
-    ) -> Result<(FromRead<&'a [u8]>, FileId, u64), Refusal> {
-        let (bytes, place) = self.file(path, name)?;
-        Ok((FromRead::new(bytes), place, bytes.len() as u64))
+    ) -> Result<(FromRead<&'a [u8]>, u64), Refusal> {
+        let bytes = self.file(path, name)?;
+        Ok((FromRead::new(bytes), bytes.len() as u64))
     }
 
-    fn open_script(
+    fn read(
         &self,
-        _ledger: &mut Unlisted,
-        _alloc: Global,
+        _trail: &mut Untold,
+        alloc: Global,
         path: &str,
-    ) -> Result<(ScriptFile<FromRead<&'a [u8]>>, FileId), Refusal> {
-        let (bytes, place) = self.file(path, FileName::Script)?;
-        Ok((
-            ScriptFile::Twice(FromRead::new(bytes), FromRead::new(bytes)),
-            place,
-        ))
+        name: FileName,
+    ) -> Result<Vec<u8>, Refusal> {
+        match Vec::from_slice(alloc, self.file(path, name)?) {
+            Ok(bytes) => Ok(bytes),
+            Err(_) => Err(Refusal::MEMORY),
+        }
     }
 
     fn create(
         &self,
-        _journal: &mut Unrecorded,
+        _trail: &mut Untold,
         _alloc: Global,
         _path: &str,
         name: FileName,
-        _inputs: &[FileId],
     ) -> Result<IntoWrite<Vec<u8>>, Refusal> {
         Err(Refusal::File(name))
     }
 
     fn create_new(
         &self,
-        _journal: &mut Unrecorded,
+        _trail: &mut Untold,
         alloc: Global,
         _path: &str,
         name: FileName,
@@ -181,7 +163,12 @@ impl<'a> FileStore for Store<'a> {
         }
     }
 
-    fn flush(&self, file: IntoWrite<Vec<u8>>) -> Result<(), Failed> {
+    fn close(
+        &self,
+        _trail: &mut Untold,
+        _path: &str,
+        file: IntoWrite<Vec<u8>>,
+    ) -> Result<(), Failed> {
         let Some(saved) = self.saved else {
             return Err(Failed);
         };
@@ -194,7 +181,7 @@ impl<'a> FileStore for Store<'a> {
 
     fn open_device(
         &self,
-        _journal: &mut Unrecorded,
+        _trail: &mut Untold,
         _alloc: Global,
         _path: &str,
     ) -> Result<(FromRead<FromLine<'a>>, IntoWrite<ToLine<'a>>), Refusal> {
@@ -215,13 +202,23 @@ impl<'a> FileStore for Store<'a> {
         Ok((FromRead::new(from), IntoWrite::new(to)))
     }
 
-    fn close_device(&self, _from: FromRead<FromLine<'a>>, _to: IntoWrite<ToLine<'a>>) {}
+    fn close_device(
+        &self,
+        _trail: &mut Untold,
+        _path: &str,
+        _from: FromRead<FromLine<'a>>,
+        _to: IntoWrite<ToLine<'a>>,
+    ) {}
 
-    fn is_regular(&self, path: &str) -> bool {
+    fn is_regular(&self, _trail: &mut Untold, path: &str) -> bool {
         self.file(path, FileName::Script).is_ok()
     }
 
-    fn trouble(&self, _alloc: Global, _path: &str) -> Option<String> {
+    fn trouble(&self, _trail: &mut Untold, _alloc: Global, _path: &str) -> Option<String> {
+        None
+    }
+
+    fn device_trouble(&self, _trail: &mut Untold, _alloc: Global, _path: &str) -> Option<String> {
         None
     }
 }

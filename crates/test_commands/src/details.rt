@@ -2,8 +2,8 @@
 
 use crate::same::holds;
 use nor_base::IntoWrite;
-use norprog_common::{SystemFiles, Unlisted};
 use norprog_details::{CommandLine, Typed, write_details};
+use norprog_files::{Places, System};
 use std::test::Fail;
 
 /// A line of a command. Each option has a file of its own, which is there, so no word of the system
@@ -89,8 +89,8 @@ fn details_name_the_option_and_explain(rt: HostRuntime) -> Result<(), Fail> {
         let mut told = IntoWrite::new(Vec::new(rt.alloc()));
         write_details(
             rt.alloc(),
-            &SystemFiles::new(&rt),
-            &mut Unlisted,
+            &System::new(&rt),
+            &mut Places::new(rt.alloc()),
             LINE,
             refusal.as_bytes(),
             &mut told,

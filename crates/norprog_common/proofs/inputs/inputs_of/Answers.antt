@@ -1,8 +1,8 @@
 -- The inputs are the request's task, with what the files hold.
 use Rattle.std.proofs.Common.{ap, ◌∙◌}
 use Rattle.norprog_common.specs.Chip.{origin_of, task_chip}
-use Rattle.norprog_common.specs.Served.{held_in}
-use Rattle.norprog_common.proofs.ServedLemmas.{rebuilt_exactly}
+use Rattle.norprog_common.specs.Held.{held_in}
+use Rattle.norprog_common.proofs.HeldLemmas.{rebuilt_exactly}
 use Rattle.norprog_common.proofs.inputs.inputs_of.Goals as goal
 
 pub returns : goal.returns

@@ -1,9 +1,15 @@
--- The option is one whose file may be asked about.
-use Rattle.std.proofs.Common.{sym}
+-- At most one question.
+use Rattle.std.proofs.Common.{[]}
+use Rattle.norprog_details.specs.Details.{NoLook}
+use Rattle.norprog_details.proofs.LookLemmas.{asked}
+use Rattle.norprog_files.proofs.FilesLemmas.{adds_none}
 use Rattle.norprog_details.proofs.details.trouble_of.Goals as goal
 
-pub trouble-requires : goal.trouble-requires
-trouble-requires g c = c.requires (sym c.if-is_read.ensures)
+pub returns-then-not-is_read : goal.returns-then-not-is_read
+returns-then-not-is_read g c = ([], adds_none _, NoLook)
 
-pub device_trouble-requires : goal.device_trouble-requires
-device_trouble-requires g c = c.requires (sym c.if-is_read.ensures)
+pub returns-then-eq : goal.returns-then-eq
+returns-then-eq g c = (_, c.device_trouble.ensures, asked _)
+
+pub returns-else-eq : goal.returns-else-eq
+returns-else-eq g c = (_, c.trouble.ensures, asked _)

@@ -5,4 +5,4 @@ use Rattle.norprog_device.proofs.line.refuse_device.Goals as goal
 
 pub returns-clause-told : goal.returns-clause-told
 returns-clause-told g c =
-    wrote _ _ _ _ c.write_device.result (device_line c.args.fault) c.write_device.ensures.bytes c.write_device.ensures.count
+    wrote g.E.ByteOut.held g.E.ByteOut.count _ _ c.write_device.result (device_line c.args.fault) c.write_device.ensures.bytes c.write_device.ensures.count

@@ -1,31 +1,23 @@
--- The chip's state was written first, where it is to be.
-use Rattle.std.proofs.Common.{◌≡◌, inl, inr, rules}
+-- The chip's state was told first, where it is to be.
+use Rattle.std.proofs.Common.{◌<◌, arith}
 use Rattle.nor_job.specs.declared.fault.BuildFault.TheVariants.{Write}
 use Rattle.norprog_common.specs.declared.faults.Refusal.TheVariants.{Build}
 use Rattle.norprog_common.specs.Lines.{printed}
-use Rattle.norprog_common.proofs.TellsLemmas.{told_then}
+use Rattle.norprog_common.specs.Told.{All_said, Cut_off}
+use Rattle.norprog_common.proofs.TellsLemmas.{told_then, wrote}
 use Rattle.norprog_flash.specs.Answer.{state_told}
-use Rattle.norprog_flash.specs.Line.{is_partial}
-use Rattle.norprog_flash.proofs.ReportLemmas.{tells}
 use Rattle.norprog_flash.proofs.report.report_ending.Goals as goal
 
-pub returns-in-Ok-clause-reported : goal.returns-in-Ok-clause-reported
-returns-in-Ok-clause-reported g c =
-    inl (record {
-      by_it = c.status_of.ensures;
-      printed = c.in-Ok.ensures.bytes;
-      told = tells c.args.given.now (c.write_state-told.new.err ≡ c.args.err.now) _ _ _ _ (is_partial c.args.ending) c.write_state-told.result
-          c.write_state-told.ensures.bytes c.write_state-told.ensures.count c.write_state-told.ensures.quiet;
-    })
+pub returns-in-Ok-clause-said : goal.returns-in-Ok-clause-said
+returns-in-Ok-clause-said g c =
+    All_said c.status_of.ensures c.in-Ok.ensures.bytes
+    (wrote g.E.ByteOut.held g.E.ByteOut.count _ _ c.write_state-told.result (state_told c.args.ending c.args.given.now) c.write_state-told.ensures.bytes
+    c.write_state-told.ensures.count)
 
--- that the line can't be written came behind it
-pub returns-in-Err-clause-reported : goal.returns-in-Err-clause-reported
-returns-in-Err-clause-reported g c =
-    inr (record {
-      one = c.refuse_line.ensures.status;
-      cut = c.in-Err.ensures.bytes;
-      broke = search rules;
-      told = told_then g.E.ByteOut.held g.E.ByteOut.count c.args.err.now c.write_state-told.new.err c.refuse_line.new.err c.write_state-told.result
-          (state_told c.args.ending c.args.given.now) (printed (Build Write)) c.write_state-told.ensures.bytes c.write_state-told.ensures.count
-          c.refuse_line.ensures.told c.refuse_line.ensures.lost;
-    })
+-- that the line can't be printed came after it
+pub returns-in-Err-clause-said : goal.returns-in-Err-clause-said
+returns-in-Err-clause-said g c =
+    Cut_off c.refuse_lines.ensures.status c.in-Err.ensures.bytes (omega (arith, c.in-Err.ensures.count))
+    (told_then g.E.ByteOut.held g.E.ByteOut.count c.args.err.now c.write_state-told.new.err c.refuse_lines.new.err c.write_state-told.result
+    (state_told c.args.ending c.args.given.now) (printed (Build Write)) c.write_state-told.ensures.bytes c.write_state-told.ensures.count
+    c.refuse_lines.ensures.told c.refuse_lines.ensures.lost)

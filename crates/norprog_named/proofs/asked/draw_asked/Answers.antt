@@ -1,8 +1,11 @@
--- How its answer ends.
-use Rattle.norprog_named.proofs.AskedLemmas.{answer_ends}
+-- The request that the values spell, or usage.
+use Rattle.std.proofs.Common.{[], sym}
+use Rattle.norprog_files.proofs.FilesLemmas.{adds_none}
+use Rattle.norprog_named.specs.Asked.{Formed, Unformed}
 use Rattle.norprog_named.proofs.asked.draw_asked.Goals as goal
 
-pub returns-clause-ends : goal.returns-clause-ends
-returns-clause-ends g c =
-    let did = c.draw_given.ensures.ends in
-    (did.0, did.1, (c.draw_given.result, did.2, answer_ends _ _ c.draw_given.result c.answered.ensures.done c.answered.ensures.told))
+pub returns-in-Some-clause-ends : goal.returns-in-Some-clause-ends
+returns-in-Some-clause-ends g c = (c.draw.ensures.0, c.draw.ensures.1, Formed c.in-Some.request c.draw.ensures.0 c.draw.result c.in-Some.ensures.values c.draw.ensures.2)
+
+pub returns-in-None-clause-ends : goal.returns-in-None-clause-ends
+returns-in-None-clause-ends g c = ([], adds_none _, Unformed (sym c.in-None.ensures.forms))

@@ -1,8 +1,33 @@
--- How its answer ends.
-use Rattle.norprog_named.proofs.AskedLemmas.{answer_ends}
+-- The request that the values spell, or usage; and its number of steps.
+use Rattle.std.proofs.Common.{[], arith, refl, sym}
+use Rattle.nor_base.proofs.FaultLaws.{answered}
+use Rattle.norprog_files.proofs.FilesLemmas.{adds_none}
+use Rattle.norprog_named.specs.Asked.{CutOff, EndsScriptAsked, Formed, Printed, Unformed, Unworked}
 use Rattle.norprog_named.proofs.asked.script_asked.Goals as goal
 
-pub returns-clause-ends : goal.returns-clause-ends
-returns-clause-ends g c =
-    let did = c.script_given.ensures.ends in
-    (did.0, did.1, (c.script_given.result, did.2, answer_ends _ _ c.script_given.result c.answered.ensures.done c.answered.ensures.told))
+pub returns-in_default-clause-ends : goal.returns-in_default-clause-ends
+returns-in_default-clause-ends g c = ([], adds_none _, Unformed (sym c.in_default.ensures.forms, refl))
+
+pub returns-in_err-tally-clause-ends : goal.returns-in_err-tally-clause-ends
+returns-in_err-tally-clause-ends g c =
+    let did = c.in_err-tally.ensures in (
+      did.0,
+      did.1,
+      answered _ (EndsScriptAsked c.args.given _ did.0) _
+          (Formed c.in-Some.request did.0 _ c.in-Some.ensures.values (Unworked _ did.2 refl))
+          c.from_residual.ensures.1,
+    )
+
+pub returns-in-Ok-clause-ends : goal.returns-in-Ok-clause-ends
+returns-in-Ok-clause-ends g c =
+    let did = c.in_ok-tally.ensures in
+    (did.0, did.1, Formed c.in-Some.request did.0 _ c.in-Some.ensures.values (Printed c.in_ok-tally.tally did.2 c.in-Ok.ensures.bytes))
+
+pub returns-in-Err-clause-ends : goal.returns-in-Err-clause-ends
+returns-in-Err-clause-ends g c =
+    let did = c.in_ok-tally.ensures in (
+      did.0,
+      did.1,
+      Formed c.in-Some.request did.0 _ c.in-Some.ensures.values
+          (CutOff c.in_ok-tally.tally did.2 c.in-Err.ensures.bytes (omega (arith, c.in-Err.ensures.count))),
+    )

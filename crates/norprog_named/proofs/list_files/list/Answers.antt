@@ -6,7 +6,8 @@ use Rattle.norprog_common.specs.Setup.{setup_task}
 use Rattle.norprog_common.specs.declared.faults.FileName.TheVariants as file
 use Rattle.norprog_files.specs.Files.{Here}
 use Rattle.norprog_files.proofs.FilesLemmas.{adds_both, stops_after, stops_before}
-use Rattle.norprog_named.specs.List.{EndsList, NoChip, NoInput, sheet}
+use Rattle.norprog_named.specs.List.{EndsList, NoChip, NoInput}
+use Rattle.norprog_common.specs.Told.{between}
 use Rattle.norprog_named.proofs.JobLemmas.{tables_used}
 use Rattle.norprog_named.proofs.ListLemmas.{listed, opens, stopped}
 use Rattle.norprog_named.proofs.list_files.list.Goals as goal
@@ -16,7 +17,7 @@ returns-in_err-tables g c =
     let did = c.in_err-tables.ensures in (
       did.0,
       did.1,
-      answered _ (EndsList _ c.args.request (sheet (g.O.ByteOut.count c.args.out.now < g.O.ByteOut.count c.args.out.now) _ _) did.0) _
+      answered _ (EndsList _ c.args.request (between _ _ (g.O.ByteOut.count c.args.out.now) (g.O.ByteOut.count c.args.out.now)) did.0) _
           (NoInput did.0 _ (stops_before _ did.2) refl) c.from_residual.ensures.1,
     )
 
@@ -26,7 +27,7 @@ returns-in_err-script g c =
     let script = c.args.request.script.now in (
       _,
       adds_both tables.1 c.in_err-script.ensures.did,
-      answered _ (EndsList _ c.args.request (sheet (g.O.ByteOut.count c.args.out.now < g.O.ByteOut.count c.args.out.now) _ _) _) _
+      answered _ (EndsList _ c.args.request (between _ _ (g.O.ByteOut.count c.args.out.now) (g.O.ByteOut.count c.args.out.now)) _) _
           (NoInput _ _ (stops_after (tables_used tables.2) (Here file.Script script [] _ c.in_err-script.ensures.refused)) refl) c.from_residual-in_err-script.ensures.1,
     )
 
@@ -36,7 +37,7 @@ returns-in_err-meaning g c =
     let is = c.setup_inputs-inputs.ensures ∙ ap (setup_task c.args.request.setup) c.as_slice.ensures.value in (
       _,
       adds_both tables.1 c.in_ok-script.ensures.did,
-      answered _ (EndsList _ c.args.request (sheet (g.O.ByteOut.count c.args.out.now < g.O.ByteOut.count c.args.out.now) _ _) _) _
+      answered _ (EndsList _ c.args.request (between _ _ (g.O.ByteOut.count c.args.out.now) (g.O.ByteOut.count c.args.out.now)) _) _
           (NoChip _ _ _ _ (opens c.args.request _ c.in_ok-script._len is tables.2) c.in_err-meaning.ensures.refused refl) c.from_residual-in_err-meaning.ensures.1,
     )
 

@@ -6,7 +6,7 @@ use Rattle.nor_base.proofs.DeviceLaws.{Appends-append}
 use Rattle.nor_base.proofs.FaultLaws.{answered}
 use Rattle.norprog_files.proofs.FilesLemmas.{adds_both}
 use Rattle.norprog_plan.specs.Outline.{outline}
-use Rattle.norprog_named.specs.List.{sheet}
+use Rattle.norprog_common.specs.Told.{between}
 use Rattle.norprog_named.specs.Plan.{EndsPlan, NoInput, NoMap, NotTold, SendsMap, Told, Undrawn, Unprinted, map_of}
 use Rattle.norprog_named.proofs.BuildLemmas.{job_by, wider}
 use Rattle.norprog_named.proofs.PlanLemmas.{tells_job}
@@ -18,7 +18,7 @@ returns-in_err-texts g c =
     let count = g.O.ByteOut.count c.args.out.now in (
       did.0,
       did.1,
-      answered _ (EndsPlan (g.F.Files.unread c.args.files.now) c.args.request.now (sheet (count < count) _ _) did.0) _ (NoInput did.0 _ did.2 refl)
+      answered _ (EndsPlan (g.F.Files.unread c.args.files.now) c.args.request.now (between _ _ count count) did.0) _ (NoInput did.0 _ did.2 refl)
           c.from_residual.ensures.1,
     )
 
@@ -29,7 +29,7 @@ returns-in_err-map g c =
     let count = g.O.ByteOut.count c.args.out.now in (
       _,
       adds_both job.1 did.1,
-      answered _ (EndsPlan (g.F.Files.unread c.args.files.now) c.args.request.now (sheet (count < count) _ _) (job.0 ++ did.0)) _
+      answered _ (EndsPlan (g.F.Files.unread c.args.files.now) c.args.request.now (between _ _ count count) (job.0 ++ did.0)) _
           (NoMap _ _ c.in_ok-texts.len job.0 did.0 _ job.2 did.2 refl) c.from_residual-in_err-map.ensures.1,
     )
 

@@ -1,0 +1,43 @@
+-- What has gone out of what was gathered, and what is told of it.
+use Rattle.std.proofs.Common.{◌≡◌, ◌∙◌, ◌≤◌, ℕ, List, [], Option, Some, None, ap, append-nil, refl, subst}
+use Rattle.std.specs.Io.KnownBytes.{append_known, Keeps}
+use Rattle.norprog_cli.specs.Ends.{IsLeft}
+use Rattle.norprog_command.specs.Answers.{AnswersWords, screen}
+use Rattle.norprog_common.specs.Told.{Output, Tells, between, output}
+use Rattle.norprog_files.specs.Files.{Event}
+
+-- with nothing more, known bytes are the same
+pub nothing_more : (known : Option (List ℕ)) → append_known known [] ≡ known
+nothing_more None = refl
+nothing_more (Some bytes) = ap (λ (all : List ℕ). Some all) (append-nil bytes)
+
+-- nothing was gathered
+pub keeps_all : (known : Option (List ℕ)) → Keeps known (append_known known [])
+keeps_all None = tt
+keeps_all (Some bytes) = append-nil bytes
+
+-- nothing had been gathered before, this is left, and the device failed at most as often by then
+pub is_left : (held printed after : Option (List ℕ)) (gathered left : List ℕ) (m n k : ℕ) → gathered ≡ [] → Keeps printed (append_known after left) → n ≤ k
+    → IsLeft (between (append_known held gathered) printed m n) (between held after m k) left
+is_left held printed after gathered left m n k none kept rose = record {
+  before = ap (λ (rest : List ℕ). append_known held rest) none ∙ nothing_more held;
+  after = kept;
+  failures = refl;
+  failed = rose;
+}
+
+-- nothing is left of it
+pub all_gone : {printed out : Output} {left : List ℕ} → left ≡ [] → IsLeft printed out left → IsLeft printed out []
+all_gone {printed = printed} {out = out} gone is = subst (λ (rest : List ℕ). IsLeft printed out rest) gone is
+
+module _ {E : Type 0} (held : E → Option (List ℕ)) (count : E → ℕ) {old new : E} where
+  -- a command that is done has told nothing
+  pub at_zero : {Unread : Type 0} {words : List (List ℕ)} {printed : Output} {status : ℕ} {log : List Event} → (status ≡ 0 → new ≡ old) → status ≡ 0
+      → AnswersWords Unread words (screen printed (output held count old new)) status log → AnswersWords Unread words (screen printed (output held count old old)) 0 log
+  at_zero {Unread} {words} {printed} {status} {log} quiet zero answers =
+      subst (λ (n : ℕ). AnswersWords Unread words (screen printed (output held count old old)) n log) zero
+      (subst (λ (e : E). AnswersWords Unread words (screen printed (output held count old e)) status log) (quiet zero) answers)
+
+  -- so what is told then is all
+  pub told_from : (last : E) (text : List ℕ) → new ≡ old → Tells (output held count new last) text → Tells (output held count old last) text
+  told_from last text same told = subst (λ (e : E). Tells (output held count e last) text) same told

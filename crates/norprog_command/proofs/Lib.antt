@@ -1,2 +1,0 @@
-mod DetailsLemmas
-mod WaitingLemmas

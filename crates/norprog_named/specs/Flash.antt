@@ -1,0 +1,127 @@
+-- How `flash` ends (this project's).
+use Rattle.std.specs.Prelude.{◌≡◌, ℕ, ◌&&◌, not, List, [], ◌∷◌, ◌++◌, Option, Some, option_map, Result, Ok, Err}
+use Rattle.nor_job.specs.declared.fault.BuildFault.{BuildFault}
+use Rattle.nor_serprog.specs.Greeting.{Greeted}
+use Rattle.nor_serprog.specs.declared.fault.GreetFault.{GreetFault}
+use Rattle.nor_serprog.specs.declared.limits.Limits.{Limits}
+use Rattle.norprog_common.specs.Chip.{origin_of}
+use Rattle.norprog_common.specs.declared.faults.FileName.{FileName}
+use Rattle.norprog_common.specs.declared.faults.FileName.TheVariants as file
+use Rattle.norprog_common.specs.declared.faults.Refusal.{Refusal}
+use Rattle.norprog_common.specs.declared.faults.Refusal.TheVariants.{Build}
+use Rattle.norprog_device.specs.Blame.{is_cut}
+use Rattle.norprog_device.specs.Opened.{LetsGo}
+use Rattle.norprog_device.specs.declared.fault.DeviceFault.TheVariants.{Greet}
+use Rattle.norprog_files.specs.Files.{Event, Denied, Denies, Given, StopsOpening, Unwired, Wire, Wired}
+use Rattle.norprog_flash.specs.Blame.{fault_in}
+use Rattle.norprog_flash.specs.Early.{IsSoundEarly, RefusesEarly}
+use Rattle.norprog_flash.specs.Opened.{EndsTested, HasHeld, StopsHolding}
+use Rattle.norprog_flash.specs.Stops.{CantPlan}
+use Rattle.norprog_flash.specs.declared.ending.Ending.{Ending}
+use Rattle.norprog_flash.specs.declared.ending.Unflashed.{Unflashed}
+use Rattle.norprog_flash.specs.declared.ending.Unflashed.TheVariants.{Device, Refused}
+use Rattle.norprog_flash.specs.declared.job.Job.{Job}
+use Rattle.norprog_flash.specs.declared.request.FlashRequest.{FlashRequest}
+use Rattle.norprog_named.specs.Job.{Reads, ReadsNamed, chip_files, named_by}
+use Rattle.norprog_named.specs.Saved.{Saves}
+use Rattle.norprog_named.specs.declared.flash_files.FlashTexts.{FlashTexts}
+use Rattle.norprog_read.specs.Request.{IsAskOf}
+use Rattle.norprog_read.specs.declared.asked.Reading.{Reading}
+use Rattle.norprog_read.specs.declared.request.ReadRequest.{ReadRequest}
+
+-- what standard output held before, and holds
+pub record Prints : Type 0 where
+  pub before : Option (List ℕ)
+  pub after : Option (List ℕ)
+
+abbrev pub prints : Option (List ℕ) → Option (List ℕ) → Prints
+prints before after = record { before = before; after = after }
+
+-- the files that are read, each with its option, in their order
+abbrev pub flash_files : FlashRequest → List (FileName × List ℕ)
+flash_files r =
+    (file.Hex, r.hex.now) ∷ (named_by file.Layout (option_map (λ t. t.now) r.layout) ++ (chip_files (option_map origin_of r.read.chip)
+    ++ named_by file.Resume (option_map (λ t. t.now) r.resume)))
+
+-- each was read whole, and has these bytes
+pub data ReadsFlash (r : FlashRequest) (held : FlashTexts) : List Event → Type 0 where
+  Reads_all : (layout tables old : List Event) → Reads (option_map (λ t. t.now) r.layout) (option_map (λ bytes. bytes.items) held.layout) layout
+      → ReadsNamed (option_map origin_of r.read.chip) held.sfdp.items tables
+      → Reads (option_map (λ t. t.now) r.resume) (option_map (λ bytes. bytes.items) held.old) old
+      → ReadsFlash r held (Given r.hex.now held.hex.items ∷ (layout ++ (tables ++ old)))
+
+-- how the chip is read: its content too, which is saved
+abbrev pub reading_of : FlashRequest → ReadRequest
+reading_of r = record {
+  chip = r.read.chip;
+  bits = r.read.bits;
+  part = r.read.part;
+  mode4 = r.read.mode4;
+  device = r.read.device;
+  limit = r.read.limit;
+  tables = r.read.tables;
+  out = Some r.before;
+  raw = r.read.raw;
+  fresh = r.read.fresh;
+  any_size = r.read.any_size;
+}
+
+-- the job of a request, whose files have these bytes
+pub record IsJobOf (r : FlashRequest) (held : FlashTexts) (job : Job) : Type 0 where
+  pub ask : IsAskOf (reading_of r) held.sfdp.items job.ask
+  pub erased_only : job.ask.erased_only ≡ r.erased_only
+  pub hex : job.hex.now ≡ held.hex.items
+  pub layout : option_map (λ t. t.now) job.layout ≡ option_map (λ bytes. bytes.items) held.layout
+  pub regions : job.regions.now ≡ r.regions.now
+  pub base : job.base ≡ r.base
+  pub old : option_map (λ t. t.now) job.old ≡ option_map (λ bytes. bytes.items) held.old
+  pub strict : job.strict ≡ r.strict
+  pub dry : job.dry ≡ r.dry_run
+  pub texts : job.texts.now ≡ r.texts.now
+
+-- how a job ends on a device that reported these limits, while its line goes from this to that; what the chip held is saved in the file of
+-- this name
+pub data EndsHeld (limits : Limits) (name : List ℕ) (job : Job) (begun done : Wire) (out : Prints) : List Event → Result Ending Unflashed → Type 0
+  where
+    -- what the chip held is saved, and then the work on it ended so
+    Ended : (r : Reading) (saved : List Event) (ending : Ending) → Saves name file.Before r.content.items saved (Ok tt)
+        → EndsTested limits job begun.sent done.sent begun.ahead done.ahead out.before out.after r ending → EndsHeld limits name job begun done out saved (Ok ending)
+    -- the chip isn't read, or can't take the work
+    NotHeld : (why : Unflashed) → StopsHolding limits job begun.sent done.sent begun.ahead done.ahead why → out.after ≡ out.before
+        → EndsHeld limits name job begun done out [] (Err why)
+    -- it was read, and nothing else was sent; what it holds can't be saved
+    NotSaved : (r : Reading) (saved : List Event) (why : Refusal) → HasHeld limits job begun.sent done.sent begun.ahead done.ahead r
+        → Saves name file.Before r.content.items saved (Err why) → out.after ≡ out.before → EndsHeld limits name job begun done out saved (Err (Refused why))
+    -- that is saved, and nothing else was sent; the work can't be planned or printed
+    NotPlanned : (r : Reading) (saved : List Event) (why : Refusal) → HasHeld limits job begun.sent done.sent begun.ahead done.ahead r
+        → Saves name file.Before r.content.items saved (Ok tt) → CantPlan job r out.before out.after why
+        → EndsHeld limits name job begun done out saved (Err (Refused why))
+
+-- from the handshake on, while its line goes from this to that
+pub data EndsGreeted (name : List ℕ) (job : Job) (first last : Wire) (out : Prints) : List Event → Result Ending Unflashed → Type 0 where
+  -- the device reported these limits, and the job ended so; then the pins were let go, unless a request was cut
+  Session : (limits : Limits) (begun done : Wire) (log : List Event) (answer : Result Ending Unflashed)
+      → Greeted first.sent begun.sent first.ahead begun.ahead (Ok limits) → EndsHeld limits name job begun done out log answer
+      → LetsGo done.sent last.sent done.ahead last.ahead (limits.pins && not (is_cut (fault_in answer))) → EndsGreeted name job first last out log answer
+  -- the handshake ended early
+  NotGreeted : (why : GreetFault) → Greeted first.sent last.sent first.ahead last.ahead (Err why) → out.after ≡ out.before
+      → EndsGreeted name job first last out [] (Err (Device (Greet why)))
+
+-- of a job on the device of a name
+pub data EndsJob (device name : List ℕ) (job : Job) (out : Prints) : List Event → Result Ending Unflashed → Type 0 where
+  -- it has no fault that shows before its chip is read, and ended so on the device, which was closed
+  OnDevice : (first last : Wire) (log : List Event) (answer : Result Ending Unflashed) → IsSoundEarly job → EndsGreeted name job first last out log answer
+      → EndsJob device name job out (Wired device first ∷ (log ++ (Unwired device last ∷ []))) answer
+  -- it has one: no device is opened
+  Faulty : (why : BuildFault) → RefusesEarly job why → out.after ≡ out.before → EndsJob device name job out [] (Err (Refused (Build why)))
+  -- the device can't be opened
+  NoDevice : (why : Refusal) → IsSoundEarly job → Denies file.Device why → out.after ≡ out.before
+      → EndsJob device name job out (Denied device ∷ []) (Err (Refused why))
+
+-- how `flash` ends, and what was done with files by then
+pub data EndsFlash (r : FlashRequest) (out : Prints) : List Event → Result Ending Unflashed → Type 0 where
+  -- the files were read, and their job ended so
+  Worked : (held : FlashTexts) (job : Job) (read work : List Event) (answer : Result Ending Unflashed) → ReadsFlash r held read → IsJobOf r held job
+      → EndsJob r.read.device.now r.before.now job out work answer → EndsFlash r out (read ++ work) answer
+  -- one can't be read
+  NoInput : (log : List Event) (why : Refusal) → StopsOpening (flash_files r) log why → out.after ≡ out.before → EndsFlash r out log (Err (Refused why))

@@ -1,0 +1,86 @@
+-- How `play` ends (this project's).
+use Rattle.std.specs.Prelude.{◌≡◌, ℕ, List, [], ◌∷◌, ◌++◌, Result, Ok, Err}
+use Rattle.nor_base.specs.Device.{Ahead}
+use Rattle.nor_base.specs.Port.{Shown}
+use Rattle.nor_job.specs.Status.{start_of}
+use Rattle.nor_job.specs.Task.{Task}
+use Rattle.nor_job.specs.declared.fault.BuildFault.TheVariants.{Memory, Read}
+use Rattle.norprog_common.specs.Chip.{origin_of}
+use Rattle.norprog_common.specs.Setup.{setup_task}
+use Rattle.norprog_common.specs.declared.faults.FileName.{FileName}
+use Rattle.norprog_common.specs.declared.faults.FileName.TheVariants as file
+use Rattle.norprog_common.specs.declared.faults.Refusal.{Refusal}
+use Rattle.norprog_common.specs.declared.faults.Refusal.TheVariants.{Build, File}
+use Rattle.norprog_files.specs.Files.{Event, Denied, Denies, Opened, StopsOpening, Unwired, Wire, Wired}
+use Rattle.norprog_named.specs.Job.{ReadsTables, named_by, tables_of}
+use Rattle.norprog_player.specs.Early.{EndsInMemory, MayPlay}
+use Rattle.norprog_player.specs.Expected.{Expectation}
+use Rattle.norprog_player.specs.Job.{IsReady, RefusesJob}
+use Rattle.norprog_player.specs.Moment.{Moment, moment}
+use Rattle.norprog_player.specs.Played.{EndsOnDevice, Play, StopsOnDevice, shown_in}
+use Rattle.norprog_player.specs.Tables as chip
+use Rattle.norprog_player.specs.declared.ending.Ending.{Ending}
+use Rattle.norprog_player.specs.declared.request.PlayRequest.{PlayRequest}
+use Rattle.norprog_player.specs.declared.unplayed.Unplayed.{Unplayed}
+use Rattle.norprog_player.specs.declared.unplayed.Unplayed.TheVariants.{Refused}
+
+-- the files that are opened, in their order
+abbrev pub play_files : PlayRequest → List (FileName × List ℕ)
+play_files r = named_by file.Sfdp (tables_of (origin_of r.setup.chip)) ++ ((file.Content, r.content.now) ∷ (file.Script, r.script.now) ∷ [])
+
+-- what a play is read from: the task that has the chip, what is ahead of the content's reader and how many bytes that has, what is ahead of
+-- the script's, and what is ahead of both after they were read
+pub record Sources : Type 0 where
+  pub task : Task
+  pub content : Ahead
+  pub len : ℕ
+  pub script : Ahead
+  pub content_rest : Ahead
+  pub script_rest : Ahead
+
+-- those files were opened, and have this
+pub data Opens (r : PlayRequest) (s : Sources) : List Event → Type 0 where
+  Opens_all : (tables : List ℕ) (len : ℕ) (log : List Event) → ReadsTables (origin_of r.setup.chip) tables log → s.task ≡ setup_task r.setup tables
+      → Opens r s (log ++ (Opened r.content.now s.content s.len ∷ Opened r.script.now s.script len ∷ []))
+
+-- the chip that is expected of a request
+abbrev pub expects : PlayRequest → Task → Expectation
+expects r t = record { part = t.part; start = start_of t; tables = chip.tables_of t.chip; trusted = r.trust }
+
+-- the play is that of a request: the steps of the script, on the chip of the tables with the content, as the files have them
+pub record IsPlayOf (r : PlayRequest) (p : Play) (log : List Event) : Type 0 where
+  pub sources : Sources
+  pub opens : Opens r sources log
+  pub ready : IsReady sources.task sources.script sources.script_rest sources.len sources.content sources.content_rest p.meaning p.steps p.content
+  pub expected : p.expected ≡ expects r sources.task
+  pub limit : p.limit ≡ r.limit
+
+-- what the chip in memory, a device beside it and its line are, as that was opened
+abbrev pub begun : Play → Wire → Moment
+begun p wire = moment (shown_in p) wire.sent wire.ahead
+
+-- how a play ends, by the device of this name
+pub data EndsPlaying (device : List ℕ) (p : Play) : List Event → Result Ending Unplayed → Type 0 where
+  -- it ends so on any device: none is opened
+  InMemory : (ending : Ending) → EndsInMemory (shown_in p) p.steps ending → EndsPlaying device p [] (Ok ending)
+  NoMemory : EndsPlaying device p [] (Err (Refused (Build Memory)))
+  -- the device can't be opened
+  NoDevice : (why : Refusal) → MayPlay (shown_in p) p.steps → Denies file.Device why → EndsPlaying device p (Denied device ∷ []) (Err (Refused why))
+  -- it ended so on the device, which was closed
+  OnDevice : (first last : Wire) (shown : Shown) (ending : Ending) → EndsOnDevice p (begun p first) (moment shown last.sent last.ahead) ending
+      → EndsPlaying device p (Wired device first ∷ Unwired device last ∷ []) (Ok ending)
+  -- the device can't be used, or memory ran out after its handshake
+  Stopped : (first last : Wire) (shown : Shown) (why : Unplayed) → StopsOnDevice p (begun p first) (moment shown last.sent last.ahead) why
+      → EndsPlaying device p (Wired device first ∷ Unwired device last ∷ []) (Err why)
+
+-- how `play` ends, and what was done with files by then
+pub data EndsPlay (Unread : Type 0) (r : PlayRequest) : List Event → Result Ending Unplayed → Type 0 where
+  -- the play of the files ended so
+  Played : (p : Play) (opened played : List Event) (answer : Result Ending Unplayed) → IsPlayOf r p opened → EndsPlaying r.device.now p played answer
+      → EndsPlay Unread r (opened ++ played) answer
+  -- a file can't be opened
+  NoInput : (log : List Event) (why : Refusal) → StopsOpening (play_files r) log why → EndsPlay Unread r log (Err (Refused why))
+  -- the chip, the script or the content is refused: no device is opened
+  NoPlay : (s : Sources) (log : List Event) (why : Refusal) → Opens r s log
+      → RefusesJob s.task s.script s.script_rest s.len s.content s.content_rest why → (why ≡ File file.Script → Unread) → (why ≡ Build Read → Unread)
+      → EndsPlay Unread r log (Err (Refused why))

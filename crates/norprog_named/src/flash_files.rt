@@ -1,0 +1,243 @@
+//! `flash` on its files and its device.
+
+ghost use Rattle.std.specs.Prelude.{◌≡◌, ◌<◌, ◌≤◌, ◌+◌, ◌-◌, ◌^◌};
+ghost use Rattle.std.specs.Prelude.{◌&&◌, not, true, option_map, IfOk};
+ghost use Rattle.norprog_device.specs.Blame.{is_cut};
+ghost use Rattle.norprog_files.specs.Files.{Did, wire};
+ghost use Rattle.norprog_flash.specs.Blame.{fault_in as told_in};
+ghost use Rattle.norprog_named.specs.Flash.{EndsFlash, EndsGreeted, EndsHeld, EndsJob, IsJobOf};
+ghost use Rattle.norprog_named.specs.Flash.{ReadsFlash, flash_files, prints, reading_of};
+ghost use Rattle.norprog_named.specs.Job.{Reading};
+
+use crate::job::{read_chip, read_named};
+use crate::saved::save;
+use nor_base::{ByteIn, ByteOut};
+use nor_serprog::{Limits, greet};
+use norprog_common::{FileName, Refusal};
+use norprog_device::{DeviceFault, is_cut, let_go};
+use norprog_files::{Files, Trail};
+use norprog_flash::{Ending, FlashRequest, Job, Unflashed, fault_in, go_on, hold, look_at};
+use norprog_read::{Ask, ReadRequest, ask_of};
+use std::alloc::Global;
+
+/// What the files of a request hold.
+#[derive(Drop)]
+pub(crate) struct FlashTexts {
+    pub(crate) hex: Vec<u8>,
+    pub(crate) layout: Option<Vec<u8>>,
+    /// The tables; nothing where no file of them is named.
+    pub(crate) sfdp: Vec<u8>,
+    /// The content before the first try, where work is resumed.
+    pub(crate) old: Option<Vec<u8>>,
+}
+
+/// Programs the chip behind a device (docs/FORMATS.md, sections 9 and 14): reads it, saves what it
+/// holds in a new file, plans, and does the work. The lines of the plan go to `out`, and how far
+/// the work is to `progress`; where that fails nothing changes.
+pub fn flash<F: Files, O: ByteOut, P: ByteOut>(
+    alloc: Global,
+    files: &F,
+    trail: &mut F::Trail,
+    request: &FlashRequest<'_>,
+    out: &mut O,
+    progress: &mut P,
+) -> Result<Ending, Unflashed>
+    requires { (O.count out.old < 2 ^ 64 - 1) × (P.count progress.old < 2 ^ 64 - 1) }
+    ensures ends { Did (F.Trail.did trail.old) (F.Trail.did trail.new) (λ log. EndsFlash
+        request.now (prints (O.held out.old) (O.held out.new)) log result) }
+    ensures count { (O.count out.old ≤ O.count out.new)
+        × (O.count out.new ≤ O.count out.old + 1)
+        × IfOk result (λ _. O.count out.new ≡ O.count out.old) }
+{
+    let texts = read_texts(alloc, files, trail, request)?;
+    let job = job_for(request, &texts);
+    flash_job(
+        alloc,
+        files,
+        trail,
+        request.read.device,
+        request.before,
+        &job,
+        out,
+        progress,
+    )
+}
+
+/// Reads the files of a request whole, in the order image, layout, tables, older content.
+fn read_texts<F: Files>(
+    alloc: Global,
+    files: &F,
+    trail: &mut F::Trail,
+    request: &FlashRequest<'_>,
+) -> Result<FlashTexts, Refusal>
+    ensures { Did (F.Trail.did trail.old) (F.Trail.did trail.new)
+        (Reading (flash_files request.now) (ReadsFlash request.now) result) }
+{
+    let hex = files.read(trail, alloc, request.hex, FileName::Hex)?;
+    let layout = read_named(alloc, files, trail, request.layout, FileName::Layout)?;
+    let sfdp = read_chip(alloc, files, trail, request.read.chip)?;
+    let old = read_named(alloc, files, trail, request.resume, FileName::Resume)?;
+    Ok(FlashTexts {
+        hex,
+        layout,
+        sfdp,
+        old,
+    })
+}
+
+/// The job of a request, whose files hold these.
+fn job_for<'a>(request: &'a FlashRequest<'_>, texts: &'a FlashTexts) -> Job<'a>
+    ensures { IsJobOf request.now texts.now result }
+{
+    let asked = ask_of(reading_of(request), texts.sfdp.as_slice());
+    Job {
+        ask: Ask {
+            known: asked.known,
+            bits: asked.bits,
+            part: asked.part,
+            mode4: asked.mode4,
+            turns: asked.turns,
+            content: asked.content,
+            erased_only: request.erased_only,
+            raw: asked.raw,
+            fresh: asked.fresh,
+            any_size: asked.any_size,
+        },
+        hex: texts.hex.as_slice(),
+        layout: bytes_in(&texts.layout),
+        regions: request.regions,
+        base: request.base,
+        old: bytes_in(&texts.old),
+        strict: request.strict,
+        dry: request.dry_run,
+        texts: request.texts,
+    }
+}
+
+/// How the chip is read: its content too, which is saved.
+fn reading_of<'a>(request: &FlashRequest<'a>) -> ReadRequest<'a>
+    ensures { result ≡ reading_of request.now }
+{
+    ReadRequest {
+        out: Some(request.before),
+        ..request.read
+    }
+}
+
+fn bytes_in(bytes: &Option<Vec<u8>>) -> Option<&[u8]>
+    ensures { option_map (λ text. text.now) result
+        ≡ option_map (λ held. held.items) bytes.entry.now }
+{
+    match bytes {
+        Some(bytes) => Some(bytes.as_slice()),
+        None => None,
+    }
+}
+
+/// Does a job on the chip behind the device of this name, which is opened only where the job has no
+/// fault that shows before. What the chip holds is saved in the file of the name `before`.
+fn flash_job<F: Files, O: ByteOut, P: ByteOut>(
+    alloc: Global,
+    files: &F,
+    trail: &mut F::Trail,
+    device: &str,
+    before: &str,
+    job: &Job<'_>,
+    out: &mut O,
+    progress: &mut P,
+) -> Result<Ending, Unflashed>
+    requires whole { job.now.ask.content ≡ true }
+    requires room { (O.count out.old < 2 ^ 64 - 1) × (P.count progress.old < 2 ^ 64 - 1) }
+    ensures ends { Did (F.Trail.did trail.old) (F.Trail.did trail.new) (λ log. EndsJob device.now
+        before.now job.now (prints (O.held out.old) (O.held out.new)) log result) }
+    ensures count { (O.count out.old ≤ O.count out.new)
+        × (O.count out.new ≤ O.count out.old + 1)
+        × IfOk result (λ _. O.count out.new ≡ O.count out.old) }
+{
+    look_at(alloc, job)?;
+    let (mut from, mut to) = files.open_device(trail, alloc, device)?;
+    let ended = flash_greeted(
+        alloc, files, trail, &mut from, &mut to, before, job, out, progress,
+    );
+    files.close_device(trail, device, from, to);
+    ended
+}
+
+/// Begins with a device, does a job on its chip, and at last lets the chip's pins go; after a
+/// failed write nothing more is sent.
+fn flash_greeted<F: Files, O: ByteOut, P: ByteOut>(
+    alloc: Global,
+    files: &F,
+    trail: &mut F::Trail,
+    from: &mut F::FromDevice,
+    to: &mut F::ToDevice,
+    before: &str,
+    job: &Job<'_>,
+    out: &mut O,
+    progress: &mut P,
+) -> Result<Ending, Unflashed>
+    requires whole { job.now.ask.content ≡ true }
+    requires device { (F.FromDevice.count from.old ≡ 0) × (F.ToDevice.count to.old ≡ 0) }
+    requires room { (O.count out.old < 2 ^ 64 - 1) × (P.count progress.old < 2 ^ 64 - 1) }
+    ensures ends { Did (F.Trail.did trail.old) (F.Trail.did trail.new) (λ log. EndsGreeted
+        before.now job.now (wire (F.ToDevice.held to.old) (F.FromDevice.ahead from.old))
+        (wire (F.ToDevice.held to.new) (F.FromDevice.ahead from.new))
+        (prints (O.held out.old) (O.held out.new)) log result) }
+    ensures count { (O.count out.old ≤ O.count out.new)
+        × (O.count out.new ≤ O.count out.old + 1)
+        × IfOk result (λ _. O.count out.new ≡ O.count out.old) }
+{
+    let limits = match greet(from, to) {
+        Ok(limits) => limits,
+        Err(why) => return Err(Unflashed::Device(DeviceFault::Greet(why))),
+    };
+    let ended = flash_held(
+        alloc, files, trail, from, to, &limits, before, job, out, progress,
+    );
+    let_go(from, to, frees_pins(&limits, &ended));
+    ended
+}
+
+/// Whether the pins are let go after a job that ended so: the device drives them, and no request
+/// was cut. A device would take what follows as the rest of such a request.
+fn frees_pins(limits: &Limits, ended: &Result<Ending, Unflashed>) -> bool
+    ensures { result ≡ (limits.now.pins && not (is_cut (told_in ended.now))) }
+{
+    limits.pins && !is_cut(fault_in(ended))
+}
+
+/// Reads the chip of a device, saves what it holds in a new file, and then has the work done.
+fn flash_held<F: Files, O: ByteOut, P: ByteOut>(
+    alloc: Global,
+    files: &F,
+    trail: &mut F::Trail,
+    from: &mut F::FromDevice,
+    to: &mut F::ToDevice,
+    limits: &Limits,
+    before: &str,
+    job: &Job<'_>,
+    out: &mut O,
+    progress: &mut P,
+) -> Result<Ending, Unflashed>
+    requires whole { job.now.ask.content ≡ true }
+    requires device { (F.FromDevice.count from.old < 2 ^ 64 - 4)
+        × (F.ToDevice.count to.old < 2 ^ 64 - 4) }
+    requires room { (O.count out.old < 2 ^ 64 - 1) × (P.count progress.old < 2 ^ 64 - 1) }
+    ensures ends { Did (F.Trail.did trail.old) (F.Trail.did trail.new) (λ log. EndsHeld limits.now
+        before.now job.now (wire (F.ToDevice.held to.old) (F.FromDevice.ahead from.old))
+        (wire (F.ToDevice.held to.new) (F.FromDevice.ahead from.new))
+        (prints (O.held out.old) (O.held out.new)) log result) }
+    ensures count { (O.count out.old ≤ O.count out.new)
+        × (O.count out.new ≤ O.count out.old + 1)
+        × IfOk result (λ _. O.count out.new ≡ O.count out.old) }
+    ensures device { (F.FromDevice.count from.new ≤ F.FromDevice.count from.old + 1)
+        × (F.ToDevice.count to.new ≤ F.ToDevice.count to.old + 1) }
+{
+    let held = hold(alloc, from, to, limits, job)?;
+    let content = held.reading.content.as_slice();
+    save(alloc, files, trail, before, FileName::Before, content)?;
+    match go_on(alloc, from, to, limits, job, &held, out, progress) {
+        Ok(ending) => Ok(ending),
+        Err(refusal) => Err(Unflashed::Refused(refusal)),
+    }
+}

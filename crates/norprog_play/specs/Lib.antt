@@ -1,3 +1,0 @@
-pub mod Request
-pub mod Served
-pub mod Answer
