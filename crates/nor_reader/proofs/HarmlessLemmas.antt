@@ -282,7 +282,7 @@ twice_sends most h i a b by again bytes (Differs d) p =
 -- bytes past the end
 pub past_sent : (most : ℕ) (h i : Option (List ℕ)) (a b : Ahead) (by : ReadBy) (content : List ℕ) → ReadsPast most h i a b (Ok tt) by content
     → HasSentHarmless h i
-past_sent most h i a b by content p = read_sent most h i a b by content (with_past content) p
+past_sent most h i a b by content p = read_sent most h i a b by content (with_past by content) p
 
 pub past_sends : (most : ℕ) (h i : Option (List ℕ)) (a b : Ahead) (by : ReadBy) (content : List ℕ) (why : Mismatch)
     → ReadsPast most h i a b (Err why) by content → SendsHarmless h i

@@ -1,6 +1,6 @@
 -- Bytes that are read past the end.
-use Rattle.std.proofs.Common.{◌≡◌, ℕ, Bool, true, false, ◌+◌, ◌-◌, ◌%◌, ◌^◌, ◌<◌, ◌≤◌, List, [], ◌∷◌, ◌++◌, length, take, Option, sym, ◌∙◌, ap, subst, arith, append-nil, append_assoc, length-append}
-use Rattle.std.specs.Prelude.{if◌then◌else◌, min, nat_lt}
+use Rattle.std.proofs.Common.{◌≡◌, ℕ, Bool, true, false, ◌+◌, ◌-◌, ◌%◌, ◌^◌, ◌<◌, ◌≤◌, List, [], ◌∷◌, ◌++◌, length, take, Option, sym, ◌∙◌, ap, subst, arith, append-nil, append_assoc, length-append, leb-true, refl}
+use Rattle.std.specs.Prelude.{if◌then◌else◌, min, max, nat_le}
 use Rattle.std.specs.List.{slice_range}
 use Rattle.std.proofs.lemmas.List.{length-take-le}
 use Rattle.nor_base.specs.Device.{Ahead}
@@ -8,18 +8,26 @@ use Rattle.nor_probe.specs.declared.difference.Mismatch.{Mismatch}
 use Rattle.nor_loop.specs.Log.{HasLogged}
 use Rattle.nor_reader.specs.declared.by.ReadBy.{ReadBy}
 use Rattle.nor_reader.specs.Again.{MissesPiece}
-use Rattle.nor_reader.specs.Past.{past_end, MissesPast}
+use Rattle.nor_reader.specs.declared.by.ReadBy.TheVariants.{Tables, Content, FourBytes, Entered}
+use Rattle.nor_reader.specs.Past.{past_end, reach, telling_past, MissesPast}
 use Rattle.nor_reader.specs.Reads.{read_op, HasReadOn}
 use Rattle.nor_reader.proofs.AgainLemmas.{slice_long, take_on, misses_within}
 use Rattle.nor_reader.proofs.PassLemmas.{nothing_read, read_both, one_piece}
 
 -- no more than the chip has
-few_of : (is : Bool) (size other : ℕ) → (if is then min size other else 0) ≤ size
-few_of true size other = omega arith
-few_of false size other = omega arith
+pub past_few : (by : ReadBy) (size : ℕ) → past_end by size ≤ size
+past_few by size = omega arith
 
-pub past_few : (size : ℕ) → past_end size ≤ size
-past_few size = few_of (nat_lt size (2 ^ 24)) size ((65536 - size % 65536) % 65536)
+-- each is an address of four bytes
+reach_far : (by : ReadBy) → reach by ≤ 2 ^ 32
+reach_far Tables = omega arith
+reach_far (Content true) = omega arith
+reach_far (Content false) = omega arith
+reach_far FourBytes = omega arith
+reach_far (Entered enter leave) = omega arith
+
+pub past_near : (by : ReadBy) (size : ℕ) → 0 < past_end by size → size + past_end by size ≤ 2 ^ 32
+past_near by size some = omega (arith, some, reach_far by)
 
 -- none was read yet
 pub none_past : (most : ℕ) (h : Option (List ℕ)) (a : Ahead) (by : ReadBy) (content : List ℕ) → HasReadOn most h h a a by content (content ++ take 0 content)
@@ -45,7 +53,7 @@ past_more most h i j a b c by content done len within some few read more =
 
 -- or its read ended so
 pub past_not : (most : ℕ) (h i j : Option (List ℕ)) (a b c : Ahead) (by : ReadBy) (content : List ℕ) (done len : ℕ) (why : Mismatch)
-    → done + len ≤ length content → done + len ≤ past_end (length content) → 0 < len → len ≤ most
+    → done + len ≤ length content → done + len ≤ past_end by (length content) → 0 < len → len ≤ most
     → HasReadOn most h i a b by content (content ++ take done content)
     → MissesPiece (length (slice_range content done (done + len))) i j b c by (length content + done) (slice_range content done (done + len)) why
     → MissesPast most h j a c by content why
@@ -64,6 +72,6 @@ past_not most h i j a b c by content done len why within before some few read st
     }
 
 -- all was read
-pub past_all : (most : ℕ) (h i : Option (List ℕ)) (a b : Ahead) (by : ReadBy) (content : List ℕ) (done : ℕ) → done ≡ past_end (length content)
-    → HasReadOn most h i a b by content (content ++ take done content) → HasReadOn most h i a b by content (content ++ take (past_end (length content)) content)
+pub past_all : (most : ℕ) (h i : Option (List ℕ)) (a b : Ahead) (by : ReadBy) (content : List ℕ) (done : ℕ) → done ≡ past_end by (length content)
+    → HasReadOn most h i a b by content (content ++ take done content) → HasReadOn most h i a b by content (content ++ take (past_end by (length content)) content)
 past_all most h i a b by content done is read = subst (λ n. HasReadOn most h i a b by content (content ++ take n content)) is read

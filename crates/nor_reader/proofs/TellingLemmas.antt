@@ -16,7 +16,7 @@ use Rattle.nor_reader.specs.declared.by.ReadBy.{ReadBy}
 use Rattle.nor_reader.specs.declared.by.ReadBy.TheVariants.{Tables, Content, FourBytes, Entered}
 use Rattle.nor_reader.specs.Modes.{address_of, MayGive}
 use Rattle.nor_reader.specs.Reads.{read_op, ops_from}
-use Rattle.nor_reader.specs.Cut.{shift, AreCut, ReadApart, ReadsCut}
+use Rattle.nor_reader.specs.Cut.{shift, AreCut, ReadsCut}
 use Rattle.nor_reader.specs.Telling.{IsTelling, ShowsMode, is_near, mode_after, HasGiven, Holds, ModeIsShown, ApartKnows, SaidGives, SaidHolds, EnteredHolds, GivesSaid, SureKnows, SwitchMakes}
 use Rattle.nor_reader.proofs.ModeLemmas.{Overlaps, period_by, other_four, other_three}
 

@@ -1,21 +1,33 @@
 -- What a chip gives past its end (W25Q256JV datasheet, Read Data 03h: reading on after the highest address begins at 0 again; an erase takes
 -- a block at a multiple of its own size).
-use Rattle.std.specs.Prelude.{ℕ, ◌+◌, ◌-◌, ◌%◌, ◌^◌, ◌<◌, ◌≤◌, min, nat_lt, if◌then◌else◌, List, ◌++◌, length, take, Option, Result, Ok, Err}
+use Rattle.std.specs.Prelude.{ℕ, ◌+◌, ◌-◌, ◌%◌, ◌^◌, ◌<◌, ◌≤◌, min, max, true, List, ◌++◌, length, take, Option, Result, Ok, Err}
 use Rattle.std.specs.List.{slice_range}
 use Rattle.nor_base.specs.Device.{Ahead}
 use Rattle.nor_probe.specs.declared.difference.Mismatch.{Mismatch}
 use Rattle.nor_reader.specs.declared.by.ReadBy.{ReadBy}
+use Rattle.nor_reader.specs.declared.by.ReadBy.TheVariants.{Content, FourBytes, Entered}
 use Rattle.nor_reader.specs.Again.{MissesPiece}
 use Rattle.nor_reader.specs.Reads.{HasReadOn}
 
--- at so many addresses past its end a chip of so many bytes is read: those up to the next multiple of 64 KiB, which an erase of no more can
--- take with the last bytes, but no more than it has bytes; at none where three address bytes don't reach them
-abbrev pub past_end : ℕ → ℕ
-past_end size = if nat_lt size (2 ^ 24) then min size ((65536 - size % 65536) % 65536) else 0
+-- the addresses below this one are reached by the address bytes of a read: by four or by three; none in a mode that isn't entered for it
+abbrev pub reach : ReadBy → ℕ
+reach (Content true) = 2 ^ 32
+reach FourBytes = 2 ^ 32
+reach (Entered enter leave) = 0
+reach other = 2 ^ 24
+
+-- so many addresses past the end of so many bytes tell where the chip ends: those up to the next multiple of 64 KiB, which an erase of no more
+-- can take with the last bytes, and 4096 at least, but no more than it has bytes
+abbrev pub telling_past : ℕ → ℕ
+telling_past size = min size (max 4096 ((65536 - size % 65536) % 65536))
+
+-- it is read at these, as far as the address bytes reach
+abbrev pub past_end : ReadBy → ℕ → ℕ
+past_end by size = min (telling_past size) (reach by - size)
 
 -- a content, and what a chip that has just this gives after it
-abbrev pub with_past : List ℕ → List ℕ
-with_past content = content ++ take (past_end (length content)) content
+abbrev pub with_past : ReadBy → List ℕ → List ℕ
+with_past by content = content ++ take (past_end by (length content)) content
 
 -- the bytes before an address past the end came, and the next read, of no more than so many bytes, ended so
 pub record MissesPast (most : ℕ) (held_before held_after : Option (List ℕ)) (ahead_before ahead_after : Ahead) (by : ReadBy)
@@ -23,7 +35,7 @@ pub record MissesPast (most : ℕ) (held_before held_after : Option (List ℕ)) 
   pub at : ℕ
   pub len : ℕ
   pub some : 0 < len
-  pub within : at + len ≤ past_end (length content)
+  pub within : at + len ≤ past_end by (length content)
   pub held : Option (List ℕ)
   pub ahead : Ahead
   pub alike : HasReadOn most held_before held ahead_before ahead by content (content ++ take at content)
@@ -32,6 +44,6 @@ pub record MissesPast (most : ℕ) (held_before held_after : Option (List ℕ)) 
 -- what reading past the end says
 abbrev pub ReadsPast : ℕ → Option (List ℕ) → Option (List ℕ) → Ahead → Ahead → Result (Unit {0}) Mismatch → ReadBy → List ℕ → Type 0
 ReadsPast most held_before held_after ahead_before ahead_after (Ok u) by content =
-    HasReadOn most held_before held_after ahead_before ahead_after by content (with_past content)
+    HasReadOn most held_before held_after ahead_before ahead_after by content (with_past by content)
 ReadsPast most held_before held_after ahead_before ahead_after (Err why) by content =
     MissesPast most held_before held_after ahead_before ahead_after by content why

@@ -5,7 +5,7 @@ ghost use Rattle.nor_base.specs.Device.{HaveRoom};
 ghost use Rattle.nor_probe.specs.Compared.{CountsMismatch};
 ghost use Rattle.nor_serprog.specs.declared.fault.Fault.TheVariants.{Read, Write};
 ghost use Rattle.nor_reader.specs.Harmless.{HasSentHarmless, SendsHarmless};
-ghost use Rattle.nor_reader.specs.Past.{past_end, ReadsPast};
+ghost use Rattle.nor_reader.specs.Past.{past_end, reach, telling_past, ReadsPast};
 
 use crate::by::ReadBy;
 use crate::piece::compare_piece;
@@ -16,12 +16,12 @@ use nor_serprog::Limits;
 /// The largest block of an erase that is looked for.
 const BLOCK: usize = 1 << 16;
 
-/// The first address that three bytes don't reach.
-const FAR: usize = 1 << 24;
+/// At so many addresses past its end a chip is read at least.
+const LEAST: usize = 4096;
 
-/// Has the device read its chip from the content's end up to a multiple of 64 KiB, and compares
-/// that with the content's first bytes, which a chip of just its size gives there. Of 16 MiB or
-/// more it reads nothing.
+/// Has the device read its chip past the content's end, up to a multiple of 64 KiB and at least
+/// 4096 bytes, and compares that with the content's first bytes, which a chip of just its size
+/// gives there, as far as the address bytes reach.
 ///
 /// `Differs` names the lowest address whose byte is another. `Exchange`: one ended early, after
 /// which nothing was sent.
@@ -42,7 +42,7 @@ pub fn read_past<R: ByteIn, W: ByteOut>(
 {
     let size = content.len();
     let most = limits.asked as usize;
-    let past = past_end(size);
+    let past = past_end(by, content);
     let mut done = 0;
     while done < past {
         let len = (past - done).min(most);
@@ -55,13 +55,28 @@ pub fn read_past<R: ByteIn, W: ByteOut>(
     Ok(())
 }
 
-/// At how many addresses past its end a chip of so many bytes is read.
-fn past_end(size: usize) -> usize
-    ensures { result ≡ past_end size }
+/// At how many addresses past its end a chip of this content is read.
+fn past_end(by: ReadBy, content: &[u8]) -> usize
+    ensures { result ≡ past_end by (length content.now) }
 {
-    if size < FAR {
-        size.min((BLOCK - size % BLOCK) % BLOCK)
-    } else {
-        0
+    telling_past(content.len()).min(reach(by).saturating_sub(content.len()))
+}
+
+/// How many addresses past its end tell where a chip of so many bytes ends.
+fn telling_past(size: usize) -> usize
+    ensures is { result ≡ telling_past size }
+    ensures few { result ≤ 65536 }
+{
+    size.min(LEAST.max((BLOCK - size % BLOCK) % BLOCK))
+}
+
+/// The first address that the address bytes of a read don't reach.
+fn reach(by: ReadBy) -> usize
+    ensures { result ≡ reach by }
+{
+    match by {
+        ReadBy::Content { mode4: true } | ReadBy::FourBytes => 1 << 32,
+        ReadBy::Content { mode4: false } | ReadBy::Tables => 1 << 24,
+        ReadBy::Entered { .. } => 0,
     }
 }

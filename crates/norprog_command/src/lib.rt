@@ -20,10 +20,9 @@ use norprog_named::{
 use norprog_options::{Asked, Line, asked_by};
 use std::alloc::Global;
 
-/// Runs the command that the words spell, the program's name not among them. What goes to standard
-/// output is written to `out`, a refusal to `err`, and to `progress` which device `play`, `read`
-/// and `flash` wait for, and how far steps came. Returns the status: 0 done, 1 refused or a script
-/// that goes wrong or doesn't do its job, 2 usage.
+/// Runs the command that the words spell, the program's name not among them. A refusal goes to
+/// `err`; to `progress` which device is waited for, and how far steps came. Returns the status: 0
+/// done, 1 refused or a script that doesn't do its job, 2 usage, 3 a chip that may be half done.
 pub fn command<F: Files, O: ByteOut, E: ByteOut + Drop, P: ByteOut>(
     alloc: Global,
     files: &F,
@@ -36,7 +35,7 @@ pub fn command<F: Files, O: ByteOut, E: ByteOut + Drop, P: ByteOut>(
     requires out { O.count out.old < 2 ^ 64 - 2 }
     requires err { E.count err.old.out < 2 ^ 64 - 1 }
     requires progress { P.count progress.old < 2 ^ 64 - 2 }
-    ensures status { result ≤ 2 }
+    ensures status { result ≤ 3 }
     ensures quiet { result ≡ 0 → err.new ≡ err.old }
     ensures answer { Did (F.Trail.did trail.old) (F.Trail.did trail.new)
         (AnswersWords (F.unread files.now) (map string_bytes words.items) (screen
@@ -64,7 +63,7 @@ fn answer_line<F: Files, O: ByteOut, E: ByteOut + Drop, P: ByteOut>(
     requires out { O.count out.old < 2 ^ 64 - 2 }
     requires err { E.count err.old.out < 2 ^ 64 - 1 }
     requires progress { P.count progress.old < 2 ^ 64 - 2 }
-    ensures status { result ≤ 2 }
+    ensures status { result ≤ 3 }
     ensures quiet { result ≡ 0 → err.new ≡ err.old }
     ensures answer { Did (F.Trail.did trail.old) (F.Trail.did trail.new)
         (AnswersLine (F.unread files.now) line.entry (screen
@@ -106,7 +105,7 @@ fn answer_to<F: Files, O: ByteOut, E: ByteOut, P: ByteOut>(
     requires out { O.count out.old < 2 ^ 64 - 2 }
     requires err { E.count err.old < 2 ^ 64 - 1 }
     requires progress { P.count progress.old < 2 ^ 64 - 2 }
-    ensures status { result ≤ 2 }
+    ensures status { result ≤ 3 }
     ensures quiet { result ≡ 0 → err.new ≡ err.old }
     ensures answer { Did (F.Trail.did trail.old) (F.Trail.did trail.new)
         (AnswersTo (F.unread files.now) asked.entry (screen (output O.held O.count out.old out.new)

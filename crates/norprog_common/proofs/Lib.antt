@@ -3,4 +3,4 @@ mod LineLemmas
 mod HeldLemmas
 pub mod TellsLemmas
 pub mod ReadingLemmas
-pub mod StrictLemmas
+pub mod RulesLemmas

@@ -5,7 +5,7 @@ use Rattle.nor_base.specs.Device.{Writes, Counts}
 use Rattle.nor_base.proofs.DeviceLaws.{Appends-append}
 use Rattle.norprog_common.specs.declared.faults.Refusal.{Refusal}
 use Rattle.norprog_common.specs.Lines.{printed, status_after}
-use Rattle.norprog_common.specs.Told.{Ends, Output, Tells, output}
+use Rattle.norprog_common.specs.Told.{Ends, Tells, output}
 
 module _ {W : Type 0} (held : W → Option (List ℕ)) (count : W → ℕ) where
   -- by one write, whose failure was counted

@@ -7,5 +7,5 @@ pub mod Told
 pub mod Wrongs
 pub mod Request
 pub mod Held
-pub mod Strict
+pub mod Rules
 pub mod Reading

@@ -17,9 +17,11 @@ use Rattle.nor_script.specs.Hexadecimal.{hex_number}
 use Rattle.norprog_common.specs.declared.faults.Behind.{Behind}
 use Rattle.norprog_common.specs.declared.faults.Behind.TheVariants.{Nothing, Number, Address}
 use Rattle.norprog_common.specs.declared.faults.FileName.{FileName}
+use Rattle.norprog_common.specs.declared.faults.Gap.{Gap}
+use Rattle.norprog_common.specs.declared.faults.Stray.{Stray}
 use Rattle.norprog_common.specs.declared.faults.FileName.TheVariants as file
 use Rattle.norprog_common.specs.declared.faults.Refusal.{Refusal}
-use Rattle.norprog_common.specs.declared.faults.Refusal.TheVariants.{Text, Usage, File, Build, Page, Script, BinSize, Steps, EmptyRegion, Log}
+use Rattle.norprog_common.specs.declared.faults.Refusal.TheVariants.{Text, Usage, File, Build, Page, Script, BinSize, Steps, EmptyRegion, Partial, Beyond, Nowhere, Log}
 
 -- words, and what stands behind them: a number in decimal, or an address in eight hexadecimal digits
 abbrev pub spelled : List ℕ → Behind → List ℕ
@@ -111,6 +113,18 @@ file_text file.Before = codes "file before"
 file_text file.Resume = codes "file resume"
 file_text file.Log = codes "file log"
 
+-- `partial region i: n of m bytes, first missing AAAAAAAA`
+abbrev pub partial_text : Gap → List ℕ
+partial_text gap =
+    codes "partial region "
+    ++ (decimal gap.index
+    ++ (codes ": "
+    ++ (decimal gap.given ++ (codes " of " ++ (decimal gap.size ++ (codes " bytes, first missing " ++ hex_number gap.first))))))
+
+-- `beyond n bytes, first AAAAAAAA`
+abbrev pub beyond_text : Stray → List ℕ
+beyond_text stray = codes "beyond " ++ (decimal stray.count ++ (codes " bytes, first " ++ hex_number stray.first))
+
 -- `norprog: `, a text, LF
 abbrev pub program_line : List ℕ → List ℕ
 program_line text = codes "norprog: " ++ closed text
@@ -126,6 +140,9 @@ printed (Script fault) = program_line (script_text fault)
 printed BinSize = program_line (codes "bin size")
 printed (Steps number) = program_line (codes "script steps " ++ decimal number)
 printed (EmptyRegion index) = program_line (codes "empty region " ++ decimal index)
+printed (Partial gap) = program_line (partial_text gap)
+printed (Beyond stray) = program_line (beyond_text stray)
+printed Nowhere = program_line (codes "image lands nowhere")
 printed (Log line) = program_line (codes "log line " ++ decimal line)
 
 -- 2 where the command line is at fault or asks for help, else 1
@@ -139,6 +156,9 @@ status_after (Script fault) = 1
 status_after BinSize = 1
 status_after (Steps number) = 1
 status_after (EmptyRegion index) = 1
+status_after (Partial gap) = 1
+status_after (Beyond stray) = 1
+status_after Nowhere = 1
 status_after (Log line) = 1
 
 -- a script's fault as a refusal: out of memory is the program's own

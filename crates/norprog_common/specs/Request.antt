@@ -2,6 +2,7 @@
 use Rattle.std.specs.Prelude.{◌≡◌, ℕ, Bool, ◌&&◌, Option, Some, option_map, unwrap_or, is_some, List, codes}
 use Rattle.norprog_common.specs.declared.given.Given.{Given}
 use Rattle.norprog_common.specs.declared.request.Request.{Request}
+use Rattle.norprog_common.specs.Rules.{job_rules}
 use Rattle.norprog_common.specs.Values.{part_of, base_of, said_status}
 use Rattle.norprog_common.specs.Chip.{origin_of, chosen_origin, Origin}
 
@@ -38,5 +39,5 @@ pub record AsksFor (given : Given) (request : Request) : Type 0 where
   pub content : given.content ≡ Some request.content
   pub verify : request.verify ≡ given.verify
   pub erased_only : request.erased_only ≡ given.erased_only
-  pub strict : request.strict ≡ given.strict
+  pub rules : request.rules ≡ job_rules given.strict given.whole
   pub regions : request.regions ≡ given.regions

@@ -1,5 +1,5 @@
 -- What a command writes to, and what is told there of its end (this project's).
-use Rattle.std.specs.Prelude.{◌≡◌, ◌<◌, ◌++◌, ℕ, List, Option, Result, Ok, Err}
+use Rattle.std.specs.Prelude.{◌≡◌, ◌<◌, ◌++◌, ℕ, max, List, Option, Result, Ok, Err}
 use Rattle.std.specs.Io.KnownBytes.{Appends}
 use Rattle.nor_base.specs.Device.{Cuts}
 use Rattle.nor_job.specs.declared.fault.BuildFault.TheVariants.{Write}
@@ -41,7 +41,11 @@ abbrev pub Ends : Output → ℕ → Result ℕ Refusal → Type 0
 Ends err status (Ok own) = (status ≡ own) × IsQuiet err
 Ends err status (Err why) = (status ≡ status_after why) × Tells err (printed why)
 
+-- the status of a command whose lines couldn't all be printed: its own, 1 where that is 0
+abbrev pub cut_status : ℕ → ℕ
+cut_status own = max own 1
+
 -- after a text was told lines are printed, whose status it is; or a proper prefix of them, since standard output failed, and that is told
 pub data Says (told lines : List ℕ) (own : ℕ) (out err : Output) (status : ℕ) : Type 0 where
   All_said : status ≡ own → Appends out.before out.after lines → Tells err told → Says told lines own out err status
-  Cut_off : status ≡ 1 → Cuts out.before out.after lines → Fails out → Tells err (told ++ printed (Build Write)) → Says told lines own out err status
+  Cut_off : status ≡ cut_status own → Cuts out.before out.after lines → Fails out → Tells err (told ++ printed (Build Write)) → Says told lines own out err status

@@ -2,10 +2,11 @@
 
 ghost use Rattle.std.specs.Prelude.{◌≡◌, ◌<◌, ◌-◌, ◌^◌, IfOk, IfErr};
 ghost use Rattle.nor_base.specs.Device.{Writes, Counts};
+ghost use Rattle.norprog_common.specs.Lines.{beyond_text, partial_text};
 ghost use Rattle.norprog_common.specs.Lines.{spelled, hex_text, layout_text, sfdp_text, plan_text};
 ghost use Rattle.norprog_common.specs.Lines.{script_text, fault_text, file_text, script_refusal};
 ghost use Rattle.norprog_common.specs.Lines.{program_line, printed, status_after};
-ghost use Rattle.norprog_common.specs.Told.{Tells, output};
+ghost use Rattle.norprog_common.specs.Told.{Tells, cut_status, output};
 ghost use Rattle.nor_job.specs.declared.fault.BuildFault.TheVariants.{Memory, Write};
 ghost use Rattle.norprog_common.specs.declared.faults.Refusal.TheVariants.{Build};
 
@@ -35,6 +36,28 @@ pub enum FileName {
     Before,
     Resume,
     Log,
+}
+
+/// What a chosen region lacks of an image.
+#[derive(Clone, Copy)]
+pub struct Gap {
+    /// The region's index among the chosen ones, from 0.
+    pub index: u64,
+    /// How many of its addresses have a byte.
+    pub given: u64,
+    /// How many addresses it has.
+    pub size: u64,
+    /// The lowest of them that has no byte.
+    pub first: u32,
+}
+
+/// What of an image lies off a chip.
+#[derive(Clone, Copy)]
+pub struct Stray {
+    /// How many of its addresses.
+    pub count: u64,
+    /// The lowest of them, as the image has it.
+    pub first: u32,
 }
 
 /// What comes after the words of a refusal.
@@ -69,6 +92,12 @@ pub enum Refusal {
     Steps(u64),
     /// The image gives the chosen region of this index, from 0, no byte.
     EmptyRegion(u64),
+    /// The image gives a chosen region only in part.
+    Partial(Gap),
+    /// Bytes of the image lie off the chip.
+    Beyond(Stray),
+    /// No byte of the image lies at a chosen address of the chip.
+    Nowhere,
     /// The line of this number is none of a log.
     Log(u64),
 }
@@ -134,18 +163,18 @@ pub fn answered<E: ByteOut>(work: Result<u8, Refusal>, err: &mut E) -> u8
 }
 
 /// Tells that lines couldn't be printed, where what was told before them went out. Returns the
-/// status, 1.
-pub fn refuse_lines<E: ByteOut>(told: Result<(), Failed>, err: &mut E) -> u8
+/// status: the command's own, 1 where that is 0.
+pub fn refuse_lines<E: ByteOut>(told: Result<(), Failed>, own: u8, err: &mut E) -> u8
     requires { IfOk told (λ _. E.count err.old < 2 ^ 64 - 1) }
-    ensures status { result ≡ 1 }
+    ensures status { result ≡ cut_status own }
     ensures told { IfOk told
         (λ _. Tells (output E.held E.count err.old err.new) (printed (Build Write))) }
     ensures lost { IfErr told (λ _. err.new ≡ err.old) }
 {
-    match told {
-        Ok(()) => refuse(&Refusal::WRITE, err),
-        Err(_) => 1,
+    if told.is_ok() {
+        let _ = refuse(&Refusal::WRITE, err);
     }
+    own.max(1)
 }
 
 /// 2 where the command line is at fault or asks for help, else 1.
@@ -161,6 +190,9 @@ fn exit_status(refusal: &Refusal) -> u8
         | Refusal::BinSize
         | Refusal::Steps(_)
         | Refusal::EmptyRegion(_)
+        | Refusal::Partial(_)
+        | Refusal::Beyond(_)
+        | Refusal::Nowhere
         | Refusal::Log(_) => 1,
     }
 }
@@ -187,6 +219,9 @@ fn write_refusal<E: ByteOut>(refusal: &Refusal, err: &mut E) -> Result<(), Faile
         Refusal::BinSize => put_line(err, b"bin size", Behind::Nothing),
         Refusal::Steps(number) => put_line(err, b"script steps ", Behind::Number(*number)),
         Refusal::EmptyRegion(index) => put_line(err, b"empty region ", Behind::Number(*index)),
+        Refusal::Partial(gap) => put_partial(err, gap),
+        Refusal::Beyond(stray) => put_beyond(err, stray),
+        Refusal::Nowhere => put_line(err, b"image lands nowhere", Behind::Nothing),
         Refusal::Log(line) => put_line(err, b"log line ", Behind::Number(*line)),
     }
 }
@@ -212,6 +247,50 @@ fn put_line<E: ByteOut>(err: &mut E, words: &[u8], behind: Behind) -> Result<(),
             &[b"norprog: ", words, &hex_number(address), b"\n"],
         ),
     }
+}
+
+/// Writes the line of a region that is given only in part.
+fn put_partial<E: ByteOut>(err: &mut E, gap: &Gap) -> Result<(), Failed>
+    requires { E.count err.old < 2 ^ 64 - 1 }
+    ensures bytes { Writes (E.held err.old) (E.held err.new) result
+        (program_line (partial_text gap.now)) }
+    ensures count { Counts (E.count err.old) (E.count err.new) result }
+{
+    let (mut index, mut given, mut size) = (Buffer::new(), Buffer::new(), Buffer::new());
+    put_parts(
+        err,
+        &[
+            b"norprog: partial region ",
+            index.format(gap.index).as_bytes(),
+            b": ",
+            given.format(gap.given).as_bytes(),
+            b" of ",
+            size.format(gap.size).as_bytes(),
+            b" bytes, first missing ",
+            &hex_number(gap.first),
+            b"\n",
+        ],
+    )
+}
+
+/// Writes the line of bytes that lie off the chip.
+fn put_beyond<E: ByteOut>(err: &mut E, stray: &Stray) -> Result<(), Failed>
+    requires { E.count err.old < 2 ^ 64 - 1 }
+    ensures bytes { Writes (E.held err.old) (E.held err.new) result
+        (program_line (beyond_text stray.now)) }
+    ensures count { Counts (E.count err.old) (E.count err.new) result }
+{
+    let mut count = Buffer::new();
+    put_parts(
+        err,
+        &[
+            b"norprog: beyond ",
+            count.format(stray.count).as_bytes(),
+            b" bytes, first ",
+            &hex_number(stray.first),
+            b"\n",
+        ],
+    )
 }
 
 /// The words for a file.

@@ -19,6 +19,7 @@ pub struct Given<'a> {
     pub verify: bool,
     pub erased_only: bool,
     pub strict: bool,
+    pub whole: bool,
     pub regions: Vec<Bytes>,
 }
 
@@ -140,6 +141,10 @@ pub struct ReadArgs<'a> {
     pub fresh: bool,
     /// The chip's tables may say another size than `--uniform`.
     pub any_size: bool,
+    /// The halves of what the chip holds may be alike.
+    pub repeats: bool,
+    /// The identification that the chip has to have.
+    pub expect_id: Option<&'a str>,
 }
 
 /// Of `flash`.
@@ -156,6 +161,10 @@ pub struct FlashArgs<'a> {
     pub resume: Option<&'a str>,
     pub erased_only: bool,
     pub strict: bool,
+    /// A chosen region may be given only in part.
+    pub partial: bool,
+    /// Bytes of the image may lie off the chip.
+    pub beyond: bool,
     pub dry_run: bool,
     /// As of `read`.
     pub raw: bool,
@@ -163,5 +172,9 @@ pub struct FlashArgs<'a> {
     pub fresh: bool,
     /// As of `read`.
     pub any_size: bool,
+    /// As of `read`.
+    pub repeats: bool,
+    /// As of `read`.
+    pub expect_id: Option<&'a str>,
     pub regions: Vec<Bytes>,
 }

@@ -10,14 +10,14 @@ mod given;
 mod inputs;
 mod looked;
 mod request;
+mod rules;
 mod setup;
-mod strict;
 mod values;
 mod wrongs;
 
 pub use chip::{Chip, chip_of, optional_status, source_of};
 pub use content::read_content;
-pub use faults::{FileName, Refusal, answered, refuse, refuse_lines};
+pub use faults::{FileName, Gap, Refusal, Stray, answered, refuse, refuse_lines};
 pub use given::{
     BuildArgs, CheckArgs, ChipArgs, DrawArgs, FlashArgs, Given, HexArgs, ListArgs, PlanArgs,
     PlayArgs, ReadArgs, RunArgs, ScriptArgs, SetupArgs,
@@ -25,7 +25,7 @@ pub use given::{
 pub use inputs::{Texts, inputs_of};
 pub use looked::look_through;
 pub use request::{Request, request_of};
+pub use rules::{ImageRules, job_rules, refuse_image, refuse_partial};
 pub use setup::{Setup, known_chip, setup_inputs, setup_of};
-pub use strict::refuse_empty;
 pub use values::{base, decimal, limit, part, status};
 pub use wrongs::wrong_number;

@@ -5,6 +5,7 @@ ghost use Rattle.norprog_common.specs.Request.{is_well_formed, AsksFor};
 
 use crate::chip::{Chip, chip_of, optional_status};
 use crate::given::Given;
+use crate::rules::{ImageRules, job_rules};
 use crate::values::{base, part};
 use nor_base::{Bytes, Part};
 
@@ -22,8 +23,8 @@ pub struct Request<'a> {
     pub content: &'a str,
     pub verify: bool,
     pub erased_only: bool,
-    /// Each chosen region has to have a byte of the image.
-    pub strict: bool,
+    /// What the image has to give.
+    pub rules: ImageRules,
     pub regions: Vec<Bytes>,
 }
 
@@ -44,7 +45,7 @@ pub fn request_of<'a>(given: Given<'a>) -> Option<Request<'a>>
         content: given.content?,
         verify: given.verify,
         erased_only: given.erased_only,
-        strict: given.strict,
+        rules: job_rules(given.strict, given.whole),
         regions: given.regions,
     })
 }

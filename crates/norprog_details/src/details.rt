@@ -17,11 +17,11 @@ use norprog_files::{Files, Trail};
 use std::alloc::{AllocError, Global};
 
 /// Writes what more there is to say of a refusal's line, without its LF (docs/FORMATS.md, section
-/// 9). It asks the system only about the file of the option that the line is about, and reads that
-/// once, if it's regular.
+/// 9). It asks only about the file of the option that the line is about, and reads it once, if it's
+/// regular.
 ///
-/// Where `err` fails, or memory runs out, the rest is left out; so is the line of a file that can't
-/// be read again.
+/// Where `err` fails, or memory runs out, the rest is left out; so is a line that can't be read
+/// again.
 pub fn write_details<F: Files, E: ByteOut>(
     alloc: Global,
     files: &F,

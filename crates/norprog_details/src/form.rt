@@ -40,7 +40,7 @@ pub(crate) fn form_of(name: &str) -> Form {
         "limit" => Form::Limit,
         "busy" => Form::Numbers,
         "base" | "at" => Form::Address,
-        "status" => Form::Status,
+        "status" | "expect-id" => Form::Status,
         "part" => Form::Part,
         _ => Form::Any,
     }

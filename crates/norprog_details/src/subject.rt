@@ -9,6 +9,9 @@ use itoa::Buffer;
 /// What comes before an option's name where its file can't be used.
 const FILE: &[u8] = b"norprog: file ";
 
+/// What comes before the number of a region that is given only in part.
+const PARTIAL: &[u8] = b"norprog: partial ";
+
 /// The option that the line of a refusal is about, with its value, if it is given.
 pub(crate) fn option_of<'a>(typed: &[Typed<'a>], refusal: &[u8]) -> Option<Typed<'a>>
     ensures { IfSome result (Contains typed.now) }
@@ -52,12 +55,21 @@ fn words_for(name: &str) -> Option<&'static str> {
 
 /// The name of the region that the line of a refusal counts, from 0 on.
 pub(crate) fn region_of<'a>(regions: &[&'a str], refusal: &[u8]) -> Option<&'a str> {
+    let words = words_to_region(refusal);
     for (index, name) in regions.iter().enumerate() {
-        if ends_in(refusal, b" region ", index as u64) {
+        if ends_in(words, b"region ", index as u64) {
             return Some(*name);
         }
     }
     None
+}
+
+/// The line of a refusal up to the number of a region.
+fn words_to_region(refusal: &[u8]) -> &[u8] {
+    match refusal.strip_prefix(PARTIAL) {
+        Some(words) => &words[..words.iter().position(|byte| *byte == b':').unwrap_or(0)],
+        None => refusal,
+    }
 }
 
 /// Whether a line ends in these words and this number.

@@ -16,7 +16,7 @@ use Rattle.norprog_flash.specs.declared.job.Job.{Job}
 use Rattle.norprog_flash.specs.Begun.{HasPlanned}
 use Rattle.norprog_flash.specs.Ended.{AllDone, EndsWork, Halted, IsToDo, Missed, NotCarried}
 use Rattle.norprog_flash.specs.Task.{flash_task}
-use Rattle.norprog_flash.specs.Worked.{GoesOn, WorksOut}
+use Rattle.norprog_flash.specs.Worked.{GoesOn, WorksOut, back_of}
 use Rattle.norprog_flash.proofs.CarriedLemmas.{never_fails, never_misses}
 use Rattle.norprog_flash.proofs.PlannedLemmas.{every_flashes, every_keeps}
 use Rattle.norprog_read.specs.declared.asked.Reading.{Reading}
@@ -28,7 +28,7 @@ module _ (close : Closes) (break : Breaks) (job : Job) (limits : Limits) (h0 h1 
   todo = record { goal = goal; steps = steps; wet = wet; planned = planned }
 
   worked_ends : (h2 : Option (List ℕ)) (a2 : Ahead) (by : ReadBy) (ending : Ending) → GivesBy r.meaning (start_of (flash_task job r.tables.items)) by
-      → AreCarried limits steps → WorksOut h1 h2 a1 a2 limits job.ask.turns r.meaning by steps goal ending
+      → AreCarried limits steps → WorksOut h1 h2 a1 a2 limits job.ask.turns r.meaning (back_of job by) steps goal ending
       → EndsWork job limits r h0 h2 a0 a2 o0 o1 ending
   worked_ends h2 a2 by Planned way carried out = absurd out
   worked_ends h2 a2 by (Done transactions) way carried out =

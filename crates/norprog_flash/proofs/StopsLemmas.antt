@@ -16,13 +16,14 @@ use Rattle.nor_serprog.specs.Line.{TestsLine}
 use Rattle.nor_serprog.specs.declared.limits.Limits.{Limits}
 use Rattle.norprog_common.specs.declared.faults.Refusal.{Refusal}
 use Rattle.norprog_common.specs.declared.faults.Refusal.TheVariants.{Build}
-use Rattle.norprog_common.specs.Strict.{RefusesEmpty}
+use Rattle.norprog_common.specs.Rules.{BreaksRules}
 use Rattle.norprog_flash.specs.declared.ending.Unflashed.{Unflashed}
 use Rattle.norprog_flash.specs.declared.ending.Unflashed.TheVariants.{Refused, Closed}
 use Rattle.norprog_flash.specs.declared.job.Job.{Job}
 use Rattle.norprog_flash.specs.Begun.{start_at}
+use Rattle.norprog_flash.specs.Early.{Breaking, BreaksEarly, RefusesEarly, early_task, is_known}
 use Rattle.norprog_flash.specs.Opened.{AtChip, StopsHolding}
-use Rattle.norprog_flash.specs.Stops.{CantPlan, MissesEnd, StopsBefore}
+use Rattle.norprog_flash.specs.Stops.{CantPlan, StopsBefore}
 use Rattle.norprog_flash.specs.Task.{dump_of, flash_task}
 use Rattle.norprog_read.specs.declared.asked.Reading.{Reading}
 use Rattle.norprog_read.specs.Chip.{GivesContent, HasReadChip}
@@ -37,11 +38,11 @@ given_way most h i a b m start sure false content is given = absurd cc
 pub closed : (most : ℕ) (h i : Option (List ℕ)) (a b : Ahead) (job : Job) (r : Reading) → HasReadChip most h i a b job.ask r
     → (start : Start) (fits : Bool) → start ≡ start_at job r.status → fits ≡ suits job.ask.part start r.status → fits ≡ false
     → StopsBefore most h i a b job (Closed r.status)
-closed most h i a b job r read start fits begins is unfit = inr (inl (record {
+closed most h i a b job r read start fits begins is unfit = inr (record {
   reading = r;
   read = read;
   unsuited = (refl, ap (λ (s : Start). suits job.ask.part s r.status) (sym begins) ∙ (sym is ∙ unfit));
-}))
+})
 
 -- a chip that was read whole is read so
 pub way_there : (most : ℕ) (h i : Option (List ℕ)) (a b : Ahead) (job : Job) (r : Reading) → HasReadChip most h i a b job.ask r → (start : Start)
@@ -51,22 +52,9 @@ way_there most h i a b job r read start begins whole by is =
     subst (GivesBy r.meaning (start_of (flash_task job r.tables.items))) (sym (is ∙ ap (first_by r.meaning) begins))
     (given_way most _ _ _ _ r.meaning (start_of (flash_task job r.tables.items)) _ job.ask.content r.content.items whole read.content)
 
-pub unfilled : (most : ℕ) (h i : Option (List ℕ)) (a b : Ahead) (job : Job) (r : Reading) → HasReadChip most h i a b job.ask r → (why : Refusal)
-    → RefusesEmpty job.strict (flash_task job r.tables.items) (length r.content.items) why → StopsBefore most h i a b job (Refused why)
-unfilled most h i a b job r read why empty = inr (inl (record { reading = r; read = read; unsuited = empty }))
-
-pub goes_past : (most : ℕ) (h i j : Option (List ℕ)) (a b c : Ahead) (job : Job) (r : Reading) (by : ReadBy) (content : List ℕ) → content ≡ r.content.items
-    → HasReadChip most h i a b job.ask r → GivesBy r.meaning (start_of (flash_task job r.tables.items)) by → (why : Unflashed)
-    → MissesEnd most i j b c by content why → StopsBefore most h j a c job why
-goes_past most h i j a b c job r by content same read way why stop = inr (inr (record {
-  reading = r;
-  held = i;
-  ahead = b;
-  read = read;
-  by = by;
-  way = way;
-  stop = subst (λ (xs : List ℕ). MissesEnd most i j b c by xs why) same stop;
-}))
+pub unruled : (most : ℕ) (h i : Option (List ℕ)) (a b : Ahead) (job : Job) (r : Reading) → HasReadChip most h i a b job.ask r → (why : Refusal)
+    → BreaksRules job.rules (flash_task job r.tables.items) (length r.content.items) why → StopsBefore most h i a b job (Refused why)
+unruled most h i a b job r read why breaks = inr (record { reading = r; read = read; unsuited = breaks })
 
 -- one of these, after the line was tested
 pub holds_not : {T : Type 0} (limits : Limits) (job : Job) (h i j : Option (List ℕ)) (a b c : Ahead) (result : Result T Unflashed) → TestsLine h i a b (Ok tt) limits
@@ -74,6 +62,12 @@ pub holds_not : {T : Type 0} (limits : Limits) (job : Job) (h i j : Option (List
     → IfErr result (StopsHolding limits job h j a c)
 holds_not limits job h i j a b c (Ok held) tested stops harmless = tt
 holds_not limits job h i j a b c (Err why) tested stops harmless = AtChip i b why tested stops harmless
+
+-- a rule is broken before the chip is read
+pub breaking : {T : Type 0} (job : Job) (result : Result T Refusal) → IfErr result (BreaksEarly job.rules (is_known job.ask.known) (early_task job))
+    → IfErr result (RefusesEarly job)
+breaking job (Ok x) breaks = tt
+breaking job (Err why) breaks = Breaking why breaks
 
 -- ---- why the work isn't planned
 pub cant_plan : (job : Job) (r : Reading) (o p : Option (List ℕ)) (t : Task) (tables content old : List ℕ) (why : BuildFault)

@@ -1,16 +1,12 @@
 -- A chip that was read and planned for (this project's).
-use Rattle.std.specs.Prelude.{◌≡◌, ℕ, true, List, length, Option, unwrap_or, Ok}
+use Rattle.std.specs.Prelude.{◌≡◌, ℕ, true, List, length, Option, unwrap_or}
 use Rattle.std.specs.Io.KnownBytes.{Appends}
 use Rattle.nor_base.specs.declared.meaning.Start.{Start}
 use Rattle.nor_base.specs.declared.step.Step.{Step}
 use Rattle.nor_base.specs.Device.{Ahead}
-use Rattle.nor_job.specs.Shares.{HasNoneEmpty}
-use Rattle.nor_job.specs.Status.{start_of}
 use Rattle.nor_probe.specs.Status.{suits}
-use Rattle.nor_reader.specs.declared.by.ReadBy.{ReadBy}
-use Rattle.nor_reader.specs.Laws.{GivesBy}
-use Rattle.nor_reader.specs.Past.{ReadsPast}
 use Rattle.nor_sfdp.specs.Bits.{is_set}
+use Rattle.norprog_common.specs.Rules.{MeetsRules}
 use Rattle.norprog_flash.specs.declared.job.Job.{Job}
 use Rattle.norprog_flash.specs.Resumed.{IsOfDump}
 use Rattle.norprog_flash.specs.Task.{dump_of, flash_task}
@@ -23,18 +19,12 @@ use Rattle.norprog_work.specs.Work.{IsWork}
 abbrev pub start_at : Job → ℕ → Start
 start_at job status = record { mode4 = job.ask.mode4; quad = is_set status 9 }
 
--- the chip was read, by reads of no more than so many bytes, and its status shows that it can take work; where the job is strict its image
--- gives each chosen region a byte; then it was read past its end, and gave what one of just this content gives there
+-- the chip was read, by reads of no more than so many bytes, and its status shows that it can take work; the job's image keeps its rules
 pub record HasRead (most : ℕ) (job : Job) (held_before held_after : Option (List ℕ)) (ahead_before ahead_after : Ahead) (r : Reading)
     : Type 0 where
-  pub held : Option (List ℕ)
-  pub ahead : Ahead
-  pub read : HasReadChip most held_before held ahead_before ahead job.ask r
+  pub read : HasReadChip most held_before held_after ahead_before ahead_after job.ask r
   pub suited : suits job.ask.part (start_at job r.status) r.status ≡ true
-  pub filled : job.strict ≡ true → HasNoneEmpty (flash_task job r.tables.items) (length r.content.items)
-  pub by : ReadBy
-  pub way : GivesBy r.meaning (start_of (flash_task job r.tables.items)) by
-  pub past : ReadsPast most held held_after ahead ahead_after (Ok tt) by r.content.items
+  pub meets : MeetsRules job.rules (flash_task job r.tables.items) (length r.content.items)
 
 -- the work from what was read to the target was planned and printed, and then how to go on where it stops on the way; where work is
 -- resumed the chip may be the one of the older dump

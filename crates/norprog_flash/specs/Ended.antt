@@ -15,7 +15,7 @@ use Rattle.norprog_flash.specs.declared.ending.Ending.TheVariants.{Planned, Done
 use Rattle.norprog_flash.specs.declared.job.Job.{Job}
 use Rattle.norprog_flash.specs.Begun.{HasPlanned}
 use Rattle.norprog_flash.specs.Task.{dump_of, flash_task, goal_of}
-use Rattle.norprog_flash.specs.Worked.{HasFailedAt, HasMissed, HasWorked, ReadsBack}
+use Rattle.norprog_flash.specs.Worked.{HasFailedAt, HasMissed, HasWorked, ReadsBack, back_of}
 use Rattle.norprog_read.specs.declared.asked.Reading.{Reading}
 
 -- a chip that gave this was read and planned for, and the plan is to be carried out, from these bytes of the wire on
@@ -55,13 +55,13 @@ pub data EndsWork (job : Job) (limits : Limits) (r : Reading) (held_before held_
   OnlyPlan : (goal : List ℕ) (steps : List Step) → job.dry ≡ true
       → HasPlanned limits.asked job held_before held_after ahead_before ahead_after r goal steps out_before out_after
       → EndsWork job limits r held_before held_after ahead_before ahead_after out_before out_after Planned
-  -- each step was done, and then the chip gave just what it must hold, and past its end what one that holds just this gives, by reads of no
+  -- each step was done, and then the chip gave just what it must hold, and past its end what one that holds just this gives, unless it may be larger, by reads of no
   -- more bytes than the device gives at once
   AllDone : (held : Option (List ℕ)) (ahead : Ahead)
       (todo : IsToDo limits.asked job r held_before held ahead_before ahead out_before out_after) (by : ReadBy)
       → GivesBy r.meaning (start_of (flash_task job r.tables.items)) by
-      → (worked : HasWorked held held_after ahead ahead_after limits job.ask.turns by todo.steps todo.goal
-      (λ h i a b. ReadsBack limits.asked h i a b (Ok tt) by todo.goal))
+      → (worked : HasWorked held held_after ahead ahead_after limits job.ask.turns todo.steps
+      (λ h i a b. ReadsBack limits.asked h i a b (Ok tt) (back_of job by) todo.goal))
       → EveryChipFlashes todo worked.held worked.ahead
       → EndsWork job limits r held_before held_after ahead_before ahead_after out_before out_after (Done (length todo.steps))
   -- a step can't be done by this device: nothing was sent after the chip was read
@@ -78,6 +78,6 @@ pub data EndsWork (job : Job) (limits : Limits) (r : Reading) (held_before held_
   Missed : (held : Option (List ℕ)) (ahead : Ahead)
       (todo : IsToDo limits.asked job r held_before held ahead_before ahead out_before out_after) (by : ReadBy) (step : ℕ) (why : Failure)
       → why ≢ Carried → GivesBy r.meaning (start_of (flash_task job r.tables.items)) by
-      → (missed : HasMissed held held_after ahead ahead_after limits job.ask.turns by todo.steps todo.goal step why)
+      → (missed : HasMissed held held_after ahead ahead_after limits job.ask.turns (back_of job by) todo.steps todo.goal step why)
       → EveryChipFlashes todo missed.worked.held missed.worked.ahead
       → EndsWork job limits r held_before held_after ahead_before ahead_after out_before out_after (Failed step why)

@@ -1,5 +1,5 @@
 -- What is written of how work on a chip ends (this project's).
-use Rattle.std.specs.Prelude.{ℕ, ◌/◌, ◌%◌, Bool, true, false, List, [], ◌++◌, codes, decimal}
+use Rattle.std.specs.Prelude.{ℕ, ◌/◌, ◌%◌, Bool, true, false, if◌then◌else◌, List, [], ◌++◌, codes, decimal}
 use Rattle.nor_base.specs.declared.meaning.Part.{Part}
 use Rattle.nor_base.specs.declared.meaning.Part.TheVariants.{Generic, W25q256jv}
 use Rattle.nor_base.specs.Script.{hex_pair}
@@ -21,12 +21,6 @@ closed_line Generic status = codes "unlike status " ++ (hex_pair (status % 256) 
 closed_line W25q256jv status =
     codes "unlike status " ++ (hex_pair (status / 65536 % 256) ++ (hex_pair (status / 256 % 256) ++ (hex_pair (status % 256) ++ codes "\n")))
 
--- 0 where all that was wanted was done, else 1
-abbrev pub status_of : Ending → ℕ
-status_of Planned = 0
-status_of (Done transactions) = 0
-status_of (Failed step why) = 1
-
 -- a step that failed so was sent
 abbrev pub is_sent : Failure → Bool
 is_sent Carried = false
@@ -36,3 +30,9 @@ is_sent other = true
 abbrev pub is_partial : Ending → Bool
 is_partial (Failed step why) = is_sent why
 is_partial other = false
+
+-- 0 where all that was wanted was done, 3 where the chip may hold a part of it, else 1
+abbrev pub status_of : Ending → ℕ
+status_of Planned = 0
+status_of (Done transactions) = 0
+status_of (Failed step why) = if is_sent why then 3 else 1

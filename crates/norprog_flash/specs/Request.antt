@@ -1,8 +1,9 @@
 -- What the values of a command line of `flash` ask for (this project's).
-use Rattle.std.specs.Prelude.{◌≡◌, ℕ, Bool, ◌&&◌, Some, None, option_map, unwrap_or, is_some, List, codes}
+use Rattle.std.specs.Prelude.{◌≡◌, ℕ, Bool, ◌&&◌, not, true, Some, None, option_map, unwrap_or, is_some, List, codes}
 use Rattle.norprog_common.specs.Values.{base_of}
 use Rattle.norprog_common.specs.declared.given.FlashArgs.{FlashArgs}
 use Rattle.norprog_common.specs.declared.given.ReadArgs.{ReadArgs}
+use Rattle.norprog_common.specs.declared.rules.ImageRules.{ImageRules}
 use Rattle.norprog_flash.specs.declared.request.FlashRequest.{FlashRequest}
 use Rattle.norprog_read.specs.Request as read
 
@@ -18,7 +19,13 @@ read_args given = record {
   raw = given.raw;
   fresh = given.fresh;
   any_size = given.any_size;
+  repeats = given.repeats;
+  expect_id = given.expect_id;
 }
+
+-- what the image has to give: all of each named region and nothing off the chip, except where the values allow that
+abbrev pub rules_of : FlashArgs → ImageRules
+rules_of given = record { strict = given.strict; full = not given.partial; inside = not given.beyond; lands = true }
 
 -- the base's digits, `0` where none are given
 abbrev pub asked_base : FlashArgs → List ℕ
@@ -38,7 +45,7 @@ pub record AsksFor (given : FlashArgs) (request : FlashRequest) : Type 0 where
   pub before : given.before ≡ Some request.before
   pub resume : request.resume ≡ given.resume
   pub erased_only : request.erased_only ≡ given.erased_only
-  pub strict : request.strict ≡ given.strict
+  pub rules : request.rules ≡ rules_of given
   pub dry_run : request.dry_run ≡ given.dry_run
   pub regions : request.regions.now ≡ given.regions.items
   pub texts : request.texts.now ≡ given

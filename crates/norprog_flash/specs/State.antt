@@ -23,9 +23,13 @@ name_text name.Layout = codes "layout"
 name_text name.Base = codes "base"
 name_text name.ErasedOnly = codes "erased-only"
 name_text name.Strict = codes "strict"
+name_text name.Partial = codes "partial"
+name_text name.Beyond = codes "beyond"
 name_text name.Raw = codes "raw"
 name_text name.Fresh = codes "fresh"
 name_text name.AnySize = codes "any-size"
+name_text name.Repeats = codes "repeats"
+name_text name.ExpectId = codes "expect-id"
 name_text name.Resume = codes "resume"
 name_text name.Before = codes "before"
 
@@ -66,9 +70,13 @@ next_options given = concat (
     ∷ valued name.Base (option_map (λ t. t.now) given.base) []
     ∷ flagged name.ErasedOnly given.erased_only
     ∷ flagged name.Strict given.strict
+    ∷ flagged name.Partial given.partial
+    ∷ flagged name.Beyond given.beyond
     ∷ flagged name.Raw given.raw
     ∷ flagged name.Fresh given.fresh
     ∷ flagged name.AnySize given.any_size
+    ∷ flagged name.Repeats given.repeats
+    ∷ valued name.ExpectId (option_map (λ t. t.now) given.expect_id) []
     ∷ valued name.Resume (Some (first_name given)) []
     ∷ valued name.Before (option_map (λ t. t.now) given.before) (codes ".2")
     ∷ []

@@ -1,20 +1,14 @@
 -- Why work isn't begun (this project's).
-use Rattle.std.specs.Prelude.{◌≡◌, ◌≢◌, ◌⊎◌, ℕ, false, List, length, Option, unwrap_or, Err}
+use Rattle.std.specs.Prelude.{◌≡◌, ◌≢◌, ◌⊎◌, ℕ, false, List, length, Option, unwrap_or}
 use Rattle.nor_base.specs.declared.step.Step.{Step}
 use Rattle.nor_base.specs.Device.{Ahead, Cuts}
 use Rattle.nor_job.specs.declared.fault.BuildFault.{BuildFault}
 use Rattle.nor_job.specs.declared.fault.BuildFault.TheVariants.{ContentSize, Write}
-use Rattle.nor_job.specs.Status.{start_of}
-use Rattle.nor_probe.specs.declared.difference.Difference.{Difference}
-use Rattle.nor_probe.specs.declared.difference.Mismatch.TheVariants.{Exchange, Differs}
 use Rattle.nor_probe.specs.Status.{suits}
-use Rattle.nor_reader.specs.declared.by.ReadBy.{ReadBy}
-use Rattle.nor_reader.specs.Laws.{GivesBy}
-use Rattle.nor_reader.specs.Past.{ReadsPast}
 use Rattle.norprog_common.specs.declared.faults.FileName.TheVariants as file
 use Rattle.norprog_common.specs.declared.faults.Refusal.{Refusal}
 use Rattle.norprog_common.specs.declared.faults.Refusal.TheVariants.{Build, File}
-use Rattle.norprog_common.specs.Strict.{RefusesEmpty}
+use Rattle.norprog_common.specs.Rules.{BreaksRules}
 use Rattle.norprog_flash.specs.declared.ending.Unflashed.{Unflashed}
 use Rattle.norprog_flash.specs.declared.ending.Unflashed.TheVariants.{Refused, Device, Unlike, Closed}
 use Rattle.norprog_flash.specs.declared.job.Job.{Job}
@@ -24,7 +18,6 @@ use Rattle.norprog_flash.specs.Task.{dump_of, flash_task}
 use Rattle.norprog_flash.specs.Way.{last_text}
 use Rattle.norprog_read.specs.declared.asked.Ask.{Ask}
 use Rattle.norprog_read.specs.declared.asked.Reading.{Reading}
-use Rattle.norprog_read.specs.declared.fault.Unlike.TheVariants.{Asking, At}
 use Rattle.norprog_read.specs.declared.fault.Unread.{Unread}
 use Rattle.norprog_read.specs.declared.fault.Unread.TheVariants as unread
 use Rattle.norprog_read.specs.Chip.{HasReadChip}
@@ -45,10 +38,10 @@ pub record StopsReading (most : ℕ) (held_before held_after : Option (List ℕ)
   pub stops : StopsChip most held_before held_after ahead_before ahead_after ask stop
   pub is : why ≡ of_reading stop
 
--- its status shows that it can't take work; or the job is strict, and its image gives a chosen region no byte
+-- its status shows that it can't take work; or the job's image breaks its rules
 abbrev pub IsUnsuited : Job → Reading → Unflashed → Type 0
 IsUnsuited job r (Closed status) = (status ≡ r.status) × (suits job.ask.part (start_at job r.status) r.status ≡ false)
-IsUnsuited job r (Refused why) = RefusesEmpty job.strict (flash_task job r.tables.items) (length r.content.items) why
+IsUnsuited job r (Refused why) = BreaksRules job.rules (flash_task job r.tables.items) (length r.content.items) why
 IsUnsuited job r other = ⊥
 
 -- it was read, and that is so
@@ -58,31 +51,11 @@ pub record StopsUnsuited (most : ℕ) (held_before held_after : Option (List ℕ
   pub read : HasReadChip most held_before held_after ahead_before ahead_after job.ask reading
   pub unsuited : IsUnsuited job reading why
 
--- reading a chip of this content past its end stopped so: an exchange ended early, or the byte at an address is another
-abbrev pub MissesEnd : ℕ → Option (List ℕ) → Option (List ℕ) → Ahead → Ahead → ReadBy → List ℕ → Unflashed → Type 0
-MissesEnd most held_before held_after ahead_before ahead_after by content (Unlike (Asking why)) =
-    ReadsPast most held_before held_after ahead_before ahead_after (Err (Exchange why)) by content
-MissesEnd most held_before held_after ahead_before ahead_after by content (Unlike (At address)) =
-    (d : Difference) × (d.address ≡ address) × ReadsPast most held_before held_after ahead_before ahead_after (Err (Differs d)) by content
-MissesEnd most held_before held_after ahead_before ahead_after by content other = ⊥
-
--- it was read, and then that
-pub record StopsPast (most : ℕ) (held_before held_after : Option (List ℕ)) (ahead_before ahead_after : Ahead) (job : Job)
-    (why : Unflashed) : Type 0 where
-  pub reading : Reading
-  pub held : Option (List ℕ)
-  pub ahead : Ahead
-  pub read : HasReadChip most held_before held ahead_before ahead job.ask reading
-  pub by : ReadBy
-  pub way : GivesBy reading.meaning (start_of (flash_task job reading.tables.items)) by
-  pub stop : MissesEnd most held held_after ahead ahead_after by reading.content.items why
-
--- it wasn't read, or one of these
+-- it wasn't read, or that is so
 abbrev pub StopsBefore : ℕ → Option (List ℕ) → Option (List ℕ) → Ahead → Ahead → Job → Unflashed → Type 0
 StopsBefore most held_before held_after ahead_before ahead_after job why =
     StopsReading most held_before held_after ahead_before ahead_after job.ask why
-    ⊎ (StopsUnsuited most held_before held_after ahead_before ahead_after job why
-    ⊎ StopsPast most held_before held_after ahead_before ahead_after job why)
+    ⊎ StopsUnsuited most held_before held_after ahead_before ahead_after job why
 
 -- the work from the content to the target was planned and printed, but not all of how to go on
 pub record LacksWay (job : Job) (r : Reading) (out_before out_after : Option (List ℕ)) : Type 0 where

@@ -4,20 +4,18 @@ ghost use Rattle.std.specs.Prelude.{◌≡◌, ◌<◌, ◌≤◌, ◌+◌, ◌-
 ghost use Rattle.std.specs.Prelude.{IfOk, IfErr, MatchResult, Ok};
 ghost use Rattle.nor_base.specs.Device.{HaveRoom};
 ghost use Rattle.nor_probe.specs.Status.{suits};
-ghost use Rattle.nor_job.specs.Shares.{HasNoneEmpty};
 ghost use Rattle.nor_job.specs.Status.{start_of};
 ghost use Rattle.norprog_common.specs.Content.{CountsWriter};
-ghost use Rattle.norprog_common.specs.Strict.{RefusesEmpty};
+ghost use Rattle.norprog_common.specs.Rules.{BreaksRules, MeetsRules};
 ghost use Rattle.norprog_flash.specs.Blame.{fault_before};
 ghost use Rattle.norprog_flash.specs.Begun.{HasRead, PrintsPlan, start_at};
 ghost use Rattle.norprog_flash.specs.Task.{dump_of, flash_task};
 ghost use Rattle.norprog_work.specs.Work.{IsWork};
 ghost use Rattle.nor_reader.specs.Harmless.{HasSentHarmless, SendsHarmless};
 ghost use Rattle.nor_reader.specs.Laws.{GivesBy};
-ghost use Rattle.nor_reader.specs.Past.{ReadsPast};
 ghost use Rattle.norprog_read.specs.Blame.{CountsBoth};
 ghost use Rattle.norprog_flash.specs.Opened.{HasHeld, StopsHolding};
-ghost use Rattle.norprog_flash.specs.Stops.{CantPlan, MissesEnd, StopsBefore};
+ghost use Rattle.norprog_flash.specs.Stops.{CantPlan, StopsBefore};
 
 use crate::ending::Unflashed;
 use crate::job::{Job, inputs_for};
@@ -25,12 +23,12 @@ use crate::resumed::is_of_dump;
 use crate::way::print_way;
 use nor_base::{ByteIn, ByteOut, Start};
 use nor_job::BuildFault;
-use nor_probe::{Mismatch, suits};
-use nor_reader::{ReadBy, read_past};
+use nor_probe::suits;
+use nor_reader::ReadBy;
 use nor_serprog::{Limits, test_line};
-use norprog_common::{FileName, Refusal, refuse_empty};
+use norprog_common::{FileName, Refusal, refuse_image};
 use norprog_device::DeviceFault;
-use norprog_read::{Reading, Unlike, first_by, read_chip};
+use norprog_read::{Reading, first_by, read_chip};
 use norprog_work::{Work, work_for};
 use std::alloc::Global;
 
@@ -136,8 +134,8 @@ fn older<'a>(job: &Job<'a>, content: &'a [u8]) -> &'a [u8]
     }
 }
 
-/// Reads the chip, whose status has to show that it can take the work. Of a strict job the image
-/// has to give each chosen region a byte. Past its end the chip has to give its first bytes.
+/// Reads the chip, whose status has to show that it can take the work. The image has to keep the
+/// job's rules.
 fn read_suited<R: ByteIn, W: ByteOut>(
     alloc: Global,
     from: &mut R,
@@ -167,50 +165,20 @@ fn read_suited<R: ByteIn, W: ByteOut>(
         return Err(Unflashed::Closed(reading.status));
     }
     let by = first_by(&reading.meaning, said_start(job));
-    refuse_unfilled(alloc, job, &reading)?;
-    see_end(from, to, limits, by, reading.content.as_slice())?;
+    refuse_unruled(alloc, job, &reading)?;
     Ok(Held { reading, by })
 }
 
-/// Reads a chip of this content past its end, and sees that it ends there.
-fn see_end<R: ByteIn, W: ByteOut>(
-    from: &mut R,
-    to: &mut W,
-    limits: &Limits,
-    by: ReadBy,
-    content: &[u8],
-) -> Result<(), Unflashed>
-    requires room { HaveRoom (R.count from.old) (W.count to.old) }
-    ensures past { IfOk result
-        (λ _. ReadsPast limits.now.asked (W.held to.old) (W.held to.new) (R.ahead from.old)
-        (R.ahead from.new) (Ok tt) by content.now) }
-    ensures stops { IfErr result
-        (MissesEnd limits.now.asked (W.held to.old) (W.held to.new) (R.ahead from.old)
-        (R.ahead from.new) by content.now) }
-    ensures harmless { MatchResult result (λ _. HasSentHarmless (W.held to.old) (W.held to.new))
-        (λ _. SendsHarmless (W.held to.old) (W.held to.new)) }
-    ensures counts { CountsBoth (R.count from.old) (R.count from.new) (W.count to.old)
-        (W.count to.new) (fault_before result) }
-{
-    match read_past(from, to, limits, by, content) {
-        Ok(()) => Ok(()),
-        Err(Mismatch::Exchange(why)) => Err(Unflashed::Unlike(Unlike::Asking(why))),
-        Err(Mismatch::Differs(d)) => Err(Unflashed::Unlike(Unlike::At(d.address))),
-    }
-}
-
-/// Refuses a strict job whose image gives a chosen region of this chip no byte.
-fn refuse_unfilled(alloc: Global, job: &Job<'_>, reading: &Reading) -> Result<(), Refusal>
-    ensures filled { IfOk result (λ _. job.now.strict ≡ true
-        → HasNoneEmpty (flash_task job.now reading.now.tables.items)
-        (length reading.now.content.items)) }
-    ensures refused { IfErr result
-        (RefusesEmpty job.now.strict (flash_task job.now reading.now.tables.items)
-        (length reading.now.content.items)) }
+/// Refuses a job whose image breaks its rules, on this chip.
+fn refuse_unruled(alloc: Global, job: &Job<'_>, reading: &Reading) -> Result<(), Refusal>
+    ensures meets { IfOk result (λ _. MeetsRules job.now.rules
+        (flash_task job.now reading.now.tables.items) (length reading.now.content.items)) }
+    ensures breaks { IfErr result (BreaksRules job.now.rules
+        (flash_task job.now reading.now.tables.items) (length reading.now.content.items)) }
 {
     let inputs = inputs_for(job, reading.tables.as_slice());
     let content = reading.content.as_slice();
-    refuse_empty(alloc, job.strict, &inputs, content.len() as u64)
+    refuse_image(alloc, job.rules, &inputs, content.len() as u64)
 }
 
 /// How the work is planned to begin: in the mode that was said, on one lane.

@@ -17,7 +17,7 @@ ghost use Rattle.norprog_read.specs.Blame.{CountsBoth};
 use crate::begun::{Held, print_plan};
 use crate::ending::Ending;
 use crate::job::Job;
-use crate::work::do_work;
+use crate::work::{Back, do_work};
 use nor_base::{ByteIn, ByteOut};
 use nor_flasher::{breaks, closes, doable};
 use nor_serprog::{Limits, carried};
@@ -98,7 +98,10 @@ fn work_on<R: ByteIn, W: ByteOut, P: ByteOut>(
     doable();
     do_work(
         &held.reading.meaning,
-        held.by,
+        Back {
+            by: held.by,
+            larger: job.ask.any_size,
+        },
         from,
         to,
         limits,

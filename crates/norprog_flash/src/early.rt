@@ -1,25 +1,60 @@
 //! What shows of a job before its chip is read.
 
 ghost use Rattle.std.specs.Prelude.{◌≡◌, IfOk, IfErr};
-ghost use Rattle.nor_job.specs.declared.fault.BuildFault.{BuildFault};
-ghost use Rattle.norprog_common.specs.declared.faults.Refusal.TheVariants.{Build};
-ghost use Rattle.norprog_flash.specs.Early.{file_tables, is_known, IsSoundEarly, RefusesEarly};
+ghost use Rattle.nor_job.specs.Causes.{AreNamed};
+ghost use Rattle.norprog_flash.specs.Early.{file_tables, is_known, is_unnamed, BreaksEarly};
+ghost use Rattle.norprog_flash.specs.Early.{IsSoundEarly, MeetsEarly, RefusesEarly};
 
 use crate::job::{Job, inputs_for};
-use norprog_common::Refusal;
+use nor_job::{BuildFault, Inputs, chip_of};
+use norprog_common::{ImageRules, Refusal, refuse_image, refuse_partial};
 use norprog_read::Known;
 use norprog_work::look;
 use std::alloc::Global;
 
+/// A layout of which no region is named.
+const UNNAMED: BuildFault = BuildFault::Contradiction(5);
+
 /// Refuses a job for the first fault that shows before its chip is read.
 pub fn look_at(alloc: Global, job: &Job<'_>) -> Result<(), Refusal>
     ensures sound { IfOk result (λ _. IsSoundEarly job.now) }
-    ensures refused { IfErr result (λ why. (fault : BuildFault) × (why ≡ Build fault)
-        × RefusesEarly job.now fault) }
+    ensures refused { IfErr result (RefusesEarly job.now) }
 {
+    if is_unnamed(job) {
+        return Err(Refusal::Build(UNNAMED));
+    }
     let (known, tables) = known_tables(job);
-    match look(alloc, &inputs_for(job, tables), known) {
-        Ok(()) => Ok(()),
+    let inputs = inputs_for(job, tables);
+    match look(alloc, &inputs, known) {
+        Ok(()) => refuse_early(alloc, job.rules, &inputs, known),
+        Err(why) => Err(Refusal::Build(why)),
+    }
+}
+
+/// Whether there is a layout, and none of its regions is named.
+fn is_unnamed(job: &Job<'_>) -> bool
+    ensures { result ≡ is_unnamed job.now }
+{
+    job.layout.is_some() && job.regions.is_empty()
+}
+
+/// Refuses inputs whose image breaks a rule, as far as that shows before the chip is read: with a
+/// chip that isn't known only where a region isn't full.
+fn refuse_early(
+    alloc: Global,
+    rules: ImageRules,
+    inputs: &Inputs<'_>,
+    known: bool,
+) -> Result<(), Refusal>
+    requires { AreNamed inputs.now }
+    ensures meets { IfOk result (λ _. MeetsEarly rules known inputs.now) }
+    ensures breaks { IfErr result (BreaksEarly rules known inputs.now) }
+{
+    if !known {
+        return refuse_partial(alloc, rules.full, inputs);
+    }
+    match chip_of(inputs) {
+        Ok((meaning, _)) => refuse_image(alloc, rules, inputs, u64::from(meaning.size)),
         Err(why) => Err(Refusal::Build(why)),
     }
 }

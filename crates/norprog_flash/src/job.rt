@@ -7,7 +7,7 @@ ghost use Rattle.nor_job.specs.Task.{origin_of};
 
 use nor_base::Bytes;
 use nor_job::{Inputs, Source};
-use norprog_common::FlashArgs;
+use norprog_common::{FlashArgs, ImageRules};
 use norprog_read::{Ask, Known};
 
 /// What is to be done on which chip.
@@ -25,8 +25,8 @@ pub struct Job<'a> {
     pub base: u32,
     /// What the image doesn't give, where work is resumed: the content before the first try.
     pub old: Option<&'a [u8]>,
-    /// Each chosen region has to get a byte of the image.
-    pub strict: bool,
+    /// What the image has to give.
+    pub rules: ImageRules,
     /// Only the plan is wanted.
     pub dry: bool,
     /// The texts that the way on is printed of, where there is work to do.

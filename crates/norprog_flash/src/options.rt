@@ -27,9 +27,13 @@ pub(crate) enum Name {
     Base,
     ErasedOnly,
     Strict,
+    Partial,
+    Beyond,
     Raw,
     Fresh,
     AnySize,
+    Repeats,
+    ExpectId,
     Resume,
     Before,
 }
@@ -92,7 +96,7 @@ fn write_command<W: ByteOut>(given: &FlashArgs<'_>, writer: &mut W) -> Result<()
 }
 
 /// Its options.
-fn options<'a>(given: &'a FlashArgs<'a>) -> [Given<'a>; 17]
+fn options<'a>(given: &'a FlashArgs<'a>) -> [Given<'a>; 21]
     ensures { flat_map given_text result ≡ next_options given.now }
 {
     [
@@ -108,9 +112,13 @@ fn options<'a>(given: &'a FlashArgs<'a>) -> [Given<'a>; 17]
         Given::Text(Name::Base, given.base),
         Given::Flag(Name::ErasedOnly, given.erased_only),
         Given::Flag(Name::Strict, given.strict),
+        Given::Flag(Name::Partial, given.partial),
+        Given::Flag(Name::Beyond, given.beyond),
         Given::Flag(Name::Raw, given.raw),
         Given::Flag(Name::Fresh, given.fresh),
         Given::Flag(Name::AnySize, given.any_size),
+        Given::Flag(Name::Repeats, given.repeats),
+        Given::Text(Name::ExpectId, given.expect_id),
         Given::Text(Name::Resume, Some(first_name(given))),
         Given::Next(Name::Before, given.before),
     ]
@@ -227,9 +235,13 @@ fn name_text(name: Name) -> &'static [u8]
         Name::Base => b"base",
         Name::ErasedOnly => b"erased-only",
         Name::Strict => b"strict",
+        Name::Partial => b"partial",
+        Name::Beyond => b"beyond",
         Name::Raw => b"raw",
         Name::Fresh => b"fresh",
         Name::AnySize => b"any-size",
+        Name::Repeats => b"repeats",
+        Name::ExpectId => b"expect-id",
         Name::Resume => b"resume",
         Name::Before => b"before",
     }

@@ -22,7 +22,7 @@ const GO_ON: &[u8] =
 
 /// Writes to `err` how to go on with a chip that may hold a part of the work, and then the line of
 /// an ending to `out`, or to `err` that it can't be written. Returns the status: 0 where all was
-/// done and printed, else 1.
+/// done and printed, 3 where the chip may hold a part of the work, else 1.
 pub fn report_ending<O: ByteOut, E: ByteOut>(
     ending: Ending,
     given: &FlashArgs<'_>,
@@ -33,13 +33,13 @@ pub fn report_ending<O: ByteOut, E: ByteOut>(
     requires err { E.count err.old < 2 ^ 64 - 1 }
     ensures said { Says (state_told ending given.now) (ending_line ending) (status_of ending)
         (output O.held O.count out.old out.new) (output E.held E.count err.old err.new) result }
-    ensures status { result ≤ 1 }
+    ensures status { result ≤ 3 }
     ensures quiet { result ≡ 0 → err.new ≡ err.old }
 {
     let told = write_state(ending, given, err);
     match write_ending(ending, out) {
         Ok(()) => status_of(ending),
-        Err(_) => refuse_lines(told, err),
+        Err(_) => refuse_lines(told, status_of(ending), err),
     }
 }
 
@@ -98,12 +98,13 @@ fn is_sent(why: Failure) -> bool
     }
 }
 
-/// 0 where all that was wanted was done, else 1.
+/// 0 where all that was wanted was done, 3 where the chip may hold a part of it, else 1.
 fn status_of(ending: Ending) -> u8
     ensures { result ≡ status_of ending }
 {
     match ending {
         Ending::Planned | Ending::Done { .. } => 0,
+        Ending::Failed { .. } if is_partial(ending) => 3,
         Ending::Failed { .. } => 1,
     }
 }

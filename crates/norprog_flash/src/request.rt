@@ -1,10 +1,10 @@
 //! What the values of a command line of `flash` ask for.
 
 ghost use Rattle.std.specs.Prelude.{◌≡◌, is_some, IfSome};
-ghost use Rattle.norprog_flash.specs.Request.{is_well_formed, read_args, AsksFor};
+ghost use Rattle.norprog_flash.specs.Request.{is_well_formed, read_args, rules_of, AsksFor};
 
 use nor_base::Bytes;
-use norprog_common::{FlashArgs, ReadArgs, base};
+use norprog_common::{FlashArgs, ImageRules, ReadArgs, base};
 use norprog_read::ReadRequest;
 
 /// What `flash` is asked for: each value is of its form.
@@ -20,8 +20,8 @@ pub struct FlashRequest<'a> {
     /// The name of the file that has the content before the first try, where work is resumed.
     pub resume: Option<&'a str>,
     pub erased_only: bool,
-    /// Each chosen region has to get a byte of the image.
-    pub strict: bool,
+    /// What the image has to give.
+    pub rules: ImageRules,
     pub dry_run: bool,
     pub regions: &'a [Bytes],
     /// The texts that ask for it.
@@ -42,11 +42,24 @@ pub fn request_of<'a>(given: &'a FlashArgs<'a>) -> Option<FlashRequest<'a>>
         before: given.before?,
         resume: given.resume,
         erased_only: given.erased_only,
-        strict: given.strict,
+        rules: rules_of(given),
         dry_run: given.dry_run,
         regions: given.regions.as_slice(),
         texts: given,
     })
+}
+
+/// What the image has to give: all of each named region and nothing off the chip, except where the
+/// values allow that.
+fn rules_of(given: &FlashArgs<'_>) -> ImageRules
+    ensures { result ≡ rules_of given.now }
+{
+    ImageRules {
+        strict: given.strict,
+        full: !given.partial,
+        inside: !given.beyond,
+        lands: true,
+    }
 }
 
 /// What a command line of `read` would have that reads the chip so, and saves what it holds.
@@ -63,5 +76,7 @@ fn read_args<'a>(given: &FlashArgs<'a>) -> ReadArgs<'a>
         raw: given.raw,
         fresh: given.fresh,
         any_size: given.any_size,
+        repeats: given.repeats,
+        expect_id: given.expect_id,
     }
 }

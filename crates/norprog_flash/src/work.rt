@@ -18,11 +18,20 @@ use nor_reader::{ReadBy, read_again, read_past};
 use nor_serprog::Limits;
 use norprog_failure::{Failure, failure_by, failure_of};
 
+/// How a chip is read back.
+#[derive(Clone, Copy)]
+pub struct Back {
+    /// By which instruction.
+    pub by: ReadBy,
+    /// It may be larger than was said: nothing is read past its end.
+    pub larger: bool,
+}
+
 /// Has the device do the steps, and then read the chip, which must give the goal's bytes, and end
 /// there.
 pub(crate) fn do_work<R: ByteIn, W: ByteOut, P: ByteOut>(
     meaning: &Meaning,
-    by: ReadBy,
+    back: Back,
     from: &mut R,
     to: &mut W,
     limits: &Limits,
@@ -36,7 +45,7 @@ pub(crate) fn do_work<R: ByteIn, W: ByteOut, P: ByteOut>(
     requires room { HaveRoom (R.count from.old) (W.count to.old) }
     requires told { P.count progress.old < 2 ^ 64 - 1 }
     ensures ends { WorksOut (W.held to.old) (W.held to.new) (R.ahead from.old) (R.ahead from.new)
-        limits.now turns meaning.now by steps.now goal.now result }
+        limits.now turns meaning.now back steps.now goal.now result }
     ensures counts { CountsBoth (R.count from.old) (R.count from.new) (W.count to.old)
         (W.count to.new) (fault_of_ending result) }
 {
@@ -48,7 +57,7 @@ pub(crate) fn do_work<R: ByteIn, W: ByteOut, P: ByteOut>(
         };
     }
     let transactions = steps.len() as u64;
-    match read_back(from, to, limits, by, goal) {
+    match read_back(from, to, limits, back, goal) {
         Ok(()) => Ending::Done { transactions },
         Err(why) => Ending::Failed {
             step: transactions,
@@ -58,24 +67,26 @@ pub(crate) fn do_work<R: ByteIn, W: ByteOut, P: ByteOut>(
 }
 
 /// Has the device read the chip, which must give these bytes, and past its end what one that holds
-/// just these gives there.
+/// just these gives there, unless it may be larger.
 fn read_back<R: ByteIn, W: ByteOut>(
     from: &mut R,
     to: &mut W,
     limits: &Limits,
-    by: ReadBy,
+    back: Back,
     bytes: &[u8],
 ) -> Result<(), Mismatch>
     requires size { length bytes.now ≤ 2 ^ 32 }
     requires room { HaveRoom (R.count from.old) (W.count to.old) }
     ensures back { ReadsBack limits.now.asked (W.held to.old) (W.held to.new) (R.ahead from.old)
-        (R.ahead from.new) result by bytes.now }
+        (R.ahead from.new) result back bytes.now }
     ensures counts { CountsMismatch Read (R.count from.old) (R.count from.new) result
         × CountsMismatch Write (W.count to.old) (W.count to.new) result }
 {
-    read_again(from, to, limits, by, bytes)?;
-    read_past(from, to, limits, by, bytes)?;
-    Ok(())
+    read_again(from, to, limits, back.by, bytes)?;
+    if back.larger {
+        return Ok(());
+    }
+    read_past(from, to, limits, back.by, bytes)
 }
 
 /// Why the step isn't done at which a device halted.

@@ -1,24 +1,19 @@
 -- Why a job isn't done.
-use Rattle.std.proofs.Common.{◌≡◌, ◌⊎◌, ◌<◌, ℕ, ◌+◌, Bool, inl, inr, List, Option, arith, refl, subst, sym}
+use Rattle.std.proofs.Common.{◌≡◌, ◌⊎◌, ◌<◌, ℕ, ◌+◌, inl, inr, List, arith, subst, sym}
 use Rattle.nor_base.specs.Device.{Ahead}
 use Rattle.nor_job.specs.Causes.{RefusesInputs}
 use Rattle.nor_job.specs.Task.{Task}
 use Rattle.nor_job.specs.Written.{of_reader, of_writer}
 use Rattle.nor_job.specs.declared.fault.BuildFault.{BuildFault}
 use Rattle.nor_job.specs.declared.fault.BuildFault.TheVariants as fault
-use Rattle.norprog_common.specs.Strict.{RefusesEmpty}
+use Rattle.norprog_common.specs.Rules.{MeetsRules}
 use Rattle.norprog_common.specs.declared.faults.Refusal.{Refusal}
-use Rattle.norprog_common.specs.declared.faults.Refusal.TheVariants.{Build, EmptyRegion}
+use Rattle.norprog_common.specs.declared.faults.Refusal.TheVariants.{Build}
 use Rattle.norprog_common.specs.declared.request.Request.{Request}
+use Rattle.norprog_common.specs.declared.rules.ImageRules.{ImageRules}
 use Rattle.norprog_files.specs.Files.{Event}
 use Rattle.norprog_named.specs.Job.{IsJobOf}
-use Rattle.norprog_named.specs.Build.{Empty, IsFull, NoMemory, Refused, Stopped, Undone, Work, work}
-
-pub empty : (strict : Bool) (t : Task) (len : ℕ) (content : Ahead) (held : Option (List ℕ)) (Stops : BuildFault → Type 0) (A B : Type 0) (why : Refusal)
-    → RefusesEmpty strict t len why → Undone strict (work t len content content held held) Stops A B why
-empty strict t len content held Stops A B (EmptyRegion index) is = Empty index is.0 is.1 refl
-empty strict t len content held Stops A B (Build fault.Memory) is = NoMemory refl
-empty strict t len content held Stops A B other is = absurd is
+use Rattle.norprog_named.specs.Build.{Breaking, Refused, Stopped, Undone, Work}
 
 -- a failure that is reported was counted
 read_rose : (m n : ℕ) (why : BuildFault) → n ≡ m + of_reader why → why ≡ fault.Read → m < n
@@ -27,19 +22,18 @@ read_rose m n why counts is = let one : n ≡ m + 1 = subst (λ (w : BuildFault)
 write_rose : (m n : ℕ) (why : BuildFault) → n ≡ m + of_writer why → why ≡ fault.Write → m < n
 write_rose m n why counts is = let one : n ≡ m + 1 = subst (λ (w : BuildFault). n ≡ m + of_writer w) is counts in omega (arith, one)
 
-pub stopped : (strict : Bool) (w : Work) (Stops : BuildFault → Type 0) (A B : Type 0) (k k' m m' : ℕ) (why : BuildFault)
-    → IsFull strict w → (RefusesInputs w.task w.len why × A × B) ⊎ Stops why → (B → w.ended ≡ w.begun)
-    → k' ≡ k + of_reader why → m' ≡ m + of_writer why → Undone strict w Stops (k < k') (m < m') (Build why)
-stopped strict w Stops A B k k' m m' why full (inl early) same read wrote = Refused why early.0 (same early.2)
-stopped strict w Stops A B k k' m m' why full (inr late) same read wrote =
+pub stopped : (rules : ImageRules) (w : Work) (Stops : BuildFault → Type 0) (A B : Type 0) (k k' m m' : ℕ) (why : BuildFault)
+    → MeetsRules rules w.task w.len → (RefusesInputs w.task w.len why × A × B) ⊎ Stops why → (B → w.ended ≡ w.begun)
+    → k' ≡ k + of_reader why → m' ≡ m + of_writer why → Undone rules w Stops (k < k') (m < m') (Build why)
+stopped rules w Stops A B k k' m m' why full (inl early) same read wrote = Refused why early.0 (same early.2)
+stopped rules w Stops A B k k' m m' why full (inr late) same read wrote =
     Stopped why full late (read_rose k k' why read) (write_rose m m' why wrote)
 
-pub wider : {strict : Bool} {w : Work} {Stops : BuildFault → Type 0} {A B C D : Type 0} {why : Refusal} → (A → C) → (B → D) → Undone strict w Stops A B why
-    → Undone strict w Stops C D why
-wider f g (Empty index is first same) = Empty index is first same
+pub wider : {rules : ImageRules} {w : Work} {Stops : BuildFault → Type 0} {A B C D : Type 0} {why : Refusal} → (A → C) → (B → D) → Undone rules w Stops A B why
+    → Undone rules w Stops C D why
+wider f g (Breaking why breaks same) = Breaking why breaks same
 wider f g (Refused why refuses same) = Refused why refuses same
 wider f g (Stopped why full stops read wrote) = Stopped why full stops (λ is. f (read is)) (λ is. g (wrote is))
-wider f g (NoMemory same) = NoMemory same
 
 -- the job is that of a task that is the same
 pub job_by : {r : Request} {content : Ahead} {len : ℕ} {log : List Event} (t u : Task) → u ≡ t → IsJobOf r t content len log → IsJobOf r u content len log

@@ -1,23 +1,11 @@
--- A job that isn't begun, and what is said of one.
-use Rattle.std.proofs.Common.{◌≡◌, ◌≤◌, ◌<◌, ℕ, List, [], Option, Result, Ok, Err, arith, subst, sym}
-use Rattle.nor_job.specs.declared.fault.BuildFault.{BuildFault}
-use Rattle.norprog_common.specs.declared.faults.Refusal.{Refusal}
-use Rattle.norprog_common.specs.declared.faults.Refusal.TheVariants.{Build}
+-- What is said of a job.
+use Rattle.std.proofs.Common.{◌≤◌, ℕ, List, [], Option, Result, Ok, Err, arith}
 use Rattle.norprog_common.specs.Told.{All_said, Cut_off, Output, Says, between}
 use Rattle.norprog_common.specs.declared.given.FlashArgs.{FlashArgs}
-use Rattle.norprog_flash.specs.Early.{RefusesEarly}
 use Rattle.norprog_flash.specs.declared.ending.Ending.{Ending}
 use Rattle.norprog_flash.specs.declared.ending.Unflashed.{Unflashed}
 use Rattle.norprog_flash.specs.declared.ending.Unflashed.TheVariants.{Closed, Device, Refused, Unlike}
-use Rattle.norprog_flash.specs.declared.job.Job.{Job}
 use Rattle.norprog_named.specs.AskedDevice.{SaysFlash}
-use Rattle.norprog_named.specs.Flash.{EndsJob, Faulty, Prints}
-
--- a fault of it shows before
-pub faulty : (device name : List ℕ) (job : Job) (out : Prints) (why : Refusal) → (fault : BuildFault) × (why ≡ Build fault) × RefusesEarly job fault
-    → out.after ≡ out.before → EndsJob device name job out [] (Err (Refused why))
-faulty device name job out why is same =
-    subst (λ (w : Refusal). EndsJob device name job out [] (Err (Refused w))) (sym is.1) (Faulty is.0 is.2 same)
 
 -- where standard output failed, it did so in a longer span too
 said_wider : (told lines : List ℕ) (own k m n : ℕ) (before after : Option (List ℕ)) (err : Output) (status : ℕ) → k ≤ m

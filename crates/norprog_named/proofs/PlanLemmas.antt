@@ -1,12 +1,12 @@
 -- The plan of a job that is told, and the file of its picture, from the making on.
-use Rattle.std.proofs.Common.{◌≡◌, ℕ, List, [], ◌∷◌, ◌++◌, Option, Some, None, Result, Ok, Err, true}
+use Rattle.std.proofs.Common.{ℕ, List, [], ◌∷◌, ◌++◌, Option, Some, None, Result, Ok, Err}
 use Rattle.std.specs.Prelude.{MatchResult}
 use Rattle.std.specs.Io.KnownBytes.{Appends}
 use Rattle.nor_base.specs.Device.{Ahead}
 use Rattle.nor_base.specs.declared.device.Failed.{Failed}
 use Rattle.nor_base.proofs.DeviceLaws.{Appends-none}
-use Rattle.nor_job.specs.Shares.{HasNoneEmpty}
 use Rattle.nor_job.specs.Task.{Task}
+use Rattle.norprog_common.specs.Rules.{MeetsRules}
 use Rattle.norprog_files.specs.Files.{Event, IsClosed, Leaves_it, Lost, Sends_all, closing}
 use Rattle.norprog_named.specs.Job.{IsJobOf}
 use Rattle.norprog_named.specs.Plan.{LeavesMap, LosesMap, MakesMap, MapLost, MapMade, MapNamed, NoneMade, NoneNamed, SendsMap, TellsJob, shows_of}
@@ -15,8 +15,8 @@ use Rattle.norprog_named.specs.declared.plan_files.PlanRequest.{PlanRequest}
 use Rattle.norprog_plan.specs.Outline.{IsOutline, Outline}
 
 pub tells_job : {r : PlanRequest} {t : Task} {content : Ahead} {o : Outline} {job : List Event} (len : ℕ) → IsJobOf r.job t content len job
-    → (r.job.strict ≡ true → HasNoneEmpty t len) → IsOutline (shows_of r) t len content o → TellsJob r o job
-tells_job {r} {t} {content} {o} {job} len opens full tells = record { task = t; content = content; len = len; opens = opens; full = full; tells = tells }
+    → MeetsRules r.job.rules t len → IsOutline (shows_of r) t len content o → TellsJob r o job
+tells_job {r} {t} {content} {o} {job} len opens meets tells = record { task = t; content = content; len = len; opens = opens; meets = meets; tells = tells }
 
 pub none_sent : {O : Type 0} {held : O → Option (List ℕ)} {path : Option (List ℕ)} {made : List Event} (picture : List ℕ) → MakesMap held path None made
     → SendsMap picture path (made ++ [])

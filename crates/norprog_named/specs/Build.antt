@@ -1,17 +1,18 @@
 -- How `build` ends (this project's).
-use Rattle.std.specs.Prelude.{◌≡◌, ℕ, Bool, true, List, [], ◌∷◌, ◌++◌, Option, Some, Result, Ok, Err}
+use Rattle.std.specs.Prelude.{◌≡◌, ℕ, List, [], ◌∷◌, ◌++◌, Option, Result, Ok, Err}
 use Rattle.nor_base.specs.Device.{Ahead}
 use Rattle.nor_job.specs.declared.fault.BuildFault.{BuildFault}
 use Rattle.nor_job.specs.declared.fault.BuildFault.TheVariants as fault
 use Rattle.nor_job.specs.Causes.{RefusesInputs}
-use Rattle.nor_job.specs.Shares.{HasFirstEmpty, HasNoneEmpty}
 use Rattle.nor_job.specs.Task.{Task}
 use Rattle.norprog.specs.Build.{IsBuilt, StopsWork}
 use Rattle.norprog.specs.declared.report.Report.{Report}
+use Rattle.norprog_common.specs.Rules.{BreaksRules, MeetsRules}
 use Rattle.norprog_common.specs.declared.faults.FileName.TheVariants as file
 use Rattle.norprog_common.specs.declared.faults.Refusal.{Refusal}
-use Rattle.norprog_common.specs.declared.faults.Refusal.TheVariants.{Build, EmptyRegion}
+use Rattle.norprog_common.specs.declared.faults.Refusal.TheVariants.{Build}
 use Rattle.norprog_common.specs.declared.request.Request.{Request}
+use Rattle.norprog_common.specs.declared.rules.ImageRules.{ImageRules}
 use Rattle.norprog_files.specs.Files.{Event, Denied, Denies, IsClosed, Lost, Made, Sent, StopsOpening}
 use Rattle.norprog_named.specs.Job.{IsJobOf, job_files}
 
@@ -32,27 +33,22 @@ work t len content rest begun ended = record { task = t; len = len; content = co
 abbrev pub IsBuiltBy : Work → Report → Type 0
 IsBuiltBy w report = IsBuilt w.task w.len w.content w.rest w.begun w.ended report
 
--- under `--strict` the image gives each chosen region a byte
-abbrev pub IsFull : Bool → Work → Type 0
-IsFull strict w = strict ≡ true → HasNoneEmpty w.task w.len
-
--- why a job isn't done: under `--strict` a region is empty, the inputs are refused, or the work stops so (`Stops`), where the reader
--- (`Unread`) or the writer (`Unwritten`) failed if that is told; or memory ran out
-pub data Undone (strict : Bool) (w : Work) (Stops : BuildFault → Type 0) (Unread Unwritten : Type 0) : Refusal → Type 0 where
-  Empty : (index : ℕ) → strict ≡ true → HasFirstEmpty w.task w.len (Some index) → w.ended ≡ w.begun → Undone strict w Stops Unread Unwritten (EmptyRegion index)
-  Refused : (why : BuildFault) → RefusesInputs w.task w.len why → w.ended ≡ w.begun → Undone strict w Stops Unread Unwritten (Build why)
-  Stopped : (why : BuildFault) → IsFull strict w → Stops why → (why ≡ fault.Read → Unread) → (why ≡ fault.Write → Unwritten)
-      → Undone strict w Stops Unread Unwritten (Build why)
-  NoMemory : w.ended ≡ w.begun → Undone strict w Stops Unread Unwritten (Build fault.Memory)
+-- why a job isn't done: its image breaks a rule, the inputs are refused, or the work stops so (`Stops`), where the reader (`Unread`) or the
+-- writer (`Unwritten`) failed if that is told
+pub data Undone (rules : ImageRules) (w : Work) (Stops : BuildFault → Type 0) (Unread Unwritten : Type 0) : Refusal → Type 0 where
+  Breaking : (why : Refusal) → BreaksRules rules w.task w.len why → w.ended ≡ w.begun → Undone rules w Stops Unread Unwritten why
+  Refused : (why : BuildFault) → RefusesInputs w.task w.len why → w.ended ≡ w.begun → Undone rules w Stops Unread Unwritten (Build why)
+  Stopped : (why : BuildFault) → MeetsRules rules w.task w.len → Stops why → (why ≡ fault.Read → Unread) → (why ≡ fault.Write → Unwritten)
+      → Undone rules w Stops Unread Unwritten (Build why)
 
 -- why nothing is built: the work stops, and what the output took is no whole script
-abbrev pub Unbuilt : Bool → Work → Type 0 → Type 0 → Refusal → Type 0
-Unbuilt strict w = Undone strict w (StopsWork w.task w.len w.content w.rest w.begun w.ended)
+abbrev pub Unbuilt : ImageRules → Work → Type 0 → Type 0 → Refusal → Type 0
+Unbuilt rules w = Undone rules w (StopsWork w.task w.len w.content w.rest w.begun w.ended)
 
 -- how `build` ends, and what was done with files by then
 pub data EndsBuild (Unread : Type 0) (r : Request) (out : List ℕ) : List Event → Result Report Refusal → Type 0 where
   -- the output was sent the script of the request's job
-  Built : (w : Work) (job : List Event) (report : Report) → IsJobOf r w.task w.content w.len job → IsFull r.strict w → IsBuiltBy w report
+  Built : (w : Work) (job : List Event) (report : Report) → IsJobOf r w.task w.content w.len job → MeetsRules r.rules w.task w.len → IsBuiltBy w report
       → EndsBuild Unread r out (job ++ (Made out w.begun ∷ Sent out w.ended ∷ [])) (Ok report)
   -- a file of the job can't be opened
   NoInput : (log : List Event) (why : Refusal) → StopsOpening (job_files r) log why → EndsBuild Unread r out log (Err why)
@@ -61,6 +57,6 @@ pub data EndsBuild (Unread : Type 0) (r : Request) (out : List ℕ) : List Event
       → EndsBuild Unread r out (job ++ (Denied out ∷ [])) (Err why)
   -- nothing is built, whatever came of the closing; some of a script hasn't gone out
   NotBuilt : (w : Work) (job : List Event) (last : Event) (why : Refusal) → IsJobOf r w.task w.content w.len job → IsClosed out w.ended last
-      → Unbuilt r.strict w Unread (last ≡ Lost out w.ended) why → EndsBuild Unread r out (job ++ (Made out w.begun ∷ last ∷ [])) (Err why)
+      → Unbuilt r.rules w Unread (last ≡ Lost out w.ended) why → EndsBuild Unread r out (job ++ (Made out w.begun ∷ last ∷ [])) (Err why)
   Unsent : (w : Work) (job : List Event) (report : Report) → IsJobOf r w.task w.content w.len job → IsBuiltBy w report
       → EndsBuild Unread r out (job ++ (Made out w.begun ∷ Lost out w.ended ∷ [])) (Err (Build fault.Write))

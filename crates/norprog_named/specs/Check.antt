@@ -1,19 +1,18 @@
 -- How `check` ends (this project's).
-use Rattle.std.specs.Prelude.{◌≡◌, ℕ, Bool, true, List, [], ◌∷◌, ◌++◌, Some, Result, Ok, Err}
+use Rattle.std.specs.Prelude.{ℕ, List, [], ◌∷◌, ◌++◌, Result, Ok, Err}
 use Rattle.nor_check.specs.declared.verdict.Verdict.{Verdict}
 use Rattle.nor_check.specs.declared.verdict.Verdict.TheVariants.{Yes, No}
-use Rattle.nor_job.specs.Shares.{HasFirstEmpty, HasNoneEmpty}
-use Rattle.nor_job.specs.declared.fault.BuildFault.TheVariants as fault
 use Rattle.norprog_check.specs.Stream.{IsFound, Unchecked, Work}
 use Rattle.norprog_check.specs.declared.fault.CheckStop.TheVariants as check
 use Rattle.norprog_check.specs.declared.fault.StreamStop.{StreamStop}
 use Rattle.norprog_check.specs.declared.fault.StreamStop.TheVariants as stream
 use Rattle.norprog_check.specs.declared.finding.Finding.{Finding}
 use Rattle.norprog_common.specs.Lines.{script_refusal}
+use Rattle.norprog_common.specs.Rules.{BreaksRules, MeetsRules}
 use Rattle.norprog_common.specs.declared.faults.FileName.{FileName}
 use Rattle.norprog_common.specs.declared.faults.FileName.TheVariants as file
 use Rattle.norprog_common.specs.declared.faults.Refusal.{Refusal}
-use Rattle.norprog_common.specs.declared.faults.Refusal.TheVariants.{Build, EmptyRegion, File}
+use Rattle.norprog_common.specs.declared.faults.Refusal.TheVariants.{Build, File}
 use Rattle.norprog_common.specs.declared.request.Request.{Request}
 use Rattle.norprog_files.specs.Files.{Event, Opened, StopsOpening}
 use Rattle.norprog_named.specs.Job.{IsJobOf, job_files}
@@ -25,10 +24,6 @@ check_files r script = job_files r ++ ((file.Script, script) ∷ [])
 -- those were opened: the work is of their job, and of this script
 pub data Opens (r : Request) (script : List ℕ) (w : Work) : List Event → Type 0 where
   Opens_all : (job : List Event) (len : ℕ) → IsJobOf r w.task w.content w.len job → Opens r script w (job ++ (Opened script w.script len ∷ []))
-
--- under `--strict` the image gives each chosen region a byte
-abbrev pub IsFull : Bool → Work → Type 0
-IsFull strict w = strict ≡ true → HasNoneEmpty w.task w.len
 
 -- what is told where nothing is found
 abbrev pub refusal_of : StreamStop → Refusal
@@ -44,15 +39,13 @@ verdict_status (No step why) = 1
 -- how `check` ends, and what was done with files by then
 pub data EndsCheck (Unread : Type 0) (r : Request) (script : List ℕ) : List Event → Result Finding Refusal → Type 0 where
   -- this is found of the text that the script's file has, for the job of the files of the request
-  Checked : (w : Work) (log : List Event) (found : Finding) → Opens r script w log → IsFull r.strict w → IsFound w found
+  Checked : (w : Work) (log : List Event) (found : Finding) → Opens r script w log → MeetsRules r.rules w.task w.len → IsFound w found
       → EndsCheck Unread r script log (Ok found)
   -- a file can't be opened
   NoInput : (log : List Event) (why : Refusal) → StopsOpening (check_files r script) log why → EndsCheck Unread r script log (Err why)
-  -- under `--strict` the image gives this region no byte, and each one before it some
-  Empty : (w : Work) (log : List Event) (index : ℕ) → Opens r script w log → r.strict ≡ true → HasFirstEmpty w.task w.len (Some index)
-      → EndsCheck Unread r script log (Err (EmptyRegion index))
+  -- the image breaks a rule
+  Breaking : (w : Work) (log : List Event) (why : Refusal) → Opens r script w log → BreaksRules r.rules w.task w.len why
+      → EndsCheck Unread r script log (Err why)
   -- the inputs are refused, or the script, or the content; a file is blamed for a reading only where a reader has failed
-  Refused : (w : Work) (log : List Event) (why : StreamStop) → Opens r script w log → IsFull r.strict w → Unchecked w Unread Unread why
+  Refused : (w : Work) (log : List Event) (why : StreamStop) → Opens r script w log → MeetsRules r.rules w.task w.len → Unchecked w Unread Unread why
       → EndsCheck Unread r script log (Err (refusal_of why))
-  -- memory ran out
-  NoMemory : (w : Work) (log : List Event) → Opens r script w log → EndsCheck Unread r script log (Err (Build fault.Memory))

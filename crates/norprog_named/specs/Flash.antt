@@ -1,6 +1,5 @@
 -- How `flash` ends (this project's).
 use Rattle.std.specs.Prelude.{◌≡◌, ℕ, ◌&&◌, not, List, [], ◌∷◌, ◌++◌, Option, Some, option_map, Result, Ok, Err}
-use Rattle.nor_job.specs.declared.fault.BuildFault.{BuildFault}
 use Rattle.nor_serprog.specs.Greeting.{Greeted}
 use Rattle.nor_serprog.specs.declared.fault.GreetFault.{GreetFault}
 use Rattle.nor_serprog.specs.declared.limits.Limits.{Limits}
@@ -8,7 +7,6 @@ use Rattle.norprog_common.specs.Chip.{origin_of}
 use Rattle.norprog_common.specs.declared.faults.FileName.{FileName}
 use Rattle.norprog_common.specs.declared.faults.FileName.TheVariants as file
 use Rattle.norprog_common.specs.declared.faults.Refusal.{Refusal}
-use Rattle.norprog_common.specs.declared.faults.Refusal.TheVariants.{Build}
 use Rattle.norprog_device.specs.Blame.{is_cut}
 use Rattle.norprog_device.specs.Opened.{LetsGo}
 use Rattle.norprog_device.specs.declared.fault.DeviceFault.TheVariants.{Greet}
@@ -64,6 +62,8 @@ reading_of r = record {
   raw = r.read.raw;
   fresh = r.read.fresh;
   any_size = r.read.any_size;
+  repeats = r.read.repeats;
+  expect_id = r.read.expect_id;
 }
 
 -- the job of a request, whose files have these bytes
@@ -75,7 +75,7 @@ pub record IsJobOf (r : FlashRequest) (held : FlashTexts) (job : Job) : Type 0 w
   pub regions : job.regions.now ≡ r.regions.now
   pub base : job.base ≡ r.base
   pub old : option_map (λ t. t.now) job.old ≡ option_map (λ bytes. bytes.items) held.old
-  pub strict : job.strict ≡ r.strict
+  pub rules : job.rules ≡ r.rules
   pub dry : job.dry ≡ r.dry_run
   pub texts : job.texts.now ≡ r.texts.now
 
@@ -113,7 +113,7 @@ pub data EndsJob (device name : List ℕ) (job : Job) (out : Prints) : List Even
   OnDevice : (first last : Wire) (log : List Event) (answer : Result Ending Unflashed) → IsSoundEarly job → EndsGreeted name job first last out log answer
       → EndsJob device name job out (Wired device first ∷ (log ++ (Unwired device last ∷ []))) answer
   -- it has one: no device is opened
-  Faulty : (why : BuildFault) → RefusesEarly job why → out.after ≡ out.before → EndsJob device name job out [] (Err (Refused (Build why)))
+  Faulty : (why : Refusal) → RefusesEarly job why → out.after ≡ out.before → EndsJob device name job out [] (Err (Refused why))
   -- the device can't be opened
   NoDevice : (why : Refusal) → IsSoundEarly job → Denies file.Device why → out.after ≡ out.before
       → EndsJob device name job out (Denied device ∷ []) (Err (Refused why))

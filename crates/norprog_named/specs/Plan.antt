@@ -1,17 +1,18 @@
 -- How `plan` ends (this project's).
-use Rattle.std.specs.Prelude.{◌≡◌, ℕ, Bool, true, List, [], ◌∷◌, ◌++◌, Option, Some, None, is_some, option_map, Result, Ok, Err}
+use Rattle.std.specs.Prelude.{◌≡◌, ℕ, List, [], ◌∷◌, ◌++◌, Option, Some, None, is_some, option_map, Result, Ok, Err}
 use Rattle.std.specs.Io.KnownBytes.{Appends}
 use Rattle.nor_base.specs.Device.{Ahead, Cuts}
-use Rattle.nor_job.specs.Shares.{HasNoneEmpty}
 use Rattle.nor_job.specs.Task.{Task}
 use Rattle.nor_job.specs.declared.fault.BuildFault.TheVariants as fault
 use Rattle.norprog.specs.Plan.{StopsPlan}
 use Rattle.norprog_common.specs.Request as job
+use Rattle.norprog_common.specs.Rules.{MeetsRules}
 use Rattle.norprog_common.specs.Told.{Fails, Output}
 use Rattle.norprog_common.specs.declared.faults.FileName.TheVariants as file
 use Rattle.norprog_common.specs.declared.faults.Refusal.{Refusal}
 use Rattle.norprog_common.specs.declared.faults.Refusal.TheVariants.{Build}
 use Rattle.norprog_common.specs.declared.given.PlanArgs.{PlanArgs}
+use Rattle.norprog_common.specs.declared.rules.ImageRules.{ImageRules}
 use Rattle.norprog_files.specs.Files.{Event, Leaves, Lost, Made, Sends, StopsOpening}
 use Rattle.norprog_named.specs.Build.{Undone, Work, work}
 use Rattle.norprog_named.specs.Job.{IsJobOf, job_files, named_by}
@@ -57,18 +58,18 @@ LeavesMap = WithMap (λ path. Leaves path [])
 pub data LosesMap : Option (List ℕ) → List Event → Type 0 where
   MapLost : (path : List ℕ) (begun ended : Option (List ℕ)) → LosesMap (Some path) (Made path begun ∷ Lost path ended ∷ [])
 
--- the files of a request's job were opened, and this tells its plan; under `--strict` its image gives each chosen region a byte
+-- the files of a request's job were opened, and this tells its plan; its image keeps the rules
 pub record TellsJob (r : PlanRequest) (o : Outline) (job : List Event) : Type 0 where
   pub task : Task
   pub content : Ahead
   pub len : ℕ
   pub opens : IsJobOf r.job task content len job
-  pub full : r.job.strict ≡ true → HasNoneEmpty task len
+  pub meets : MeetsRules r.job.rules task len
   pub tells : IsOutline (shows_of r) task len content o
 
 -- why a plan isn't told: it stops, and just the lines before that were printed
-abbrev pub Untold : Bool → Work → Type 0 → Type 0 → Refusal → Type 0
-Untold strict w = Undone strict w (StopsPlan w.task w.len w.content w.rest w.begun w.ended)
+abbrev pub Untold : ImageRules → Work → Type 0 → Type 0 → Refusal → Type 0
+Untold rules w = Undone rules w (StopsPlan w.task w.len w.content w.rest w.begun w.ended)
 
 -- how `plan` ends, and what was done with files by then
 pub data EndsPlan (Unread : Type 0) (r : PlanRequest) (out : Output) : List Event → Result ℕ Refusal → Type 0 where
@@ -82,7 +83,7 @@ pub data EndsPlan (Unread : Type 0) (r : PlanRequest) (out : Output) : List Even
       → StopsOpening (named_by file.Map (map_of r)) map why → out.after ≡ out.before → EndsPlan Unread r out (job ++ map) (Err why)
   -- the plan isn't told, and the file of the picture is left empty
   NotTold : (t : Task) (content rest : Ahead) (len : ℕ) (job map : List Event) (why : Refusal) → IsJobOf r.job t content len job → LeavesMap (map_of r) map
-      → Untold r.job.strict (work t len content rest out.before out.after) Unread (Fails out) why → EndsPlan Unread r out (job ++ map) (Err why)
+      → Untold r.job.rules (work t len content rest out.before out.after) Unread (Fails out) why → EndsPlan Unread r out (job ++ map) (Err why)
   -- all lines were printed, and some of the picture hasn't gone out
   Undrawn : (o : Outline) (job map : List Event) → TellsJob r o job → LosesMap (map_of r) map → Appends out.before out.after o.lines
       → EndsPlan Unread r out (job ++ map) (Err (Build fault.Write))

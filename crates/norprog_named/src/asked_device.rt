@@ -3,7 +3,7 @@
 ghost use Rattle.std.specs.Prelude.{◌≡◌, ◌<◌, ◌≤◌, ◌+◌, ◌-◌, ◌^◌, IfErr, IfOk};
 ghost use Rattle.nor_job.specs.declared.fault.BuildFault.TheVariants.{Write};
 ghost use Rattle.norprog_common.specs.Lines.{printed};
-ghost use Rattle.norprog_common.specs.Told.{Tells, output};
+ghost use Rattle.norprog_common.specs.Told.{Tells, cut_status, output};
 ghost use Rattle.norprog_common.specs.declared.faults.Refusal.TheVariants.{Build};
 ghost use Rattle.norprog_files.specs.Files.{Did};
 ghost use Rattle.norprog_named.specs.AskedDevice.{EndsPlayAsked, EndsReadAsked, Reported};
@@ -38,7 +38,7 @@ pub fn read_asked<F: Files, O: ByteOut, E: ByteOut>(
 ) -> u8
     requires out { O.count out.old < 2 ^ 64 - 1 }
     requires err { E.count err.old < 2 ^ 64 - 1 }
-    ensures status { result ≤ 2 }
+    ensures status { result ≤ 3 }
     ensures quiet { result ≡ 0 → err.new ≡ err.old }
     ensures ends { Did (F.Trail.did trail.old) (F.Trail.did trail.new)
         (λ log. Reported (EndsReadAsked given.entry log) (SaysRead
@@ -72,7 +72,7 @@ fn report_read<O: ByteOut, E: ByteOut>(
 ) -> u8
     requires out { O.count out.old < 2 ^ 64 - 1 }
     requires err { E.count err.old < 2 ^ 64 - 1 }
-    ensures status { result ≤ 2 }
+    ensures status { result ≤ 3 }
     ensures quiet { result ≡ 0 → err.new ≡ err.old }
     ensures says { SaysRead
         (output O.held O.count out.old out.new) (output E.held E.count err.old err.new)
@@ -90,18 +90,18 @@ fn report_read<O: ByteOut, E: ByteOut>(
 fn status_after<E: ByteOut>(written: Result<(), Failed>, own: u8, err: &mut E) -> u8
     requires { E.count err.old < 2 ^ 64 - 1 }
     ensures done { IfOk written (λ _. (result ≡ own) × (err.new ≡ err.old)) }
-    ensures told { IfErr written (λ _. (result ≡ 1)
+    ensures told { IfErr written (λ _. (result ≡ cut_status own)
         × Tells (output E.held E.count err.old err.new) (printed (Build Write))) }
 {
     match written {
         Ok(()) => own,
-        Err(_) => refuse_lines(Ok(()), err),
+        Err(_) => refuse_lines(Ok(()), own, err),
     }
 }
 
 /// Does what the values of a command line of `play` ask for. The ending's line goes to `out`; a
 /// refusal, and what to do with the chip, to `err`; the progress to `progress`. Returns the status:
-/// 0 all done, 1 not so or refused, 2 usage.
+/// 0 all done, 1 not so or refused, 2 usage, 3 the chip may hold a part of the work.
 pub fn play_asked<F: Files, O: ByteOut, E: ByteOut, P: ByteOut>(
     alloc: Global,
     files: &F,
@@ -114,7 +114,7 @@ pub fn play_asked<F: Files, O: ByteOut, E: ByteOut, P: ByteOut>(
     requires out { O.count out.old < 2 ^ 64 - 1 }
     requires err { E.count err.old < 2 ^ 64 - 1 }
     requires progress { P.count progress.old < 2 ^ 64 - 1 }
-    ensures status { result ≤ 2 }
+    ensures status { result ≤ 3 }
     ensures quiet { result ≡ 0 → err.new ≡ err.old }
     ensures ends { Did (F.Trail.did trail.old) (F.Trail.did trail.new)
         (λ log. Reported (EndsPlayAsked (F.unread files.now) given.entry log) (SaysPlay
@@ -150,7 +150,7 @@ fn report_play<O: ByteOut, E: ByteOut>(
 ) -> u8
     requires out { O.count out.old < 2 ^ 64 - 1 }
     requires err { E.count err.old < 2 ^ 64 - 1 }
-    ensures status { result ≤ 2 }
+    ensures status { result ≤ 3 }
     ensures quiet { result ≡ 0 → err.new ≡ err.old }
     ensures says { SaysPlay
         (output O.held O.count out.old out.new) (output E.held E.count err.old err.new)
@@ -164,8 +164,8 @@ fn report_play<O: ByteOut, E: ByteOut>(
 }
 
 /// Does what the values of a command line of `flash` ask for. Its lines go to `out`; a refusal, and
-/// how to go on with a chip that may hold a part of the work, to `err`; how far it is to
-/// `progress`. Returns the status: 0 all done, 1 not so or refused, 2 usage.
+/// how to go on with a half done chip, to `err`; how far it is to `progress`. Returns the status: 0
+/// all done, 1 not so or refused, 2 usage, 3 the chip may be half done.
 pub fn flash_asked<F: Files, O: ByteOut, E: ByteOut, P: ByteOut>(
     alloc: Global,
     files: &F,
@@ -178,7 +178,7 @@ pub fn flash_asked<F: Files, O: ByteOut, E: ByteOut, P: ByteOut>(
     requires out { O.count out.old < 2 ^ 64 - 2 }
     requires err { E.count err.old < 2 ^ 64 - 1 }
     requires progress { P.count progress.old < 2 ^ 64 - 1 }
-    ensures status { result ≤ 2 }
+    ensures status { result ≤ 3 }
     ensures quiet { result ≡ 0 → err.new ≡ err.old }
     ensures ends { Did (F.Trail.did trail.old) (F.Trail.did trail.new) (ReportsFlash given.entry
         (output O.held O.count out.old out.new) (output E.held E.count err.old err.new)
@@ -218,7 +218,7 @@ fn report_flash<O: ByteOut, E: ByteOut>(
 ) -> u8
     requires out { O.count out.old < 2 ^ 64 - 1 }
     requires err { E.count err.old < 2 ^ 64 - 1 }
-    ensures status { result ≤ 2 }
+    ensures status { result ≤ 3 }
     ensures quiet { result ≡ 0 → err.new ≡ err.old }
     ensures says { SaysFlash given.now
         (output O.held O.count out.old out.new) (output E.held E.count err.old err.new)

@@ -2,14 +2,15 @@
 
 ghost use Rattle.std.specs.Prelude.{◌≡◌, ◌<◌, IfErr, IfOk};
 ghost use Rattle.nor_base.specs.Device.{HaveRoom};
+ghost use Rattle.norprog_common.specs.Rules.{MeetsRules};
 ghost use Rattle.norprog_files.specs.Files.{Did};
-ghost use Rattle.norprog_named.specs.Build.{EndsBuild, IsBuiltBy, IsFull, Unbuilt, work};
+ghost use Rattle.norprog_named.specs.Build.{EndsBuild, IsBuiltBy, Unbuilt, work};
 
 use crate::job::open_job;
 use nor_base::{ByteIn, ByteOut};
 use nor_job::Inputs;
 use norprog::Report;
-use norprog_common::{FileName, Refusal, Request, inputs_of, refuse_empty};
+use norprog_common::{FileName, ImageRules, Refusal, Request, inputs_of, refuse_image};
 use norprog_files::{Files, Trail};
 use std::alloc::Global;
 
@@ -29,7 +30,7 @@ pub fn build<F: Files>(
     let inputs = inputs_of(request, &texts);
     let built = built(
         alloc,
-        request.strict,
+        request.rules,
         &inputs,
         &mut content,
         len,
@@ -43,26 +44,24 @@ pub fn build<F: Files>(
     }
 }
 
-/// Builds as [`norprog::build`] does; where it is strict, an image that gives a chosen region no
-/// byte is refused first, by `EmptyRegion`.
+/// Builds as [`norprog::build`] does; an image that breaks a rule is refused first.
 fn built<R: ByteIn, W: ByteOut>(
     alloc: Global,
-    strict: bool,
+    rules: ImageRules,
     inputs: &Inputs<'_>,
     content: &mut R,
     len: u64,
     out: &mut W,
 ) -> Result<Report, Refusal>
     requires room { HaveRoom (R.count content.old) (W.count out.old) }
-    ensures full { IfOk result (λ _. IsFull strict (work inputs.now len (R.ahead content.old)
-        (R.ahead content.new) (W.held out.old) (W.held out.new))) }
+    ensures meets { IfOk result (λ _. MeetsRules rules inputs.now len) }
     ensures built { IfOk result (IsBuiltBy (work inputs.now len (R.ahead content.old)
         (R.ahead content.new) (W.held out.old) (W.held out.new))) }
-    ensures unbuilt { IfErr result (Unbuilt strict (work inputs.now len (R.ahead content.old)
+    ensures unbuilt { IfErr result (Unbuilt rules (work inputs.now len (R.ahead content.old)
         (R.ahead content.new) (W.held out.old) (W.held out.new))
         (R.count content.old < R.count content.new) (W.count out.old < W.count out.new)) }
 {
-    refuse_empty(alloc, strict, inputs, len)?;
+    refuse_image(alloc, rules, inputs, len)?;
     match norprog::build(alloc, inputs, content, len, out) {
         Ok(report) => Ok(report),
         Err(fault) => Err(Refusal::Build(fault)),

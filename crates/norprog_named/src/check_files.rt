@@ -7,7 +7,7 @@ ghost use Rattle.norprog_named.specs.Check.{refusal_of as told_of, verdict_statu
 
 use crate::job::open_job;
 use norprog_check::{CheckStop, Finding, StreamStop, Verdict, check_stream};
-use norprog_common::{FileName, Refusal, Request, inputs_of, refuse_empty};
+use norprog_common::{FileName, Refusal, Request, inputs_of, refuse_image};
 use norprog_files::{Files, Trail};
 use std::alloc::Global;
 
@@ -26,7 +26,7 @@ pub fn check<F: Files>(
     let (texts, mut content, len) = open_job(alloc, files, trail, request)?;
     let (mut script, _len) = files.open(trail, path, FileName::Script)?;
     let inputs = inputs_of(request, &texts);
-    refuse_empty(alloc, request.strict, &inputs, len)?;
+    refuse_image(alloc, request.rules, &inputs, len)?;
     match check_stream(alloc, &inputs, &mut script, &mut content, len) {
         Ok(found) => Ok(found),
         Err(stop) => Err(refusal_of(stop)),

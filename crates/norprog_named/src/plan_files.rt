@@ -5,9 +5,10 @@ ghost use Rattle.std.specs.Prelude.{option_map, IfErr, IfOk, IfSome, MatchResult
 ghost use Rattle.std.specs.Io.KnownBytes.{Appends};
 ghost use Rattle.nor_base.specs.Device.{HaveRoom};
 ghost use Rattle.norprog_common.specs.Request.{is_well_formed};
+ghost use Rattle.norprog_common.specs.Rules.{MeetsRules};
 ghost use Rattle.norprog_common.specs.declared.faults.FileName.TheVariants.{Map};
 ghost use Rattle.norprog_files.specs.Files.{Did, Event};
-ghost use Rattle.norprog_named.specs.Build.{IsFull, work};
+ghost use Rattle.norprog_named.specs.Build.{work};
 ghost use Rattle.norprog_named.specs.Job.{Reading, named_by};
 ghost use Rattle.norprog_common.specs.Told.{output};
 ghost use Rattle.norprog_named.specs.Plan.{AsksPlan, EndsPlan, LeavesMap, LosesMap, MakesMap};
@@ -18,7 +19,7 @@ use crate::job::open_job;
 use nor_base::{ByteIn, ByteOut, Failed, put_all};
 use nor_job::Inputs;
 use norprog_common::{
-    FileName, PlanArgs, Refusal, Request, inputs_of, refuse_empty, request_of as job_of,
+    FileName, PlanArgs, Refusal, Request, inputs_of, refuse_image, request_of as job_of,
 };
 use norprog_files::{Files, Trail};
 use norprog_plan::{Shows, Told, tell};
@@ -111,8 +112,8 @@ fn make_map<'a, F: Files>(
     }
 }
 
-/// Prints the lines of a plan as [`norprog_plan::tell`] does; where it is strict, an image that
-/// gives a chosen region no byte is refused first, by `EmptyRegion`.
+/// Prints the lines of a plan as [`norprog_plan::tell`] does; an image that breaks a rule is
+/// refused first.
 fn print_lines<R: ByteIn, O: ByteOut>(
     alloc: Global,
     request: &PlanRequest<'_>,
@@ -122,17 +123,16 @@ fn print_lines<R: ByteIn, O: ByteOut>(
     out: &mut O,
 ) -> Result<Told, Refusal>
     requires { HaveRoom (R.count content.old) (O.count out.old) }
-    ensures full { IfOk result (λ _. IsFull request.now.job.strict (work inputs.now len
-        (R.ahead content.old) (R.ahead content.new) (O.held out.old) (O.held out.new))) }
+    ensures meets { IfOk result (λ _. MeetsRules request.now.job.rules inputs.now len) }
     ensures told { IfOk result (λ told. (lines : List ℕ)
         × IsOutline (shows_of request.now) inputs.now len (R.ahead content.old)
         (outline lines told) × Appends (O.held out.old) (O.held out.new) lines) }
     ensures count { IfOk result (λ _. O.count out.new ≡ O.count out.old) }
-    ensures untold { IfErr result (Untold request.now.job.strict (work inputs.now len
+    ensures untold { IfErr result (Untold request.now.job.rules (work inputs.now len
         (R.ahead content.old) (R.ahead content.new) (O.held out.old) (O.held out.new))
         (R.count content.old < R.count content.new) (O.count out.old < O.count out.new)) }
 {
-    refuse_empty(alloc, request.job.strict, inputs, len)?;
+    refuse_image(alloc, request.job.rules, inputs, len)?;
     let shows = Shows {
         times: request.times,
         regions: request.regions,

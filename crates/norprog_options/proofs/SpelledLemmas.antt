@@ -57,6 +57,9 @@ refused app words e (refusal.Script why) is judged told = told
 refused app words e refusal.BinSize is judged told = told
 refused app words e (refusal.Steps n) is judged told = told
 refused app words e (refusal.EmptyRegion n) is judged told = told
+refused app words e (refusal.Partial gap) is judged told = told
+refused app words e (refusal.Beyond stray) is judged told = told
+refused app words e refusal.Nowhere is judged told = told
 refused app words e (refusal.Log n) is judged told = told
 
 named : {S : Type 0} (name : S → Text) (rows : S → List Row) (o : Option S) (n : Text) (r : List Row)
@@ -87,4 +90,7 @@ unasked app words m (refusal.Script why) is read judged told = told
 unasked app words m refusal.BinSize is read judged told = told
 unasked app words m (refusal.Steps n) is read judged told = told
 unasked app words m (refusal.EmptyRegion n) is read judged told = told
+unasked app words m (refusal.Partial gap) is read judged told = told
+unasked app words m (refusal.Beyond stray) is read judged told = told
+unasked app words m refusal.Nowhere is read judged told = told
 unasked app words m (refusal.Log n) is read judged told = told

@@ -55,6 +55,7 @@ pub record IsJobIn (found : Found) (given : Given) : Type 0 where
   pub verify : Sets found (codes "verify") given.verify
   pub erased_only : Sets found (codes "erased-only") given.erased_only
   pub strict : Sets found (codes "strict") given.strict
+  pub whole : Sets found (codes "whole") given.whole
   pub regions : given.regions.items ≡ texts_of found (codes "names")
 
 pub record IsSetupIn (found : Found) (given : SetupArgs) : Type 0 where
@@ -114,6 +115,8 @@ pub record IsReadIn (found : Found) (given : ReadArgs) : Type 0 where
   pub raw : Sets found (codes "raw") given.raw
   pub fresh : Sets found (codes "fresh") given.fresh
   pub any_size : Sets found (codes "any-size") given.any_size
+  pub repeats : Sets found (codes "repeats") given.repeats
+  pub expect_id : Has found (codes "expect-id") (option_map (λ t. t.now) given.expect_id)
 
 pub record IsFlashIn (found : Found) (given : FlashArgs) : Type 0 where
   pub chip : IsChipIn found given.chip
@@ -127,10 +130,14 @@ pub record IsFlashIn (found : Found) (given : FlashArgs) : Type 0 where
   pub resume : Has found (codes "resume") (option_map (λ t. t.now) given.resume)
   pub erased_only : Sets found (codes "erased-only") given.erased_only
   pub strict : Sets found (codes "strict") given.strict
+  pub partial : Sets found (codes "partial") given.partial
+  pub beyond : Sets found (codes "beyond") given.beyond
   pub dry_run : Sets found (codes "dry-run") given.dry_run
   pub raw : Sets found (codes "raw") given.raw
   pub fresh : Sets found (codes "fresh") given.fresh
   pub any_size : Sets found (codes "any-size") given.any_size
+  pub repeats : Sets found (codes "repeats") given.repeats
+  pub expect_id : Has found (codes "expect-id") (option_map (λ t. t.now) given.expect_id)
   pub regions : given.regions.items ≡ texts_of found (codes "names")
 
 pub record IsBuildIn (found : Found) (given : BuildArgs) : Type 0 where

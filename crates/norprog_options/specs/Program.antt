@@ -65,13 +65,13 @@ details = flag (codes "details") ∷ []
 -- the commands, each by its name with its options
 abbrev pub commands : List (Text × List Rule)
 commands =
-    (codes "build", image ++ chip ++ content ++ start ++ verify ++ flag (codes "strict") ∷ needed (codes "out") ∷ details)
+    (codes "build", image ++ chip ++ content ++ start ++ verify ++ flag (codes "strict") ∷ flag (codes "whole") ∷ needed (codes "out") ∷ details)
     ∷ (
       codes "plan",
-      image ++ chip ++ content ++ start ++ verify ++ flag (codes "strict") ∷ flag (codes "times") ∷ flag (codes "regions")
+      image ++ chip ++ content ++ start ++ verify ++ flag (codes "strict") ∷ flag (codes "whole") ∷ flag (codes "times") ∷ flag (codes "regions")
           ∷ optional (codes "map") ∷ details,
     )
-    ∷ (codes "check", image ++ chip ++ content ++ start ++ script ++ flag (codes "strict") ∷ flag (codes "witness") ∷ details)
+    ∷ (codes "check", image ++ chip ++ content ++ start ++ script ++ flag (codes "strict") ∷ flag (codes "whole") ∷ flag (codes "witness") ∷ details)
     ∷ (codes "run", chip ++ content ++ start ++ script ++ behaviour ++ optional (codes "out") ∷ details)
     ∷ (codes "list", chip ++ start ++ script ++ details)
     ∷ (codes "draw", script ++ optional (codes "from") ∷ optional (codes "steps") ∷ needed (codes "out") ∷ details)
@@ -79,13 +79,13 @@ commands =
     ∷ (
       codes "read",
       chip ++ flag (codes "mode4") ∷ needed (codes "device") ∷ optional (codes "limit") ∷ flag (codes "raw") ∷ flag (codes "fresh")
-          ∷ flag (codes "any-size") ∷ optional (codes "tables") ∷ optional (codes "out") ∷ details,
+          ∷ flag (codes "any-size") ∷ flag (codes "repeats") ∷ optional (codes "expect-id") ∷ optional (codes "tables") ∷ optional (codes "out") ∷ details,
     )
     ∷ (
       codes "flash",
-      image ++ chip ++ flag (codes "mode4") ∷ flag (codes "erased-only") ∷ flag (codes "strict") ∷ needed (codes "device")
-          ∷ optional (codes "limit") ∷ flag (codes "raw") ∷ flag (codes "fresh") ∷ flag (codes "any-size") ∷ needed (codes "before")
-          ∷ optional (codes "resume") ∷ flag (codes "dry-run") ∷ details,
+      image ++ chip ++ flag (codes "mode4") ∷ flag (codes "erased-only") ∷ flag (codes "strict") ∷ flag (codes "partial") ∷ flag (codes "beyond") ∷ needed (codes "device")
+          ∷ optional (codes "limit") ∷ flag (codes "raw") ∷ flag (codes "fresh") ∷ flag (codes "any-size") ∷ flag (codes "repeats")
+          ∷ optional (codes "expect-id") ∷ needed (codes "before") ∷ optional (codes "resume") ∷ flag (codes "dry-run") ∷ details,
     )
     ∷ (codes "sfdp", chip ++ details)
     ∷ (codes "hex", needed (codes "bin") ∷ needed (codes "at") ∷ needed (codes "out") ∷ details)

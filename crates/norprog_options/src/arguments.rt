@@ -320,6 +320,28 @@ const STRICT: Choice = Choice {
     help: "Refuse a job whose image gives a chosen region no byte [default: no]",
 };
 
+const WHOLE: Choice = Choice {
+    name: "whole",
+    takes: Takes::Nothing,
+    required: false,
+    help: "Refuse a job whose image gives a named region only in part, or has bytes off the chip \
+        [default: no]",
+};
+
+const PARTIAL: Choice = Choice {
+    name: "partial",
+    takes: Takes::Nothing,
+    required: false,
+    help: "The image may give a named region only in part [default: each of its bytes]",
+};
+
+const BEYOND: Choice = Choice {
+    name: "beyond",
+    takes: Takes::Nothing,
+    required: false,
+    help: "Bytes of the image may lie off the chip [default: none]",
+};
+
 const MAP: Choice = Choice {
     name: "map",
     takes: Takes::File,
@@ -394,6 +416,21 @@ const ANY_SIZE: Choice = Choice {
     help: "The chip's tables may say another size than --uniform [default: no]",
 };
 
+const REPEATS: Choice = Choice {
+    name: "repeats",
+    takes: Takes::Nothing,
+    required: false,
+    help: "The halves of what the chip holds are alike, and it is no smaller [default: no]",
+};
+
+const EXPECT_ID: Choice = Choice {
+    name: "expect-id",
+    takes: Takes::Value("H"),
+    required: false,
+    help: "Stop before anything else where the chip's identification is another: six hexadecimal \
+        digits [default: any]",
+};
+
 const TRUST: Choice = Choice {
     name: "trust",
     takes: Takes::Nothing,
@@ -448,7 +485,7 @@ static FORMS: [Form; 13] = [
             Group::Start,
             Group::Verify,
         ],
-        choices: &[STRICT, SCRIPT_OUT],
+        choices: &[STRICT, WHOLE, SCRIPT_OUT],
     },
     Form {
         name: "plan",
@@ -462,7 +499,7 @@ static FORMS: [Form; 13] = [
             Group::Start,
             Group::Verify,
         ],
-        choices: &[STRICT, TIMES, SHARES, MAP],
+        choices: &[STRICT, WHOLE, TIMES, SHARES, MAP],
     },
     Form {
         name: "check",
@@ -477,7 +514,7 @@ static FORMS: [Form; 13] = [
             Group::Start,
             Group::Script,
         ],
-        choices: &[STRICT, WITNESS],
+        choices: &[STRICT, WHOLE, WITNESS],
     },
     Form {
         name: "run",
@@ -521,7 +558,7 @@ static FORMS: [Form; 13] = [
         example: "Example: norprog read --device /dev/ttyACM0 --tables now.sfdp --out now.bin",
         groups: &[Group::Chip],
         choices: &[
-            MODE4, DEVICE, LIMIT, RAW, FRESH, ANY_SIZE, TABLES_OUT, READ_OUT,
+            MODE4, DEVICE, LIMIT, RAW, FRESH, ANY_SIZE, REPEATS, EXPECT_ID, TABLES_OUT, READ_OUT,
         ],
     },
     Form {
@@ -535,11 +572,15 @@ static FORMS: [Form; 13] = [
             MODE4,
             ERASED_ONLY,
             STRICT,
+            PARTIAL,
+            BEYOND,
             DEVICE,
             LIMIT,
             RAW,
             FRESH,
             ANY_SIZE,
+            REPEATS,
+            EXPECT_ID,
             BEFORE,
             RESUME,
             DRY_RUN,

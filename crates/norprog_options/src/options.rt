@@ -190,6 +190,7 @@ fn given_in<'a>(alloc: Global, job: &ArgMatches<'a>) -> Result<Given<'a>, Refusa
         verify: job.get_flag("verify"),
         erased_only: job.get_flag("erased-only"),
         strict: job.get_flag("strict"),
+        whole: job.get_flag("whole"),
         regions: texts_in(alloc, job, "names")?,
     })
 }
@@ -331,6 +332,8 @@ fn read_in<'a>(read: &ArgMatches<'a>) -> ReadArgs<'a>
         raw: read.get_flag("raw"),
         fresh: read.get_flag("fresh"),
         any_size: read.get_flag("any-size"),
+        repeats: read.get_flag("repeats"),
+        expect_id: read.get_str("expect-id"),
     }
 }
 
@@ -351,10 +354,14 @@ fn flash_in<'a>(alloc: Global, flash: &ArgMatches<'a>) -> Result<FlashArgs<'a>, 
         resume: flash.get_str("resume"),
         erased_only: flash.get_flag("erased-only"),
         strict: flash.get_flag("strict"),
+        partial: flash.get_flag("partial"),
+        beyond: flash.get_flag("beyond"),
         dry_run: flash.get_flag("dry-run"),
         raw: flash.get_flag("raw"),
         fresh: flash.get_flag("fresh"),
         any_size: flash.get_flag("any-size"),
+        repeats: flash.get_flag("repeats"),
+        expect_id: flash.get_str("expect-id"),
         regions: texts_in(alloc, flash, "names")?,
     })
 }

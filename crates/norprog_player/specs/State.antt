@@ -26,10 +26,10 @@ state_line = program_line (codes "the chip is half done. Don't build the old HEX
 abbrev pub state_told : Ending → List ℕ
 state_told ending = if is_partial ending then state_line else []
 
--- 0 where all was done, else 1
+-- 0 where all was done, 3 where the chip may hold a part of it, else 1
 abbrev pub status_of : Ending → ℕ
 status_of (Done transactions blank) = 0
 status_of (GoesWrong step why) = 1
 status_of (No step why) = 1
 status_of (Unlike why) = 1
-status_of (Failed step why) = 1
+status_of (Failed step why) = if is_sent why then 3 else 1

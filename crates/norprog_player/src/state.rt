@@ -20,19 +20,19 @@ const STATE: &[u8] =
 
 /// Writes to `err` what to do with a chip that may hold a part of the work, and then the line of an
 /// ending to `out`, or to `err` that it can't be written. Returns the status: 0 where all was done
-/// and printed, else 1.
+/// and printed, 3 where the chip may hold a part of it, else 1.
 pub fn report_ending<O: ByteOut, E: ByteOut>(ending: &Ending, out: &mut O, err: &mut E) -> u8
     requires out { O.count out.old < 2 ^ 64 - 1 }
     requires err { E.count err.old < 2 ^ 64 - 1 }
     ensures said { Says (state_told ending.now) (ending_line ending.now) (status_of ending.now)
         (output O.held O.count out.old out.new) (output E.held E.count err.old err.new) result }
-    ensures status { result ≤ 1 }
+    ensures status { result ≤ 3 }
     ensures quiet { result ≡ 0 → err.new ≡ err.old }
 {
     let told = write_state(ending, err);
     match write_ending(ending, out) {
         Ok(()) => status_of(ending),
-        Err(_) => refuse_lines(told, err),
+        Err(_) => refuse_lines(told, status_of(ending), err),
     }
 }
 
@@ -72,12 +72,13 @@ fn is_sent(why: Failure) -> bool
     }
 }
 
-/// 0 where all was done, else 1.
+/// 0 where all was done, 3 where the chip may hold a part of it, else 1.
 fn status_of(ending: &Ending) -> u8
     ensures { result ≡ status_of ending.now }
 {
     match ending {
         Ending::Done { .. } => 0,
+        Ending::Failed { .. } if is_partial(ending) => 3,
         Ending::Wrong { .. } | Ending::No { .. } => 1,
         Ending::Unlike { .. } | Ending::Failed { .. } => 1,
     }

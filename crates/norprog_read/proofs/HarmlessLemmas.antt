@@ -12,7 +12,7 @@ use Rattle.nor_probe.specs.declared.own.AddressRegister.TheVariants.{Extended, B
 use Rattle.nor_probe.specs.Own.{opcode_of}
 use Rattle.nor_reader.specs.Harmless.{is_harmless, HasSentHarmless, SendsHarmless}
 use Rattle.nor_reader.specs.Telling.{opcode_to}
-use Rattle.nor_reader.proofs.HarmlessLemmas.{both_sent, id_sends, id_sent, none_sent, register_sends, register_sent, status_sends, status_sent, switched_sends, switched_sent, tables_none, tables_sends, tables_sent, then_sends, twice_sends, twice_sent, whole_sent}
+use Rattle.nor_reader.proofs.HarmlessLemmas.{both_sent, id_sends, id_sent, none_sent, past_sends, past_sent, register_sends, register_sent, status_sends, status_sent, switched_sends, switched_sent, tables_none, tables_sends, tables_sent, then_sends, twice_sends, twice_sent, whole_sent}
 use Rattle.nor_serprog.specs.declared.fault.Reason.TheVariants as reason
 use Rattle.norprog_read.specs.declared.asked.Ask.{Ask}
 use Rattle.norprog_read.specs.declared.asked.Known.{Known}
@@ -21,14 +21,17 @@ use Rattle.norprog_read.specs.declared.fault.Unread.{Unread}
 use Rattle.norprog_read.specs.declared.mode.Modes.{Modes}
 use Rattle.norprog_read.specs.Asked as asked
 use Rattle.norprog_read.specs.Asked.{StopsId, StopsStatus}
+use Rattle.norprog_read.specs.End as end
+use Rattle.norprog_read.specs.End.{GivesPast, StopsEnd}
 use Rattle.norprog_read.specs.Chip.{chip_task, Come, GivesContent, GivesTables, HasReadChip, Unsigned}
 use Rattle.norprog_read.specs.Modes as modes
 use Rattle.norprog_read.specs.Modes.{mode_ops, switch_to, MakesMode, StopsMode}
 use Rattle.norprog_read.specs.Size as size
 use Rattle.norprog_read.specs.Size.{asked_register, IsUnmoved, StopsMoved}
 use Rattle.norprog_read.specs.Stops as stops
-use Rattle.norprog_read.specs.Stops.{IsHeld, IsIdentified, IsKnown, IsReady, StopsAsked, StopsChip, StopsContent}
-use Rattle.norprog_read.specs.Way.{first_by, second_by}
+use Rattle.norprog_read.specs.Stops.{IsEnded, IsHeld, IsIdentified, IsKnown, IsReady, StopsAsked, StopsChip, StopsContent}
+use Rattle.norprog_read.specs.Way.{first_by, past_by, second_by}
+use Rattle.nor_reader.specs.declared.by.ReadBy.{ReadBy}
 
 -- nothing was sent
 stays : (h i : Option (List ℕ)) → i ≡ h → HasSentHarmless h i
@@ -43,6 +46,17 @@ gives_content : (most : ℕ) (h i : Option (List ℕ)) (a b : Ahead) (m : Parame
 gives_content most h i a b m start sure true content p =
     twice_sent most h i a b (first_by m start) (second_by m start sure) content p.twice
 gives_content most h i a b m start sure false content p = stays h i p.1
+
+gives_past : (most : ℕ) (h i : Option (List ℕ)) (a b : Ahead) (any : Bool) (by : ReadBy) (content : List ℕ)
+    → GivesPast most h i a b any by content → HasSentHarmless h i
+gives_past most h i a b false by content p = past_sent most h i a b by content p
+gives_past most h i a b true by content p = stays h i p.0
+
+stops_end : (most : ℕ) (h i : Option (List ℕ)) (a b : Ahead) (ask : Ask) (by : ReadBy) (content : List ℕ) (why : Unread)
+    → StopsEnd most h i a b ask by content why → SendsHarmless h i
+stops_end most h i a b ask by content why (end.Alike same none many repeats) = whole_sent h i (stays h i same)
+stops_end most h i a b ask by content why (end.Lost fault sized p) = past_sends most h i a b by content (Exchange fault) p
+stops_end most h i a b ask by content why (end.Other d sized p) = past_sends most h i a b by content (Differs d) p
 
 -- the mode is made by operations that change nothing
 to_harmless : (said : Bool) → is_harmless (opcode_to said ∷ []) ≡ true
@@ -84,7 +98,9 @@ read_sent most h i a b ask r p =
     (both_sent p.h4 p.h5 i (gives_content most p.h4 p.h5 p.a4 p.a5 r.meaning (start_of (chip_task ask r.tables.items))
     (modes.is_sure ask (begins4 r.meaning (start_of (chip_task ask r.tables.items))) (modes.modes_of ask.known r.tables.items r.meaning)) ask.content r.content.items
     p.content)
-    (id_sent p.h5 i p.a5 b r.id p.again))))))
+    (both_sent p.h5 p.he i (gives_past most p.h5 p.he p.a5 p.ae ask.any_size (past_by r.meaning (start_of (chip_task ask r.tables.items)))
+    r.content.items p.past)
+    (id_sent p.he i p.ae b r.id p.again)))))))
 
 stops_status : (h i : Option (List ℕ)) (a b : Ahead) (ask : Ask) (why : Unread) → StopsStatus h i a b ask why → SendsHarmless h i
 stops_status h i a b ask why (asked.Busy p) = status_sends ask.part h i a b reason.Busy ask.turns p
@@ -143,11 +159,18 @@ held most h i a b ask p =
     (modes.is_sure ask (begins4 p.ready.m (start_of (chip_task ask p.ready.known.chip))) (modes.modes_of ask.known p.ready.known.chip p.ready.m))
     ask.content p.content p.read)
 
+ended : (most : ℕ) (h i : Option (List ℕ)) (a b : Ahead) (ask : Ask) → IsEnded most h i a b ask → HasSentHarmless h i
+ended most h i a b ask p =
+    both_sent h p.held i (held most h p.held a p.ahead ask p.all)
+    (gives_past most p.held i p.ahead b ask.any_size (past_by p.all.ready.m (start_of (chip_task ask p.all.ready.known.chip))) p.all.content p.past)
+
 chip_sends : (most : ℕ) (h i : Option (List ℕ)) (a b : Ahead) (ask : Ask) (why : Unread) → StopsChip most h i a b ask why → SendsHarmless h i
 chip_sends most h i a b ask why (stops.AtFile of same none p) = whole_sent h i (stays h i same)
 chip_sends most h i a b ask why (stops.AtStatus of p) = stops_status h i a b ask of p
 chip_sends most h i a b ask why (stops.AtId j c status of idle p) =
     then_sends h j i (status_sent ask.part h j a c status ask.turns idle) (stops_id j i c b of p)
+chip_sends most h i a b ask why (stops.Unexpected j c status id idle p other) =
+    then_sends h j i (status_sent ask.part h j a c status ask.turns idle) (whole_sent j i (id_sent j i c b id p))
 chip_sends most h i a b ask why (stops.AtTables j c said of p) =
     then_sends h j i (identified h j a c ask said) (stops_asked most j i c b ask.known said.id of p)
 chip_sends most h i a b ask why (stops.AtMeaning is of refusal refused told) = whole_sent h i (known most h i a b ask is)
@@ -161,11 +184,14 @@ chip_sends most h i a b ask why (stops.AtMode j c is m of means p) =
 chip_sends most h i a b ask why (stops.AtContent j c is of wanted p) =
     then_sends h j i (ready most h j a c ask is) (stops_content most j i c b is.m (start_of (chip_task ask is.known.chip))
     (modes.is_sure ask (begins4 is.m (start_of (chip_task ask is.known.chip))) (modes.modes_of ask.known is.known.chip is.m)) of p)
-chip_sends most h i a b ask why (stops.AtEnd j c is of p) = then_sends h j i (held most h j a c ask is) (stops_id j i c b of p)
+chip_sends most h i a b ask why (stops.AtPast j c is of p) =
+    then_sends h j i (held most h j a c ask is)
+    (stops_end most j i c b ask (past_by is.ready.m (start_of (chip_task ask is.ready.known.chip))) is.content of p)
+chip_sends most h i a b ask why (stops.AtEnd j c is of p) = then_sends h j i (ended most h j a c ask is) (stops_id j i c b of p)
 chip_sends most h i a b ask why (stops.OtherId j c is other p differs) =
-    then_sends h j i (held most h j a c ask is) (whole_sent j i (id_sent j i c b other p))
+    then_sends h j i (ended most h j a c ask is) (whole_sent j i (id_sent j i c b other p))
 chip_sends most h i a b ask why (stops.AtLine j c is p hides) =
-    then_sends h j i (held most h j a c ask is) (whole_sent j i (id_sent j i c b is.ready.known.identified.id p))
+    then_sends h j i (ended most h j a c ask is) (whole_sent j i (id_sent j i c b is.all.ready.known.identified.id p))
 
 pub reading_sends : (most : ℕ) (h i : Option (List ℕ)) (a b : Ahead) (ask : Ask) (r : Result Reading Unread)
     → IfOk r (λ reading. HasReadChip most h i a b ask reading) → IfErr r (StopsChip most h i a b ask)

@@ -1,9 +1,7 @@
 -- What was read, and from which reading it follows.
-use Rattle.std.proofs.Common.{◌≡◌, ◌≤◌, ◌<◌, ℕ, Bool, true, false, not, ◌&&◌, List, ◌++◌, length, take, drop, Option, Some, None, Result, Ok, Err, IfOk, IfErr, ◌∙◌, ap, refl, sym, subst, arith}
+use Rattle.std.proofs.Common.{◌≡◌, ℕ, Bool, true, false, not, ◌&&◌, List, ◌++◌, length, take, drop, Option, Some, None, Result, Ok, Err, IfOk, IfErr, ◌∙◌, ap, refl, sym, subst}
 use Rattle.std.proofs.Math.Seq.{take-append_seam}
 use Rattle.nor_base.specs.Device.{Ahead}
-use Rattle.nor_serprog.specs.declared.fault.Fault.{Fault}
-use Rattle.nor_serprog.specs.declared.fault.Fault.TheVariants.{Read, Write, Silent, Nak, Differs}
 use Rattle.nor_serprog.specs.declared.limits.Limits.{Limits}
 use Rattle.nor_serprog.specs.Greeting.{Greeted}
 use Rattle.nor_serprog.specs.Line.{TestsLine}
@@ -31,8 +29,11 @@ use Rattle.norprog_device.specs.Blame.{is_cut}
 use Rattle.norprog_device.specs.Opened.{LetsGo}
 use Rattle.norprog_read.specs.Asked as asked
 use Rattle.norprog_read.specs.Asked.{StopsId, StopsStatus}
-use Rattle.norprog_read.specs.Blame.{fault_in, fault_of_stop, CountsFault}
+use Rattle.norprog_read.specs.Blame.{fault_in, fault_of_stop}
 use Rattle.norprog_read.specs.Chip.{chip_task}
+use Rattle.norprog_read.specs.End as end
+use Rattle.norprog_read.specs.End.{StopsEnd}
+use Rattle.nor_reader.specs.declared.by.ReadBy.{ReadBy}
 use Rattle.norprog_read.specs.Modes as modes
 use Rattle.norprog_read.specs.Modes.{StopsMode}
 use Rattle.norprog_read.specs.Size as size
@@ -156,10 +157,17 @@ of_content most h i a b m start sure why (stops.Lost content fault p) = tt
 of_content most h i a b m start sure why (stops.Other content d p) = tt
 of_content most h i a b m start sure why (stops.Hidden content unsure twice hides) = tt
 
+of_end : (most : ℕ) (h i : Option (List ℕ)) (a b : Ahead) (ask : Ask) (by : ReadBy) (content : List ℕ) (why : Unread)
+    → StopsEnd most h i a b ask by content why → IsOfChip why
+of_end most h i a b ask by content why (end.Alike same none many repeats) = tt
+of_end most h i a b ask by content why (end.Lost fault sized p) = tt
+of_end most h i a b ask by content why (end.Other d sized p) = tt
+
 pub of_chip : (most : ℕ) (h i : Option (List ℕ)) (a b : Ahead) (ask : Ask) (why : Unread) → StopsChip most h i a b ask why → IsOfChip why
 of_chip most h i a b ask why (stops.AtFile of same none (stops.Meaningless file refusal is refused)) = of_meaning (chip_task ask file) refusal refused
 of_chip most h i a b ask why (stops.AtStatus of p) = of_status h i a b ask of p
 of_chip most h i a b ask why (stops.AtId j c status of idle p) = of_id j i c b of p
+of_chip most h i a b ask why (stops.Unexpected j c status id idle p other) = tt
 of_chip most h i a b ask why (stops.AtTables j c said of p) = of_tables most j i c b ask.known said.id of p
 of_chip most h i a b ask why (stops.AtMeaning is of refusal refused told) =
     subst IsOfChip (sym told) (of_told ask.known is.identified.id refusal (of_meaning (chip_task ask is.chip) refusal refused))
@@ -167,6 +175,7 @@ of_chip most h i a b ask why (stops.AtSize is of told) = of_size (other_size ask
 of_chip most h i a b ask why (stops.AtRegister j k c d is m after of means made p) = of_moved k i d b (asked_register ask.content is.chip) of p
 of_chip most h i a b ask why (stops.AtMode j c is m of means p) = of_mode j i c b ask _ of p
 of_chip most h i a b ask why (stops.AtContent j c is of wanted p) = of_content most j i c b is.m (start_of (chip_task ask is.known.chip)) _ of p
+of_chip most h i a b ask why (stops.AtPast j c is of p) = of_end most j i c b ask _ is.content of p
 of_chip most h i a b ask why (stops.AtEnd j c is of p) = of_id j i c b of p
 of_chip most h i a b ask why (stops.OtherId j c is other p differs) = tt
 of_chip most h i a b ask why (stops.AtLine j c is p hides) = tt

@@ -1,5 +1,5 @@
 -- Why a chip doesn't say how it is or what it is (this project's).
-use Rattle.std.specs.Prelude.{◌≡◌, ◌≢◌, ◌⊎◌, ◌∷◌, ℕ, List, [], Option, Ok, Err}
+use Rattle.std.specs.Prelude.{◌≡◌, ◌≢◌, ◌⊎◌, ◌∷◌, ⊤, ℕ, List, [], Option, Some, None, Ok, Err}
 use Rattle.nor_base.specs.Device.{Ahead}
 use Rattle.nor_probe.specs.Status.{ReadsStatus}
 use Rattle.nor_reader.specs.Id.{Identifies}
@@ -25,6 +25,11 @@ pub record IsDriven (id : List ℕ) : Type 0 where
 -- or it is
 abbrev pub IsUndriven : List ℕ → Type 0
 IsUndriven id = (id ≡ 0x00 ∷ 0x00 ∷ 0x00 ∷ []) ⊎ (id ≡ 0xFF ∷ 0xFF ∷ 0xFF ∷ [])
+
+-- it is the one that is expected, where one is
+abbrev pub IsExpected : Option (List ℕ) → List ℕ → Type 0
+IsExpected (Some expected) id = id ≡ expected
+IsExpected None id = ⊤
 
 -- the identification didn't come, or is that of a line which no chip drives
 pub data StopsId (held_before held_after : Option (List ℕ)) (ahead_before ahead_after : Ahead) : Unread → Type 0 where

@@ -17,11 +17,13 @@ use Rattle.norprog_read.specs.declared.asked.Ask.{Ask}
 use Rattle.norprog_read.specs.declared.asked.Known.{Known}
 use Rattle.norprog_read.specs.declared.asked.Known.TheVariants.{Tables, Uniform}
 use Rattle.norprog_read.specs.declared.asked.Reading.{Reading}
-use Rattle.norprog_read.specs.Asked.{IsDriven}
+use Rattle.norprog_read.specs.Asked.{IsDriven, IsExpected}
 use Rattle.norprog_read.specs.Came.{ShowsLine}
 use Rattle.norprog_read.specs.Content.{HoldsWhole}
+use Rattle.norprog_read.specs.End.{GivesPast, IsOnce}
 use Rattle.norprog_read.specs.Modes.{is_sure, mode_ops, modes_of, MakesMode}
 use Rattle.norprog_read.specs.Size.{asked_register, noted_size, other_size, IsUnmoved}
+use Rattle.norprog_read.specs.Way.{past_by}
 
 -- where its meaning comes from: the tables that came, or its size
 abbrev pub task_chip : Known → List ℕ → List ℕ → Origin
@@ -89,8 +91,9 @@ AreAlike (Tables file) tables = take (both_go tables file.now) tables ≡ take (
 AreAlike other tables = ⊤
 
 -- in this order, and nothing else was sent: its status until it was idle, its identification, its tables, what puts it into the mode that was
--- said, the register that moves addresses where they name one, its content, and its identification again, which was the same and that of a chip; each read of tables and content was of no more
--- than so many bytes; its meaning is that of the tables that came, or of its size; where the content was wanted, and the terminal isn't said
+-- said, the register that moves addresses where they name one, its content, what comes past its end, and its identification again, which was
+-- the same, that of a chip, and the one that is expected; each read of tables and content was of no more than so many bytes; its meaning is
+-- that of the tables that came, or of its size; the content doesn't repeat itself; where the content was wanted, and the terminal isn't said
 -- to hand on each byte as it comes, what came shows that it changed nothing of tables and content
 pub record HasReadChip (most : ℕ) (h0 h6 : Option (List ℕ)) (a0 a6 : Ahead) (ask : Ask) (r : Reading) : Type 0 where
   pub part : r.part ≡ ask.part
@@ -101,17 +104,20 @@ pub record HasReadChip (most : ℕ) (h0 h6 : Option (List ℕ)) (a0 a6 : Ahead) 
   pub h4 : Option (List ℕ)
   pub h5 : Option (List ℕ)
   pub hr : Option (List ℕ)
+  pub he : Option (List ℕ)
   pub a1 : Ahead
   pub a2 : Ahead
   pub a3 : Ahead
   pub a4 : Ahead
   pub a5 : Ahead
   pub ar : Ahead
+  pub ae : Ahead
   pub first : ℕ
   pub idle : ReadsStatus ask.part h0 h1 a0 a1 (Ok first) ask.turns
   pub id : Identifies h1 h2 a1 a2 (Ok r.id)
   pub note : r.note ≡ noted_size ask.known r.id
   pub driven : IsDriven r.id
+  pub expected : IsExpected ask.expect_id r.id
   pub tables : GivesTables most h2 h3 a2 a3 ask.known r.tables.items
   pub file : HasMeaning ask ask.known
   pub alike : AreAlike ask.known r.tables.items
@@ -124,5 +130,7 @@ pub record HasReadChip (most : ℕ) (h0 h6 : Option (List ℕ)) (a0 a6 : Ahead) 
   pub content : GivesContent most h4 h5 a4 a5 r.meaning (start_of (chip_task ask r.tables.items))
       (is_sure ask (begins4 r.meaning (start_of (chip_task ask r.tables.items))) (modes_of ask.known r.tables.items r.meaning)) ask.content
       r.content.items
-  pub again : Identifies h5 h6 a5 a6 (Ok r.id)
+  pub once : IsOnce ask r.content.items
+  pub past : GivesPast most h5 he a5 ae ask.any_size (past_by r.meaning (start_of (chip_task ask r.tables.items))) r.content.items
+  pub again : Identifies he h6 ae a6 (Ok r.id)
   pub shown : ShowsLine ask r.id (r.tables.items ++ r.content.items)

@@ -5,6 +5,7 @@ pub mod Laws
 pub mod Asked
 pub mod Modes
 pub mod Size
+pub mod End
 pub mod Chip
 pub mod Stops
 pub mod Blame

@@ -10,7 +10,7 @@ use Rattle.norprog_device.specs.Line.{fault_word}
 use Rattle.norprog_read.specs.declared.fault.Unlike.{Unlike}
 use Rattle.nor_sfdp.specs.declared.fault.SfdpFault.{SfdpFault}
 use Rattle.nor_sfdp.specs.declared.fault.SfdpFault.TheVariants as sfdp
-use Rattle.norprog_read.specs.declared.fault.Unlike.TheVariants.{Busy, Asking, Mode, At, Tables, NoTables, Size, Moved, Id, Line, Unreadable, Hidden}
+use Rattle.norprog_read.specs.declared.fault.Unlike.TheVariants.{Busy, Asking, Mode, At, Tables, NoTables, Size, Moved, Id, Repeats, Line, Unreadable, Hidden}
 use Rattle.norprog_read.specs.declared.asked.Reading.{Reading}
 
 -- a text, three bytes in six digits, and LF
@@ -81,6 +81,7 @@ unlike_line (NoTables id fault) = no_tables_lines id fault
 unlike_line (Size size) = codes "unlike size: the chip's tables say " ++ (decimal size ++ codes " bytes\n")
 unlike_line (Moved value) = codes "unlike register " ++ (hex_pair value ++ codes "\n")
 unlike_line (Id id) = digits_line (codes "unlike id ") id
+unlike_line Repeats = codes "unlike repeats\n"
 unlike_line Line = codes "unlike line\n"
 unlike_line Unreadable = codes "unreadable\n"
 unlike_line Hidden = codes "unreadable: what the chip holds doesn't show its address mode\n"

@@ -3,13 +3,14 @@ use Rattle.std.specs.Prelude.{◌≡◌, ℕ, Bool, false, not, ◌&&◌, Option
 use Rattle.std.specs.Str.{bytes_eq}
 use Rattle.norprog_common.specs.Chip.{Origin, Sfdp, Uniform, origin_of}
 use Rattle.norprog_common.specs.Setup.{chip_asked, family_asked}
-use Rattle.norprog_common.specs.Values.{limit_of, part_of}
+use Rattle.norprog_common.specs.Values.{limit_of, part_of, said_status}
 use Rattle.norprog_common.specs.declared.given.ChipArgs.{ChipArgs}
 use Rattle.norprog_common.specs.declared.given.ReadArgs.{ReadArgs}
 use Rattle.norprog_read.specs.declared.asked.Ask.{Ask}
 use Rattle.norprog_read.specs.declared.asked.Known.{Known}
 use Rattle.norprog_read.specs.declared.asked.Known.TheVariants.{Own, Tables, Uniform as OfSize}
 use Rattle.norprog_read.specs.declared.request.ReadRequest.{ReadRequest}
+use Rattle.norprog_read.specs.Line.{registers}
 
 -- the chip that is named, or that none is; None where it isn't of its form
 abbrev pub named_chip : ChipArgs → Option (Option Origin)
@@ -22,6 +23,10 @@ asked_bits given = unwrap_or (option_map (λ t. t.now) given.bits) []
 
 abbrev pub asked_limit : ReadArgs → List ℕ
 asked_limit given = unwrap_or (option_map (λ t. t.now) given.limit) (codes "1000000")
+
+-- the identification that is expected, or that none is; None where it isn't of its form
+abbrev pub expected_id : Option (List ℕ) → Option (Option (List ℕ))
+expected_id text = option_map (λ value. option_map registers value) (said_status text)
 
 -- two names are given, and are the same
 abbrev pub are_same : Option (List ℕ) → Option (List ℕ) → Bool
@@ -37,8 +42,8 @@ are_apart given =
 -- so it is, a device is named, and each value is of its form
 abbrev pub is_well_formed : ReadArgs → Bool
 is_well_formed given =
-    are_apart given && is_some (named_chip given.chip) && is_some (part_of (family_asked given.chip)) && is_some given.device
-    && is_some (limit_of (asked_limit given))
+    are_apart given && is_some (expected_id (option_map (λ t. t.now) given.expect_id)) && is_some (named_chip given.chip)
+    && is_some (part_of (family_asked given.chip)) && is_some given.device && is_some (limit_of (asked_limit given))
 
 -- each value is the one that its text spells
 pub record AsksFor (given : ReadArgs) (request : ReadRequest) : Type 0 where
@@ -53,6 +58,8 @@ pub record AsksFor (given : ReadArgs) (request : ReadRequest) : Type 0 where
   pub raw : request.raw ≡ given.raw
   pub fresh : request.fresh ≡ given.fresh
   pub any_size : request.any_size ≡ given.any_size
+  pub repeats : request.repeats ≡ given.repeats
+  pub expect_id : expected_id (option_map (λ t. t.now) given.expect_id) ≡ Some request.expect_id
 
 -- the chip is known by its own tables, by those of a file, which are these bytes, or by its size
 abbrev pub IsKnownBy : Option Origin → List ℕ → Known → Type 0
@@ -72,3 +79,5 @@ pub record IsAskOf (request : ReadRequest) (file : List ℕ) (ask : Ask) : Type 
   pub raw : ask.raw ≡ request.raw
   pub fresh : ask.fresh ≡ request.fresh
   pub any_size : ask.any_size ≡ request.any_size
+  pub repeats : ask.repeats ≡ request.repeats
+  pub expect_id : ask.expect_id ≡ request.expect_id

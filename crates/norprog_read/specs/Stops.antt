@@ -26,12 +26,13 @@ use Rattle.norprog_read.specs.declared.asked.Known.TheVariants.{Uniform}
 use Rattle.norprog_read.specs.declared.fault.Unlike.TheVariants as unlike
 use Rattle.norprog_read.specs.declared.fault.Unread.{Unread}
 use Rattle.norprog_read.specs.declared.fault.Unread.TheVariants.{Refused, Unlike}
-use Rattle.norprog_read.specs.Asked.{IsDriven, StopsId, StopsStatus}
+use Rattle.norprog_read.specs.Asked.{IsDriven, IsExpected, StopsId, StopsStatus}
 use Rattle.norprog_read.specs.Came.{HidesLine}
+use Rattle.norprog_read.specs.End.{GivesPast, IsOnce, StopsEnd}
 use Rattle.norprog_read.specs.Chip.{both_go, chip_task, is_uniform, is_unsigned, AreAlike, IsFile, GivesContent, GivesTables}
 use Rattle.norprog_read.specs.Modes.{is_sure, mode_ops, modes_of, MakesMode, StopsMode}
 use Rattle.norprog_read.specs.Size.{asked_register, other_size, IsUnmoved, StopsMoved, TellsSize}
-use Rattle.norprog_read.specs.Way.{first_by, is_readable, second_by, IsShownBy}
+use Rattle.norprog_read.specs.Way.{first_by, is_readable, past_by, second_by, IsShownBy}
 
 -- a file of tables has no meaning
 pub data RefusesFile (ask : Ask) : Unread → Type 0 where
@@ -91,7 +92,7 @@ pub data StopsContent (most : ℕ) (held_before held_after : Option (List ℕ)) 
       → (IsShownBy (first_by m start) most content → ⊥)
       → StopsContent most held_before held_after ahead_before ahead_after m start sure (Unlike unlike.Hidden)
 
--- the status came, of an idle chip; then the identification, of a line that a chip drives
+-- the status came, of an idle chip; then the identification, of a line that a chip drives, which was the one that is expected
 pub record IsIdentified (held_before held_after : Option (List ℕ)) (ahead_before ahead_after : Ahead) (ask : Ask) : Type 0 where
   pub status : ℕ
   pub id : List ℕ
@@ -100,6 +101,7 @@ pub record IsIdentified (held_before held_after : Option (List ℕ)) (ahead_befo
   pub idle : ReadsStatus ask.part held_before held ahead_before ahead (Ok status) ask.turns
   pub read : Identifies held held_after ahead ahead_after (Ok id)
   pub driven : IsDriven id
+  pub expected : IsExpected ask.expect_id id
 
 -- then the tables, which are as the file's
 pub record IsKnown (most : ℕ) (held_before held_after : Option (List ℕ)) (ahead_before ahead_after : Ahead) (ask : Ask) : Type 0 where
@@ -133,9 +135,19 @@ pub record IsHeld (most : ℕ) (held_before held_after : Option (List ℕ)) (ahe
   pub read : GivesContent most held held_after ahead ahead_after ready.m (start_of (chip_task ask ready.known.chip))
       (is_sure ask (begins4 ready.m (start_of (chip_task ask ready.known.chip))) (modes_of ask.known ready.known.chip ready.m)) ask.content content
 
--- where it stopped, in the order in which the chip is asked: at the file, before anything was sent; at the status; at the identification; at
--- the tables; at what they mean; at the size that they say; as the mode was made; at the register that moves addresses; at the content; at the second identification, which didn't come or is another; or
--- after all came, which doesn't show that the terminal changed nothing of what was read
+-- then it didn't repeat itself, and past its end came what it begins with
+pub record IsEnded (most : ℕ) (held_before held_after : Option (List ℕ)) (ahead_before ahead_after : Ahead) (ask : Ask) : Type 0 where
+  pub held : Option (List ℕ)
+  pub ahead : Ahead
+  pub all : IsHeld most held_before held ahead_before ahead ask
+  pub once : IsOnce ask all.content
+  pub past : GivesPast most held held_after ahead ahead_after ask.any_size
+      (past_by all.ready.m (start_of (chip_task ask all.ready.known.chip))) all.content
+
+-- where it stopped, in the order in which the chip is asked: at the file, before anything was sent; at the status; at the identification, which
+-- didn't come or isn't the one that is expected; at the tables; at what they mean; at the size that they say; as the mode was made; at the
+-- register that moves addresses; at the content; where that repeats itself, or past its end; at the second identification, which didn't come or
+-- is another; or after all came, which doesn't show that the terminal changed nothing of what was read
 pub data StopsChip (most : ℕ) (held_before held_after : Option (List ℕ)) (ahead_before ahead_after : Ahead) (ask : Ask) : Unread → Type 0 where
   AtFile : (why : Unread) → held_after ≡ held_before → ahead_after ≡ ahead_before → RefusesFile ask why
       → StopsChip most held_before held_after ahead_before ahead_after ask why
@@ -144,6 +156,9 @@ pub data StopsChip (most : ℕ) (held_before held_after : Option (List ℕ)) (ah
   AtId : (held : Option (List ℕ)) (ahead : Ahead) (status : ℕ) (why : Unread)
       → ReadsStatus ask.part held_before held ahead_before ahead (Ok status) ask.turns → StopsId held held_after ahead ahead_after why
       → StopsChip most held_before held_after ahead_before ahead_after ask why
+  Unexpected : (held : Option (List ℕ)) (ahead : Ahead) (status : ℕ) (id : List ℕ)
+      → ReadsStatus ask.part held_before held ahead_before ahead (Ok status) ask.turns → Identifies held held_after ahead ahead_after (Ok id)
+      → (IsExpected ask.expect_id id → ⊥) → StopsChip most held_before held_after ahead_before ahead_after ask (Unlike (unlike.Id id))
   AtTables : (held : Option (List ℕ)) (ahead : Ahead) (identified : IsIdentified held_before held ahead_before ahead ask) (why : Unread)
       → StopsAsked most held held_after ahead ahead_after ask.known identified.id why
       → StopsChip most held_before held_after ahead_before ahead_after ask why
@@ -168,12 +183,15 @@ pub data StopsChip (most : ℕ) (held_before held_after : Option (List ℕ)) (ah
       → StopsContent most held held_after ahead ahead_after ready.m (start_of (chip_task ask ready.known.chip))
       (is_sure ask (begins4 ready.m (start_of (chip_task ask ready.known.chip))) (modes_of ask.known ready.known.chip ready.m)) why
       → StopsChip most held_before held_after ahead_before ahead_after ask why
-  AtEnd : (held : Option (List ℕ)) (ahead : Ahead) → IsHeld most held_before held ahead_before ahead ask → (why : Unread)
+  AtPast : (held : Option (List ℕ)) (ahead : Ahead) (all : IsHeld most held_before held ahead_before ahead ask) (why : Unread)
+      → StopsEnd most held held_after ahead ahead_after ask (past_by all.ready.m (start_of (chip_task ask all.ready.known.chip))) all.content why
+      → StopsChip most held_before held_after ahead_before ahead_after ask why
+  AtEnd : (held : Option (List ℕ)) (ahead : Ahead) → IsEnded most held_before held ahead_before ahead ask → (why : Unread)
       → StopsId held held_after ahead ahead_after why → StopsChip most held_before held_after ahead_before ahead_after ask why
-  OtherId : (held : Option (List ℕ)) (ahead : Ahead) (all : IsHeld most held_before held ahead_before ahead ask) (other : List ℕ)
-      → Identifies held held_after ahead ahead_after (Ok other) → other ≢ all.ready.known.identified.id
+  OtherId : (held : Option (List ℕ)) (ahead : Ahead) (ended : IsEnded most held_before held ahead_before ahead ask) (other : List ℕ)
+      → Identifies held held_after ahead ahead_after (Ok other) → other ≢ ended.all.ready.known.identified.id
       → StopsChip most held_before held_after ahead_before ahead_after ask (Unlike (unlike.Id other))
-  AtLine : (held : Option (List ℕ)) (ahead : Ahead) (all : IsHeld most held_before held ahead_before ahead ask)
-      → Identifies held held_after ahead ahead_after (Ok all.ready.known.identified.id)
-      → HidesLine ask all.ready.known.identified.id (all.ready.known.chip ++ all.content)
+  AtLine : (held : Option (List ℕ)) (ahead : Ahead) (ended : IsEnded most held_before held ahead_before ahead ask)
+      → Identifies held held_after ahead ahead_after (Ok ended.all.ready.known.identified.id)
+      → HidesLine ask ended.all.ready.known.identified.id (ended.all.ready.known.chip ++ ended.all.content)
       → StopsChip most held_before held_after ahead_before ahead_after ask (Unlike unlike.Line)

@@ -44,6 +44,10 @@ second_by m start sure =
     else if m.read4 then FourBytes
     else if may_enter m start then Entered m.enter m.leave else first_by m start
 
+-- past its end by 13h where it has that, else as the first time
+abbrev pub past_by : Parameters → Start → ReadBy
+past_by m start = if m.read4 then FourBytes else first_by m start
+
 -- a content that came by the address bytes of a mode shows it, in pieces of so many bytes
 abbrev pub IsShownBy : ReadBy → ℕ → List ℕ → Type 0
 IsShownBy (Content mode4) most content = ShowsMode mode4 most content

@@ -37,8 +37,12 @@ pub struct Ask<'a> {
     /// Whether the chip's power is said to have been switched on just before, so that it is in the
     /// mode that was said.
     pub fresh: bool,
-    /// Whether the tables of a chip of a size may say another size.
+    /// Whether the tables of a chip of a size may say another size, and its end isn't looked for.
     pub any_size: bool,
+    /// Whether the halves of its content may be alike.
+    pub repeats: bool,
+    /// The identification that it has to have, where one is given.
+    pub expect_id: Option<[u8; 3]>,
 }
 
 /// What a chip gave.

@@ -39,7 +39,7 @@ pub fn fault_of_unlike(why: Unlike) -> Option<Fault>
         Unlike::Asking(fault) => Some(fault),
         Unlike::Busy | Unlike::Mode(_) | Unlike::At(_) => None,
         Unlike::Tables(_) | Unlike::NoTables { .. } | Unlike::Id(_) => None,
-        Unlike::Size(_) | Unlike::Moved(_) => None,
+        Unlike::Size(_) | Unlike::Moved(_) | Unlike::Repeats => None,
         Unlike::Line | Unlike::Unreadable | Unlike::Hidden => None,
     }
 }

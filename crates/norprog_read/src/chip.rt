@@ -12,7 +12,10 @@ ghost use Rattle.nor_reader.specs.Tables.{HasReadTables};
 ghost use Rattle.norprog_device.specs.Blame.{Blames};
 ghost use Rattle.norprog_common.specs.Setup.{RefusesChipOf};
 ghost use Rattle.norprog_common.specs.declared.faults.Refusal.{Refusal};
-ghost use Rattle.norprog_read.specs.Asked.{IsDriven, IsUndriven, StopsId, StopsStatus};
+ghost use Rattle.norprog_read.specs.Asked.{IsDriven, IsExpected, IsUndriven, StopsId};
+ghost use Rattle.norprog_read.specs.Asked.{StopsStatus};
+ghost use Rattle.norprog_read.specs.declared.fault.Unlike.TheVariants as unlike;
+ghost use Rattle.norprog_read.specs.declared.fault.Unread.TheVariants as unread;
 ghost use Rattle.norprog_read.specs.Blame.{fault_in, CountsBoth};
 ghost use Rattle.norprog_read.specs.Came.{HidesLine, ShowsLine};
 ghost use Rattle.norprog_read.specs.Chip.{both_go, chip_task, is_uniform, is_unsigned, AreAlike};
@@ -23,7 +26,8 @@ ghost use Rattle.norprog_read.specs.Stops.{StopsAsked, StopsChip, StopsContent};
 
 use crate::asked::{Ask, Known, Reading};
 use crate::came::shows_line;
-use crate::content::read_whole;
+use crate::content::{past_by, read_whole};
+use crate::end::see_end;
 use crate::fault::{Unlike, Unread};
 use crate::mode::{is_sure, make_mode, modes_of};
 use crate::size::{asked_register, noted_size, see_register, see_size};
@@ -37,7 +41,8 @@ use norprog_common::{Refusal, known_chip};
 use std::alloc::Global;
 
 /// Has the chip behind a device get idle, say what it is, give its tables and its content, each
-/// byte twice, and say again what it is. A content has to show the line, unless `ask` is `raw`.
+/// byte twice, show that it ends there, and say again what it is. A content has to show the line,
+/// unless `ask` is `raw`.
 ///
 /// `Unlike` where it doesn't do so; `Refused` where its tables or size have no meaning, and for
 /// `Memory`.
@@ -88,6 +93,7 @@ fn ask_chip<R: ByteIn, W: ByteOut>(
     check_file(ask)?;
     let first = ask_status(from, to, ask)?;
     let id = ask_id(from, to)?;
+    see_id(ask.expect_id, id)?;
     let tables = ask_tables(alloc, from, to, limits, ask, id)?;
     let (meaning, start) = known_meaning(ask, id, tables.as_slice())?;
     see_size(ask, tables.as_slice())?;
@@ -97,6 +103,8 @@ fn ask_chip<R: ByteIn, W: ByteOut>(
     see_register(from, to, asked_register(ask.content, tables.as_slice()))?;
     let sure = is_sure(ask, said, modes);
     let content = ask_content(alloc, from, to, limits, &meaning, start, sure, ask.content)?;
+    let by = past_by(&meaning, start);
+    see_end(from, to, limits, ask, by, content.as_slice())?;
     let again = ask_id(from, to)?;
     if !is_same(again, id) {
         return Err(Unread::Unlike(Unlike::Id(again)));
@@ -130,6 +138,24 @@ fn is_same(one: [u8; 3], other: [u8; 3]) -> bool
     ensures other { result ≡ false → one ≢ other }
 {
     one == other
+}
+
+/// Sees that an identification is the one that is expected, where one is.
+fn see_id(expected: Option<[u8; 3]>, id: [u8; 3]) -> Result<(), Unread>
+    ensures expected { IfOk result (λ _. IsExpected expected id) }
+    ensures other { IfErr result (λ why. (why ≡ unread.Unlike (unlike.Id id))
+        × (IsExpected expected id → ⊥)) }
+{
+    match expected {
+        Some(wanted) => {
+            if is_same(id, wanted) {
+                Ok(())
+            } else {
+                Err(Unread::Unlike(Unlike::Id(id)))
+            }
+        }
+        None => Ok(()),
+    }
 }
 
 /// Whether an identification is what a line gives that no chip drives: only clear bits, or only set

@@ -10,7 +10,7 @@ ghost use Rattle.norprog_read.specs.Blame.{fault_in, CountsBoth};
 ghost use Rattle.norprog_read.specs.Content.{HoldsWhole};
 ghost use Rattle.norprog_read.specs.Stops.{StopsContent};
 ghost use Rattle.norprog_read.specs.Way.{first_by, is_near, is_readable, is_small, may_enter};
-ghost use Rattle.norprog_read.specs.Way.{second_by, IsShownBy};
+ghost use Rattle.norprog_read.specs.Way.{past_by, second_by, IsShownBy};
 
 use crate::fault::{Unlike, Unread};
 use crate::mode::{has_both, is_there};
@@ -151,6 +151,17 @@ fn second_by(meaning: &Meaning, start: Start, sure: bool) -> ReadBy
         ReadBy::FourBytes
     } else if may_enter(meaning, start) {
         entered(meaning)
+    } else {
+        first_by(meaning, start)
+    }
+}
+
+/// How it is read past its end.
+pub(crate) fn past_by(meaning: &Meaning, start: Start) -> ReadBy
+    ensures { result ≡ past_by meaning.now start }
+{
+    if meaning.read4 {
+        ReadBy::FourBytes
     } else {
         first_by(meaning, start)
     }

@@ -32,7 +32,7 @@ pub enum Unlike {
     Asking(Fault),
     /// The status says another address mode: S23 to S0.
     Mode(u32),
-    /// The byte of this address came otherwise the second time.
+    /// The byte of this address came otherwise the second time, or is past its end.
     At(u32),
     /// Its SFDP bytes and those of the file differ.
     Tables(Difference),
@@ -47,8 +47,11 @@ pub enum Unlike {
     Size(u32),
     /// A register of it, which has this value, moves all addresses.
     Moved(u8),
-    /// At the end it gave another identification.
+    /// Its identification is that of a line without a chip, isn't the one that is expected, or is
+    /// another at the end.
     Id([u8; 3]),
+    /// The halves of its content are alike.
+    Repeats,
     /// What came doesn't show that the terminal changed nothing of what was read.
     Line,
     /// It can't be read whole in the mode that was said.

@@ -12,6 +12,7 @@ mod blame;
 mod came;
 mod chip;
 mod content;
+mod end;
 mod fault;
 mod laws;
 mod line;

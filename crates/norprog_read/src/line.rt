@@ -95,7 +95,7 @@ fn write_status<W: ByteOut>(part: Part, status: u32, writer: &mut W) -> Result<(
 }
 
 /// S23 to S16, S15 to S8 and S7 to S0.
-fn registers(status: u32) -> [u8; 3]
+pub(crate) fn registers(status: u32) -> [u8; 3]
     ensures { result ≡ registers status }
 {
     let high = (status / 65536 % 256) as u8;
@@ -127,7 +127,8 @@ fn write_digits<W: ByteOut>(front: &[u8], bytes: &[u8; 3], writer: &mut W) -> Re
 /// Writes why the chip isn't read, in a line: `unlike busy`, `unlike WHY` of an exchange, `unlike
 /// status HHHHHH`, `unlike at AAAAAAAA`, `unlike tables at AAAAAAAA chip HH file HH`, `unlike id
 /// HHHHHH`, `unlike size: the chip's tables say N bytes`, `unlike register HH`, `unlike line`,
-/// `unreadable`, or `unreadable: ` and the reason; or in two, `id HHHHHH` and `no tables: N`.
+/// `unlike repeats`, `unreadable`, or `unreadable: ` and the reason; or in two, `id HHHHHH` and
+/// `no tables: N`.
 ///
 /// At `Failed` a proper prefix was taken; it comes only from the writer, whose count of failures
 /// rose by one.
@@ -144,6 +145,7 @@ pub fn write_unlike<W: ByteOut>(why: Unlike, writer: &mut W) -> Result<(), Faile
         Unlike::Tables(d) => write_tables(d, writer),
         Unlike::Id(id) => write_digits(b"unlike id ", &id, writer),
         Unlike::Line => put_all(writer, b"unlike line\n"),
+        Unlike::Repeats => put_all(writer, b"unlike repeats\n"),
         Unlike::Unreadable => put_all(writer, b"unreadable\n"),
         Unlike::NoTables { id, fault } => write_no_tables(&id, fault, writer),
         Unlike::Hidden => put_all(writer, HIDDEN),

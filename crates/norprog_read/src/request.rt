@@ -2,12 +2,13 @@
 
 ghost use Rattle.std.specs.Prelude.{◌≡◌, is_some, option_map, IfSome};
 ghost use Rattle.norprog_common.specs.Chip.{origin_of};
-ghost use Rattle.norprog_read.specs.Request.{are_apart, are_same, is_well_formed, named_chip};
-ghost use Rattle.norprog_read.specs.Request.{AsksFor, IsAskOf};
+ghost use Rattle.norprog_read.specs.Request.{are_apart, are_same, expected_id, is_well_formed};
+ghost use Rattle.norprog_read.specs.Request.{named_chip, AsksFor, IsAskOf};
 
 use crate::asked::{Ask, Known};
+use crate::line::registers;
 use nor_base::Part;
-use norprog_common::{Chip, ChipArgs, ReadArgs, chip_of, limit, part};
+use norprog_common::{Chip, ChipArgs, ReadArgs, chip_of, limit, optional_status, part};
 
 /// What `read` is asked for: each value is of its form.
 #[derive(Clone, Copy)]
@@ -30,6 +31,10 @@ pub struct ReadRequest<'a> {
     pub fresh: bool,
     /// Its tables may say another size.
     pub any_size: bool,
+    /// The halves of its content may be alike.
+    pub repeats: bool,
+    /// The identification that it has to have.
+    pub expect_id: Option<[u8; 3]>,
 }
 
 /// The request that the values spell. None where one isn't of its form, where no device is named,
@@ -41,6 +46,7 @@ pub fn request_of<'a>(given: ReadArgs<'a>) -> Option<ReadRequest<'a>>
     if !are_apart(given) {
         return None;
     }
+    let expect_id = expected_id(given.expect_id)?;
     Some(ReadRequest {
         chip: named_chip(given.chip)?,
         bits: given.chip.bits.unwrap_or(""),
@@ -53,7 +59,20 @@ pub fn request_of<'a>(given: ReadArgs<'a>) -> Option<ReadRequest<'a>>
         raw: given.raw,
         fresh: given.fresh,
         any_size: given.any_size,
+        repeats: given.repeats,
+        expect_id,
     })
+}
+
+/// The identification that is expected, if one is: exactly six hexadecimal digits of either case.
+/// None where it isn't so.
+fn expected_id(text: Option<&str>) -> Option<Option<[u8; 3]>>
+    ensures { result ≡ expected_id (option_map (λ t. t.now) text.entry) }
+{
+    match optional_status(text)? {
+        Some(value) => Some(Some(registers(value))),
+        None => Some(None),
+    }
 }
 
 /// Whether the outputs have different names, and no tables are saved of a chip of a size.
@@ -103,5 +122,7 @@ pub fn ask_of<'a>(request: ReadRequest<'a>, file: &'a [u8]) -> Ask<'a>
         raw: request.raw,
         fresh: request.fresh,
         any_size: request.any_size,
+        repeats: request.repeats,
+        expect_id: request.expect_id,
     }
 }

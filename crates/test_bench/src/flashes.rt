@@ -11,7 +11,7 @@ use crate::scripts::{
 use crate::store::{Store, Untold};
 use nor_base::{IntoWrite, Part, put_parts};
 use nor_script::hex_pair;
-use norprog_common::{Chip, ChipArgs, refuse};
+use norprog_common::{Chip, ChipArgs, job_rules, refuse};
 use norprog_device::refuse_device;
 use norprog_flash::{Ending, FlashArgs, FlashRequest, Unflashed, write_ending};
 use norprog_named::flash;
@@ -60,7 +60,7 @@ const READ_ONE: &[u8] = b"\x13\x04\x00\x00\x01\x00\x00\x03\x00\x00\x00";
 const ACK: &[u8] = b"\x06";
 
 /// What goes out to read the chip; what one gives, with its end, that is idle and empty.
-const READ: &[&[u8]] = &[STATUS, ID, TABLES, WHOLE, AGAIN, ID];
+const READ: &[&[u8]] = &[STATUS, ID, TABLES, WHOLE, AGAIN, PAST, ID];
 
 const EMPTY: &[&[u8]] = &[
     b"\x06\x00",
@@ -75,11 +75,11 @@ const EMPTY: &[&[u8]] = &[
     MANY,
     ACK,
     LESS,
+    ACK,
+    MANY,
+    ACK,
+    MANY,
     IS,
-    ACK,
-    MANY,
-    ACK,
-    MANY,
 ];
 
 /// What is printed before the first step of a job of [`no_texts`].
@@ -152,7 +152,6 @@ fn wanted(alloc: Global, row: &Row) -> Result<Vec<u8>, AllocError> {
     }
     if row.empty {
         all.extend_from_slice(joined(alloc, READ)?.as_slice())?;
-        all.extend_from_slice(PAST)?;
     }
     all.extend_from_slice(joined(alloc, row.put)?.as_slice())?;
     all.extend_from_slice(row.released)?;
@@ -272,10 +271,14 @@ fn no_texts(alloc: Global) -> FlashArgs<'static> {
         resume: None,
         erased_only: false,
         strict: false,
+        partial: false,
+        beyond: false,
         dry_run: false,
         raw: false,
         fresh: false,
         any_size: false,
+        repeats: false,
+        expect_id: None,
         regions: Vec::new(alloc),
     }
 }
@@ -295,6 +298,8 @@ fn request_of<'a>(row: &Row, texts: &'a FlashArgs<'a>) -> FlashRequest<'a> {
         raw: false,
         fresh: true,
         any_size: false,
+        repeats: false,
+        expect_id: None,
     };
     FlashRequest {
         read,
@@ -304,7 +309,7 @@ fn request_of<'a>(row: &Row, texts: &'a FlashArgs<'a>) -> FlashRequest<'a> {
         before: "before",
         resume: row.old.map(|_| "content"),
         erased_only: false,
-        strict: false,
+        rules: job_rules(false, false),
         dry_run: row.dry,
         regions: &[],
         texts,

@@ -127,9 +127,14 @@ pub(crate) const TOPICS: &[Topic] = &[
          the chip's SFDP bytes with --sfdp, or leave --part out.",
     ),
     (
+        "contradiction 5",
+        "`flash` got a layout, but no name of a region, and the whole chip would be\n\
+         written. Name the regions at the end, or leave --layout out.",
+    ),
+    (
         "contradiction",
         "Two parts of the command line exclude each other; the number says which. Ask\n\
-         for the word with its number, 1 to 4.",
+         for the word with its number, 1 to 5.",
     ),
     (
         "status 1",
@@ -177,6 +182,28 @@ pub(crate) const TOPICS: &[Topic] = &[
          `plan --regions` shows what each gets. Correct --base, the names or the layout,\n\
          or leave --strict out. The output holds no script; of `flash` the chip is as\n\
          it was.",
+    ),
+    (
+        "partial region",
+        "The image gives this named region only some of its bytes: so many of so many,\n\
+         and the lowest address of the chip that gets none. The region is counted from 0,\n\
+         in the order of the names. Was the file cut on its way, or made for another\n\
+         address or region? Correct the image, --base or the names; or say that a part\n\
+         is meant: with --partial of `flash`, without --whole of the others. The chip is\n\
+         as it was.",
+    ),
+    (
+        "beyond",
+        "So many bytes of the image lie off the chip, and the first of them is at this\n\
+         address of the image. The image may be for a larger chip, or begin elsewhere:\n\
+         --base names its address that goes to the chip's address 0. Correct that, or\n\
+         say that these bytes are to be left out: with --beyond of `flash`, without\n\
+         --whole of the others. The chip is as it was.",
+    ),
+    (
+        "image lands nowhere",
+        "No byte of the image lies at a chosen address of the chip: there is nothing to\n\
+         write. Correct --base, the names or the layout. The chip is as it was.",
     ),
     (
         "log line",

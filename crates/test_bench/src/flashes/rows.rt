@@ -112,7 +112,7 @@ pub(super) static DONES: [Row; 4] = [
         hex: ONE,
         empty: false,
         put: &[
-            STATUS, ID, TABLES, WHOLE, AGAIN, ID, PAST, ENABLE, ERASE, STATUS, ENABLE, RESTORE,
+            STATUS, ID, TABLES, WHOLE, AGAIN, PAST, ID, ENABLE, ERASE, STATUS, ENABLE, RESTORE,
             STATUS, PAGES, AGAIN, PAST,
         ],
         answers: &[
@@ -129,12 +129,12 @@ pub(super) static DONES: [Row; 4] = [
             BUT_FOUR,
             ACK,
             LESS,
-            IS,
             ACK,
             OLD,
             BUT_SIX,
             ACK,
             MANY,
+            IS,
             DONE,
             DONE,
             ACK,
@@ -216,7 +216,7 @@ pub(super) static DONES: [Row; 4] = [
     // the chip holds it, and is still read back
     Row {
         empty: false,
-        put: &[STATUS, ID, TABLES, WHOLE, AGAIN, ID, PAST, AGAIN, PAST],
+        put: &[STATUS, ID, TABLES, WHOLE, AGAIN, PAST, ID, AGAIN, PAST],
         answers: &[
             b"\x06\x00",
             IS,
@@ -230,11 +230,11 @@ pub(super) static DONES: [Row; 4] = [
             MANY,
             ACK,
             LESS,
-            IS,
             b"\x06\x00",
             BUT_ONE,
             ACK,
             MANY,
+            IS,
             b"\x06\x00\xff",
             ACK,
             MANY,
@@ -324,6 +324,10 @@ pub(super) static UNLIKES: [Row; 15] = [
             MANY,
             ACK,
             LESS,
+            ACK,
+            MANY,
+            ACK,
+            MANY,
             IS,
         ],
         line: b"closed 0c\n",
@@ -345,6 +349,10 @@ pub(super) static UNLIKES: [Row; 15] = [
             MANY,
             ACK,
             LESS,
+            ACK,
+            MANY,
+            ACK,
+            MANY,
             b"\x06\xef\x40\x18",
         ],
         line: b"unlike id ef4018\n",
@@ -378,7 +386,7 @@ pub(super) static UNLIKES: [Row; 15] = [
     },
     // a larger chip, which gives another byte at 8 KiB than at 0
     Row {
-        put: &[STATUS, ID, TABLES, WHOLE, AGAIN, ID, AT_END],
+        put: &[STATUS, ID, TABLES, WHOLE, AGAIN, AT_END],
         answers: &[
             b"\x06\x00",
             IS,
@@ -392,7 +400,6 @@ pub(super) static UNLIKES: [Row; 15] = [
             MANY,
             ACK,
             LESS,
-            IS,
             b"\x06\x00",
             BUT_ONE,
         ],

@@ -84,7 +84,7 @@ const UNLIKE: Row = Row { code: 1, ..GOOD };
 /// One that stops after steps were sent.
 const HALF: Row = Row {
     put: &[STATUS, FIRST, PAST, STEPS, FIRST],
-    code: 1,
+    code: 3,
     told: &[STATE],
     ..GOOD
 };

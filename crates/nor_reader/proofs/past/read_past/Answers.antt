@@ -16,9 +16,9 @@ loop-done-init g c = record {
 pub loop-done-preserved : goal.loop-done-preserved
 loop-done-preserved g c =
     let content = c.args.content.now in
-    let past : c.past_end-past.result ≡ past_end (length content) = c.past_end-past.ensures in
-    let before : c.loop-done.done + c.min-len.result ≤ past_end (length content) = omega arith in
-    let within : c.loop-done.done + c.min-len.result ≤ length content = omega (arith, before, past_few (length content)) in
+    let past : c.past_end-past.result ≡ past_end c.args.by (length content) = c.past_end-past.ensures in
+    let before : c.loop-done.done + c.min-len.result ≤ past_end c.args.by (length content) = omega arith in
+    let within : c.loop-done.done + c.min-len.result ≤ length content = omega (arith, before, past_few c.args.by (length content)) in
     let some : 0 < c.min-len.result = omega (arith, c.args.limits.now.some_asked) in
     let few : c.min-len.result ≤ c.args.limits.now.asked = omega arith in
     let ok = c.in_default.ensures in
@@ -35,8 +35,8 @@ loop-done-preserved g c =
 pub returns-in-Err-clause-past : goal.returns-in-Err-clause-past
 returns-in-Err-clause-past g c =
     let content = c.args.content.now in
-    let before : c.loop-done.done + c.min-len.result ≤ past_end (length content) = omega arith in
-    let within : c.loop-done.done + c.min-len.result ≤ length content = omega (arith, before, past_few (length content)) in
+    let before : c.loop-done.done + c.min-len.result ≤ past_end c.args.by (length content) = omega arith in
+    let within : c.loop-done.done + c.min-len.result ≤ length content = omega (arith, before, past_few c.args.by (length content)) in
     let some : 0 < c.min-len.result = omega (arith, c.args.limits.now.some_asked) in
     let few : c.min-len.result ≤ c.args.limits.now.asked = omega arith in
     past_not c.args.limits.now.asked (g.W.ByteOut.held c.args.to.now) (g.W.ByteOut.held c.loop-done.to) (g.W.ByteOut.held c.compare_piece.new.to)

@@ -6,7 +6,7 @@ use Rattle.nor_reader.proofs.past.read_past.Given as goal
 
 abbrev pub invariant-loop-done : goal.invariant-loop-done
 invariant-loop-done g l = record {
-  within : l.done ≤ past_end (length l.content);
+  within : l.done ≤ past_end l.by (length l.content);
   alike : HasReadOn l.limits.asked (g.W.ByteOut.held l.fn.to) (g.W.ByteOut.held l.to) (g.R.ByteIn.ahead l.fn.from) (g.R.ByteIn.ahead l.from) l.by l.content
       (l.content ++ take l.done l.content);
   reads : g.R.ByteIn.count l.from ≡ g.R.ByteIn.count l.fn.from;
@@ -14,4 +14,4 @@ invariant-loop-done g l = record {
 }
 
 abbrev pub decreases-loop-done : goal.decreases-loop-done
-decreases-loop-done g l = past_end (length l.content) - l.done
+decreases-loop-done g l = past_end l.by (length l.content) - l.done

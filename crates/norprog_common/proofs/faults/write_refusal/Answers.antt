@@ -34,3 +34,18 @@ pub returns-in-Log-clause-bytes : goal.returns-in-Log-clause-bytes
 returns-in-Log-clause-bytes g c =
     subst (λ (refusal : Refusal). Writes (g.E.ByteOut.held c.args.err.now) (g.E.ByteOut.held c.put_line-in-Log.new.err) c.put_line-in-Log.result (printed refusal))
     (sym c.in-Log.is) c.put_line-in-Log.ensures.bytes
+
+pub returns-in-Partial-clause-bytes : goal.returns-in-Partial-clause-bytes
+returns-in-Partial-clause-bytes g c =
+    subst (λ (refusal : Refusal). Writes (g.E.ByteOut.held c.args.err.now) (g.E.ByteOut.held c.put_partial.new.err) c.put_partial.result (printed refusal))
+    (sym c.in-Partial.is) c.put_partial.ensures.bytes
+
+pub returns-in-Beyond-clause-bytes : goal.returns-in-Beyond-clause-bytes
+returns-in-Beyond-clause-bytes g c =
+    subst (λ (refusal : Refusal). Writes (g.E.ByteOut.held c.args.err.now) (g.E.ByteOut.held c.put_beyond.new.err) c.put_beyond.result (printed refusal))
+    (sym c.in-Beyond.is) c.put_beyond.ensures.bytes
+
+pub returns-in-Nowhere-clause-bytes : goal.returns-in-Nowhere-clause-bytes
+returns-in-Nowhere-clause-bytes g c =
+    subst (λ (refusal : Refusal). Writes (g.E.ByteOut.held c.args.err.now) (g.E.ByteOut.held c.put_line-in-Nowhere.new.err) c.put_line-in-Nowhere.result (printed refusal))
+    (sym c.in-Nowhere.is) c.put_line-in-Nowhere.ensures.bytes

@@ -1,5 +1,4 @@
 -- What was planned, and how the work on it went, are how it ends.
-use Rattle.std.proofs.Common.{List, Option}
 use Rattle.norprog_flash.specs.Ended.{OnlyPlan}
 use Rattle.norprog_flash.proofs.EndedLemmas.{goes_ends}
 use Rattle.norprog_flash.proofs.device.go_on.Goals as goal

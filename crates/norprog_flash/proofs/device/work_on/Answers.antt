@@ -3,7 +3,7 @@ use Rattle.std.proofs.Common.{List, ℕ, All, inl, inr, refl, subst, sym}
 use Rattle.nor_base.specs.declared.step.Step.{Step}
 use Rattle.nor_serprog.specs.Done.{IsDoable}
 use Rattle.nor_serprog.specs.Steps.{AreCarried, IsFirstNotCarried}
-use Rattle.norprog_flash.specs.Worked.{WorksOut}
+use Rattle.norprog_flash.specs.Worked.{WorksOut, back_of}
 use Rattle.norprog_flash.proofs.PlannedLemmas.{steps_doable}
 use Rattle.norprog_flash.proofs.device.work_on.Goals as goal
 
@@ -30,9 +30,9 @@ returns-clause-goes g c =
       held.by,
       c.requires.way,
       subst (λ (xs : List Step). AreCarried limits xs) c.as_slice-steps.ensures.value c.in_default.ensures,
-      subst (λ (xs : List Step). WorksOut h0 h1 a0 a1 limits job.ask.turns held.reading.meaning held.by xs c.args.work.now.goal.items c.do_work.result)
+      subst (λ (xs : List Step). WorksOut h0 h1 a0 a1 limits job.ask.turns held.reading.meaning (back_of job held.by) xs c.args.work.now.goal.items c.do_work.result)
           c.as_slice-steps.ensures.value
-          (subst (λ (xs : List ℕ). WorksOut h0 h1 a0 a1 limits job.ask.turns held.reading.meaning held.by c.as_slice-steps.result.now xs c.do_work.result)
+          (subst (λ (xs : List ℕ). WorksOut h0 h1 a0 a1 limits job.ask.turns held.reading.meaning (back_of job held.by) c.as_slice-steps.result.now xs c.do_work.result)
           c.as_slice.ensures.value c.do_work.ensures.ends),
     )
 

@@ -46,7 +46,7 @@ returns-in-Ok g c =
     let job = c.in_ok-texts.ensures.did in (
       _,
       adds_both job.1 (adds_both c.in_ok-script.ensures.did c.in-Ok.ensures.did),
-      Built (work _ c.in_ok-texts.len _ _ _ _) job.0 _ (job_by _ _ c.inputs_of-inputs.ensures job.2) c.in_ok-report.ensures.full c.in_ok-report.ensures.built,
+      Built (work _ c.in_ok-texts.len _ _ _ _) job.0 _ (job_by _ _ c.inputs_of-inputs.ensures job.2) c.in_ok-report.ensures.meets c.in_ok-report.ensures.built,
     )
 
 pub returns : goal.returns

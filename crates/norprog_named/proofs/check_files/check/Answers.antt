@@ -5,9 +5,9 @@ use Rattle.norprog_check.specs.Stream.{work}
 use Rattle.norprog_common.specs.declared.faults.FileName.TheVariants as file
 use Rattle.norprog_files.specs.Files.{Denied, Here, Opened}
 use Rattle.norprog_files.proofs.FilesLemmas.{adds_both, stops_after, stops_before}
-use Rattle.norprog_named.specs.Check.{Checked, EndsCheck, NoInput, Opens_all, Refused}
+use Rattle.norprog_named.specs.Check.{Breaking, Checked, EndsCheck, NoInput, Opens_all, Refused}
 use Rattle.norprog_named.proofs.BuildLemmas.{job_by}
-use Rattle.norprog_named.proofs.CheckLemmas.{empty, wider}
+use Rattle.norprog_named.proofs.CheckLemmas.{wider}
 use Rattle.norprog_named.proofs.JobLemmas.{job_used}
 use Rattle.norprog_named.proofs.check_files.check.Goals as goal
 
@@ -30,8 +30,8 @@ returns-in_err-script g c =
           (NoInput _ _ (stops_after (job_used job.2) (Here file.Script path [] _ c.in_err-script.ensures.refused))) c.from_residual-in_err-script.ensures.1,
     )
 
-pub returns-in_err-refuse_empty : goal.returns-in_err-refuse_empty
-returns-in_err-refuse_empty g c =
+pub returns-in_err-refuse_image : goal.returns-in_err-refuse_image
+returns-in_err-refuse_image g c =
     let path = c.args.path.now in
     let job = c.in_ok-texts.ensures.did in
     let script = g.F.Input.ByteIn.ahead c.in_ok-script.script in
@@ -40,8 +40,8 @@ returns-in_err-refuse_empty g c =
       _,
       adds_both job.1 c.in_ok-script.ensures.did,
       answered _ (EndsCheck (g.F.Files.unread c.args.files.now) c.args.request.now path (job.0 ++ (Opened path script c.in_ok-script._len ∷ []))) _
-          (empty _ _ _ w _ _ (Opens_all job.0 c.in_ok-script._len (job_by _ _ c.inputs_of-inputs.ensures job.2)) c.in_err-refuse_empty.ensures.refused)
-          c.from_residual-in_err-refuse_empty.ensures.1,
+          (Breaking w _ _ (Opens_all job.0 c.in_ok-script._len (job_by _ _ c.inputs_of-inputs.ensures job.2)) c.in_err-refuse_image.ensures.breaks)
+          c.from_residual-in_err-refuse_image.ensures.1,
     )
 
 pub returns-in-Ok : goal.returns-in-Ok
@@ -51,7 +51,7 @@ returns-in-Ok g c =
     (g.F.Input.ByteIn.ahead c.in_ok-texts.content) (g.F.Input.ByteIn.ahead c.check_stream.new.content) in (
       _,
       adds_both job.1 c.in_ok-script.ensures.did,
-      Checked w _ c.in-Ok.found (Opens_all job.0 c.in_ok-script._len (job_by _ _ c.inputs_of-inputs.ensures job.2)) c.in_ok-refuse_empty.ensures.filled c.in-Ok.ensures.found,
+      Checked w _ c.in-Ok.found (Opens_all job.0 c.in_ok-script._len (job_by _ _ c.inputs_of-inputs.ensures job.2)) c.in_ok-refuse_image.ensures.meets c.in-Ok.ensures.found,
     )
 
 pub returns : goal.returns
@@ -61,7 +61,7 @@ returns g c =
     (g.F.Input.ByteIn.ahead c.in_ok-texts.content) (g.F.Input.ByteIn.ahead c.check_stream.new.content) in (
       _,
       adds_both job.1 c.in_ok-script.ensures.did,
-      rw c.refusal_of.ensures (Refused w _ c.in-Err.stop (Opens_all job.0 c.in_ok-script._len (job_by _ _ c.inputs_of-inputs.ensures job.2)) c.in_ok-refuse_empty.ensures.filled
+      rw c.refusal_of.ensures (Refused w _ c.in-Err.stop (Opens_all job.0 c.in_ok-script._len (job_by _ _ c.inputs_of-inputs.ensures job.2)) c.in_ok-refuse_image.ensures.meets
           (wider (λ more. g.met.F.Files.failing c.args.files.now c.check_stream.new.script (omega (arith, more)))
           (λ more. g.met.F.Files.failing c.args.files.now c.check_stream.new.content (omega (arith, more))) c.in-Err.ensures.unchecked)),
     )

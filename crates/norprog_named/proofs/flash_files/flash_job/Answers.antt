@@ -4,8 +4,7 @@ use Rattle.nor_base.proofs.FaultLaws.{answered}
 use Rattle.norprog_files.specs.Files.{Denied}
 use Rattle.norprog_files.proofs.FilesLemmas.{adds_both, adds_none}
 use Rattle.norprog_flash.specs.declared.ending.Unflashed.TheVariants.{Refused}
-use Rattle.norprog_named.specs.Flash.{EndsJob, NoDevice, OnDevice, prints}
-use Rattle.norprog_named.proofs.FlashLemmas.{faulty}
+use Rattle.norprog_named.specs.Flash.{EndsJob, Faulty, NoDevice, OnDevice, prints}
 use Rattle.norprog_named.proofs.flash_files.flash_job.Goals as goal
 
 pub returns-in_err-look_at-clause-ends : goal.returns-in_err-look_at-clause-ends
@@ -14,7 +13,7 @@ returns-in_err-look_at-clause-ends g c =
       [],
       adds_none _,
       answered _ (EndsJob c.args.device.now c.args.before.now c.args.job.now out []) (Refused c.in_err-look_at.field-0.0)
-          (faulty c.args.device.now c.args.before.now c.args.job.now out c.in_err-look_at.field-0.0 c.in_err-look_at.ensures.refused refl)
+          (Faulty c.in_err-look_at.field-0.0 c.in_err-look_at.ensures.refused refl)
           c.from_residual.ensures.1,
     )
 

@@ -1,5 +1,5 @@
 -- Each step that ends it.
-use Rattle.std.proofs.Common.{◌<◌, ◌++◌, List, ℕ, arith, refl, subst}
+use Rattle.std.proofs.Common.{◌++◌, List, ℕ, arith, refl, subst}
 use Rattle.std.specs.Io.KnownBytes.{Appends}
 use Rattle.nor_base.specs.Device.{Cuts}
 use Rattle.nor_base.proofs.DeviceLaws.{Appends-append}
@@ -53,7 +53,7 @@ returns-in-Err-send_map g c =
       _,
       adds_both job.1 (adds_both made.1 sent.1),
       Undrawn (outline told.0 c.in-Ok.told) job.0 (made.0 ++ sent.0)
-          (tells_job c.in_ok-texts.len (job_by _ _ c.inputs_of-inputs.ensures job.2) c.in-Ok.ensures.full told.1) sent.2 told.2,
+          (tells_job c.in_ok-texts.len (job_by _ _ c.inputs_of-inputs.ensures job.2) c.in-Ok.ensures.meets told.1) sent.2 told.2,
     )
 
 pub returns-in-Ok-put_all : goal.returns-in-Ok-put_all
@@ -68,7 +68,7 @@ returns-in-Ok-put_all g c =
       _,
       adds_both job.1 (adds_both made.1 sent.1),
       Told (outline told.0 c.in-Ok.told) job.0 (made.0 ++ sent.0)
-          (tells_job c.in_ok-texts.len (job_by _ _ c.inputs_of-inputs.ensures job.2) c.in-Ok.ensures.full told.1)
+          (tells_job c.in_ok-texts.len (job_by _ _ c.inputs_of-inputs.ensures job.2) c.in-Ok.ensures.meets told.1)
           (subst (λ (bytes : List ℕ). SendsMap bytes map (made.0 ++ sent.0)) c.deref.ensures.value sent.2) (Appends-append _ _ _ told.0 _ told.2 rest),
     )
 
@@ -84,7 +84,7 @@ returns g c =
       _,
       adds_both job.1 (adds_both made.1 sent.1),
       Unprinted (outline told.0 c.in-Ok.told) job.0 (made.0 ++ sent.0) _
-          (tells_job c.in_ok-texts.len (job_by _ _ c.inputs_of-inputs.ensures job.2) c.in-Ok.ensures.full told.1)
+          (tells_job c.in_ok-texts.len (job_by _ _ c.inputs_of-inputs.ensures job.2) c.in-Ok.ensures.meets told.1)
           (subst (λ (bytes : List ℕ). SendsMap bytes map (made.0 ++ sent.0)) c.deref.ensures.value sent.2) told.2 rest
           (omega (arith, c.in-Ok.ensures.count, c.in-Err-put_all.ensures.count)),
     )

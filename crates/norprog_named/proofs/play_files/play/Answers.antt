@@ -9,7 +9,6 @@ use Rattle.norprog_files.proofs.FilesLemmas.{adds_both, stops_after, stops_befor
 use Rattle.norprog_named.specs.Play.{EndsPlay, NoInput, NoPlay, Opens_all, Played, Sources}
 use Rattle.norprog_named.proofs.JobLemmas.{tables_used}
 use Rattle.norprog_named.proofs.PlayLemmas.{content_failed, expected_so, script_failed}
-use Rattle.norprog_player.specs.Expected.{expectation_of}
 use Rattle.norprog_player.specs.Played.{play_of}
 use Rattle.norprog_player.specs.declared.unplayed.Unplayed.TheVariants.{Refused}
 use Rattle.norprog_named.proofs.play_files.play.Goals as goal

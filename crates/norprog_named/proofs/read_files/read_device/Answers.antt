@@ -1,7 +1,7 @@
 -- The device that was opened and closed, or can't be opened.
 use Rattle.std.proofs.Common.{[], ◌∷◌}
 use Rattle.nor_base.proofs.FaultLaws.{answered}
-use Rattle.norprog_files.specs.Files.{Denied, wire}
+use Rattle.norprog_files.specs.Files.{Denied}
 use Rattle.norprog_files.proofs.FilesLemmas.{adds_both}
 use Rattle.norprog_read.specs.declared.fault.Unread.TheVariants.{Refused}
 use Rattle.norprog_named.specs.Read.{EndsReading, NoDevice}

@@ -1,5 +1,5 @@
 -- Where a file is named.
-use Rattle.std.proofs.Common.{[], Ok}
+use Rattle.std.proofs.Common.{[]}
 use Rattle.norprog_files.proofs.FilesLemmas.{adds_none}
 use Rattle.norprog_named.specs.Saved.{Named, Unnamed}
 use Rattle.norprog_named.proofs.saved.save_if.Goals as goal

@@ -20,6 +20,9 @@ returns-in-Tables-clause-bytes g c = rw c.in-Tables.is c.write_tables.ensures.by
 pub returns-in-Line-clause-bytes : goal.returns-in-Line-clause-bytes
 returns-in-Line-clause-bytes g c = rw c.in-Line.is c.put_all-in-Line.ensures.bytes
 
+pub returns-in-Repeats-clause-bytes : goal.returns-in-Repeats-clause-bytes
+returns-in-Repeats-clause-bytes g c = rw c.in-Repeats.is c.put_all-in-Repeats.ensures.bytes
+
 pub returns-in-Unreadable-clause-bytes : goal.returns-in-Unreadable-clause-bytes
 returns-in-Unreadable-clause-bytes g c = rw c.in-Unreadable.is c.put_all-in-Unreadable.ensures.bytes
 

@@ -1,0 +1,70 @@
+//! Whether the chip behind a device ends where its content does.
+
+ghost use Rattle.std.specs.Prelude.{◌≡◌, ◌↔◌, ◌<◌, ◌-◌, ◌^◌, true, IfOk, IfErr};
+ghost use Rattle.nor_base.specs.Device.{HaveRoom};
+ghost use Rattle.norprog_read.specs.Blame.{fault_in, CountsBoth};
+ghost use Rattle.norprog_read.specs.End.{has_some, GivesPast, IsOnce, IsTwice, Repeats};
+ghost use Rattle.norprog_read.specs.End.{StopsEnd};
+
+use crate::asked::Ask;
+use crate::fault::{Unlike, Unread};
+use nor_base::{ByteIn, ByteOut};
+use nor_probe::Mismatch;
+use nor_reader::{ReadBy, read_past};
+use nor_serprog::Limits;
+
+/// Sees that the halves of a content aren't alike, unless they may be; then that the chip gives
+/// past its end what one of just this content gives there, unless it may be larger.
+pub(crate) fn see_end<R: ByteIn, W: ByteOut>(
+    from: &mut R,
+    to: &mut W,
+    limits: &Limits,
+    ask: &Ask<'_>,
+    by: ReadBy,
+    content: &[u8],
+) -> Result<(), Unread>
+    requires room { HaveRoom (R.count from.old) (W.count to.old) }
+    ensures once { IfOk result (λ _. IsOnce ask.now content.now) }
+    ensures past { IfOk result
+        (λ _. GivesPast limits.now.asked (W.held to.old) (W.held to.new) (R.ahead from.old)
+        (R.ahead from.new) ask.now.any_size by content.now) }
+    ensures stops { IfErr result
+        (StopsEnd limits.now.asked (W.held to.old) (W.held to.new) (R.ahead from.old)
+        (R.ahead from.new) ask.now by content.now) }
+    ensures counts { CountsBoth (R.count from.old) (R.count from.new) (W.count to.old)
+        (W.count to.new) (fault_in result) }
+{
+    if !ask.repeats && repeats(content) {
+        return Err(Unread::Unlike(Unlike::Repeats));
+    }
+    if ask.any_size {
+        return Ok(());
+    }
+    match read_past(from, to, limits, by, content) {
+        Ok(()) => Ok(()),
+        Err(Mismatch::Exchange(why)) => Err(Unread::Unlike(Unlike::Asking(why))),
+        Err(Mismatch::Differs(d)) => Err(Unread::Unlike(Unlike::At(d.address))),
+    }
+}
+
+/// Whether a content isn't blank, and its halves are alike.
+fn repeats(content: &[u8]) -> bool
+    ensures { (result ≡ true) ↔ Repeats content.now }
+{
+    has_some(content) && is_twice(content)
+}
+
+/// Whether some byte isn't FFh.
+fn has_some(content: &[u8]) -> bool
+    ensures { result ≡ has_some content.now }
+{
+    content.iter().any(|byte| *byte != 0xFF)
+}
+
+/// Whether the second half is the first.
+fn is_twice(content: &[u8]) -> bool
+    ensures { (result ≡ true) ↔ IsTwice content.now }
+{
+    let half = content.len() / 2;
+    content[..half] == content[half..]
+}
