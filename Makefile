@@ -1,6 +1,6 @@
 # README.md says what try, build and install are for, CONTRIBUTING.md the others.
 
-.PHONY: build try check test hooks edits refusals peers wire docs-check dist install uninstall
+.PHONY: build try check test hooks edits refusals peers wire docs docs-check dist install uninstall
 
 # proves the program and every crate that it stands on, side by side, has it do the sample job of one byte, and leaves it at
 # ./norprog
@@ -21,8 +21,10 @@ test:
 	@tools/architecture
 	@tools/headline
 	@tools/definitions
+	@tools/flow
 	@tools/links
 	@tools/said-twice
+	@tools/sentences
 	@tools/version
 	@tools/widths
 	rt ci
@@ -62,21 +64,30 @@ try:
 docs-check:
 	@tools/docs-check
 
-# packs the program that was built, with its man page, completion, NOTICE and guide; the same bytes each time on one commit
+# makes docs/DEFINITIONS.md, every definition of specs/ in a sentence; git ignores it
+docs:
+	@tools/definitions --write
+
+# packs the program that was built, with what install installs, NOTICE and guide; the same bytes each time on one commit
 dist:
 	@tools/dist
 
 PREFIX = /usr/local
 man = $(DESTDIR)$(PREFIX)/share/man/man1/norprog.1
-completion = $(DESTDIR)$(PREFIX)/share/bash-completion/completions/norprog
+bash = $(DESTDIR)$(PREFIX)/share/bash-completion/completions/norprog
+zsh = $(DESTDIR)$(PREFIX)/share/zsh/site-functions/_norprog
+fish = $(DESTDIR)$(PREFIX)/share/fish/vendor_completions.d/norprog.fish
+bin = $(DESTDIR)$(PREFIX)/bin
 
-# puts the program that was built, its man page and its completion for bash where PREFIX says, below DESTDIR
+# puts the program that was built, norprog-tty, the man page and the completions for bash, zsh and fish where PREFIX says, below DESTDIR
 install:
 	@test -x norprog || { echo "first: make build" >&2; exit 1; }
-	@dir=$$(mktemp -d) && tools/manual > $$dir/man && tools/completion > $$dir/completion && \
-	install -D norprog $(DESTDIR)$(PREFIX)/bin/norprog && \
-	install -D -m 644 $$dir/man $(man) && install -D -m 644 $$dir/completion $(completion); \
+	@dir=$$(mktemp -d) && tools/manual > $$dir/man && \
+	tools/completion bash > $$dir/bash && tools/completion zsh > $$dir/zsh && tools/completion fish > $$dir/fish && \
+	install -D norprog $(bin)/norprog && install -D tools/norprog-tty $(bin)/norprog-tty && \
+	install -D -m 644 $$dir/man $(man) && install -D -m 644 $$dir/bash $(bash) && \
+	install -D -m 644 $$dir/zsh $(zsh) && install -D -m 644 $$dir/fish $(fish); \
 	status=$$?; rm -rf "$$dir"; exit $$status
 
 uninstall:
-	rm -f $(DESTDIR)$(PREFIX)/bin/norprog $(man) $(completion)
+	rm -f $(bin)/norprog $(bin)/norprog-tty $(man) $(bash) $(zsh) $(fish)
