@@ -26,10 +26,8 @@ pub fn explain<O: ByteOut>(words: &[Bytes], out: &mut O) -> Result<u8, Refusal>
     ensures { EndsExplain (explained topics words.now) (output O.held O.count out.old out.new)
         result }
 {
-    match tell(&subjects(), nameless(words), out) {
-        Ok(()) => Ok(0),
-        Err(refusal) => Err(refusal),
-    }
+    tell(&subjects(), nameless(words), out)?;
+    Ok(0)
 }
 
 /// Writes to `out` the paragraph of the first topic whose words a line begins with, word by word;

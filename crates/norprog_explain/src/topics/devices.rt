@@ -112,8 +112,17 @@ pub(crate) const TOPICS: &[Topic] = &[
     (
         "unlike id",
         "After the word comes the identification that the chip gave. ffffff and 000000 come\n\
-         from a line without a chip; any other came only at the end: the clip moved, or\n\
-         the chip lost its power. No file was made. Seat the clip anew, and read again.",
+         from a line without a chip. With --expect-id it is another chip than you\n\
+         expect. Else it came only at the end: the clip moved, or the chip lost its\n\
+         power. No file was made. Seat the clip anew, and read again.",
+    ),
+    (
+        "unlike repeats",
+        "The two halves of what the chip gave are alike, byte for byte. So it may be half\n\
+         as large as --uniform or its tables say, and give the same bytes twice. Look\n\
+         into its data sheet, and correct the size. Where its halves are meant to be\n\
+         alike, as two copies of a firmware, add --repeats. No file was made, and nothing\n\
+         was sent that changes what it holds.",
     ),
     (
         "id",
