@@ -23,7 +23,7 @@ pub any_or : (p q r : ℕ → Bool) (xs : List ℕ) → ((x : ℕ) → p x ≡ (
 any_or p q r [] each = refl
 any_or p q r (x ∷ xs) each = rw (each x, any_or p q r xs each) (or_swap (q x) (r x) (list_any q xs) (list_any r xs))
 
-next_cell : (c cell : ℕ) → (c + 1) * cell ≡ c * cell + cell
+pub next_cell : (c cell : ℕ) → (c + 1) * cell ≡ c * cell + cell
 next_cell c cell = let one : c + 1 ≡ suc c = omega arith in ap (λ n. n * cell) one ∙ suc-mul c cell
 
 -- the addresses of a run that lie in a cell

@@ -1,9 +1,5 @@
 mod CellLemmas
+mod CountLemmas
 mod MarkLemmas
-pub mod MarkLaws
-mod PutLemmas
 mod RowLemmas
-mod RunLemmas
-mod BlockLemmas
-mod FirstLemmas
-mod DrawnLemmas
+mod TotalLemmas

@@ -1,17 +1,19 @@
 -- Rows of cells, and how high they are.
-use Rattle.std.proofs.Common.{◌≡◌, ℕ, Bool, suc, ◌+◌, ◌-◌, ◌*◌, ◌^◌, ◌<◌, ◌≤◌, List, [], ◌∷◌, ◌++◌, inl, inr, refl, ap, ◌∙◌, arith}
-use Rattle.std.specs.Prelude.{map, sum}
+use Rattle.std.proofs.Common.{◌≡◌, ℕ, Bool, true, false, suc, ◌+◌, ◌-◌, ◌*◌, ◌^◌, ◌<◌, ◌≤◌, ◌&&◌, not, if◌then◌else◌, List, length, map, get_or, drop, inl, inr, Result, Ok, Err, IfOk, refl, ap, sym, ◌∙◌, arith}
+use Rattle.std.specs.Prelude.{sum}
 use Rattle.std.specs.Int.{div_ceil}
-use Rattle.std.specs.List.{fold, range_with_len}
+use Rattle.std.specs.List.{list_any, range_with_len, slice_range}
 use Rattle.std.proofs.Math.Nat.{suc-mul, mul-le-mul_left, mul-le-mul_right}
-use Rattle.std.proofs.lemmas.Bool.{cases_lt}
+use Rattle.std.proofs.lemmas.Bool.{cases_lt, true≢false}
 use Rattle.std.proofs.lemmas.Grind.{div_ceil_times}
-use Rattle.std.proofs.lemmas.List.FromFn.{map-range_with_len_more}
-use Rattle.nor_map.specs.Grid.{Grid}
-use Rattle.nor_map.specs.declared.cells.Work.TheVariants as work
-use Rattle.nor_plan_read.specs.declared.line.PlanLine.{PlanLine}
-use Rattle.nor_map.specs.Cells.{cell_size, is_worked, some_bytes}
-use Rattle.nor_map.specs.Rows.{cells_of, columns_of, high_of, in_rows, row_height, top_of, tops_of}
+use Rattle.std.proofs.lemmas.List.{get_or-drop, get_or-take, length-drop, length-take-le}
+use Rattle.std.proofs.lemmas.List.Folds.{list_any_at}
+use Rattle.std.proofs.lemmas.List.FromFn.{get_or-map-range_with_len, length-map-range_with_len, map-range_with_len_more}
+use Rattle.std.proofs.lemmas.List.Sums.{sum_by_push}
+use Rattle.nor_map.specs.declared.state.State.{State}
+use Rattle.nor_map.specs.declared.state.State.TheVariants.{Kept, Erased, Restored, Changed}
+use Rattle.nor_map.specs.Marks.{Marks, is_state, state_at}
+use Rattle.nor_map.specs.Rows.{Cells, Grid, busy_of, columns_of, fold_height, goes_on, high_of, in_rows, is_plain, row_end, row_height, top_of, tops_of}
 
 -- a row has a first cell
 pub row_inside : (count n r : ℕ) → 0 < n → r < div_ceil count n → r * n < count
@@ -32,53 +34,68 @@ few_rows count n some few = elim (cases_lt 0 (div_ceil count n)) [
   | inr none ↦ omega (arith, none)
 ]
 
-sum_more : (xs : List ℕ) (a y : ℕ) → fold ◌+◌ a (xs ++ y ∷ []) ≡ fold ◌+◌ a xs + y
-sum_more [] a y = refl
-sum_more (x ∷ xs) a y = sum_more xs (a + x) y
-
 -- one row more
-pub top_more : (g : Grid) (n r : ℕ) → top_of g n (r + 1) ≡ top_of g n r + row_height g n r
-top_more g n r = ap sum (map-range_with_len_more (row_height g n) 0 r r (omega arith)) ∙ sum_more (map (row_height g n) (range_with_len 0 r)) 0 (row_height g n r)
+pub top_more : (k : Cells) (n r : ℕ) → top_of k n (r + 1) ≡ top_of k n r + row_height k n r
+top_more k n r = ap sum (map-range_with_len_more (row_height k n) 0 r r (omega arith)) ∙ sum_by_push (λ x. x) (map (row_height k n) (range_with_len 0 r)) (row_height k n r)
 
 -- cells that were put in rows
-pub rows_put : (g : Grid) (n high : ℕ) (tops : List ℕ) → n ≡ columns_of g → tops ≡ tops_of g n → high ≡ high_of g n
-    → record g { columns = n; tops = tops; high = high } ≡ in_rows g
-rows_put g n high tops wide each all =
-    ap (λ l. record g { columns = n; tops = l; high = high }) each
-    ∙ ap (λ h. record g { columns = n; tops = tops_of g n; high = h }) all
-    ∙ ap (λ k. record g { columns = k; tops = tops_of g k; high = high_of g k }) wide
+pub rows_put : (k : Cells) (n high : ℕ) (tops : List ℕ) → n ≡ columns_of k → tops ≡ tops_of k n → high ≡ high_of k n
+    → record { cells = k; columns = n; tops = tops; high = high } ≡ in_rows k
+rows_put k n high tops wide each all =
+    let grid : ℕ → List ℕ → ℕ → Grid = λ n tops high. record { cells = k; columns = n; tops = tops; high = high } in
+    ap (λ l. grid n l high) each ∙ ap (grid n (tops_of k n)) all ∙ ap (λ n. grid n (tops_of k n) (high_of k n)) wide
 
--- cells by their parts
-pub cells_are : (size page : ℕ) (lines : List PlanLine) (has : ℕ → Bool) (cell count : ℕ) (tops : List ℕ) (chosen erased programmed : List Bool)
-    → cell ≡ cell_size size page → count ≡ div_ceil size cell → tops ≡ [] → chosen ≡ some_bytes cell count has
-    → erased ≡ some_bytes cell count (is_worked work.Erased lines) → programmed ≡ some_bytes cell count (is_worked work.Programmed lines)
-    → record {
-      size = size;
-      cell = cell;
-      count = count;
-      columns = 16;
-      tops = tops;
-      high = 0;
-      chosen = chosen;
-      erased = erased;
-      programmed = programmed;
-    } ≡ cells_of size page lines has
-cells_are size page lines has cell count tops chosen erased programmed cell_is count_is none chosen_is erased_is programmed_is =
-    let cells : ℕ → ℕ → List ℕ → List Bool → List Bool → List Bool → Grid = λ cell count tops chosen erased programmed. record {
-      size = size;
-      cell = cell;
-      count = count;
-      columns = 16;
-      tops = tops;
-      high = 0;
-      chosen = chosen;
-      erased = erased;
-      programmed = programmed;
-    } in
-    ap (λ t. cells cell count t chosen erased programmed) none
-    ∙ ap (λ l. cells cell count [] l erased programmed) chosen_is
-    ∙ ap (λ l. cells cell count [] (some_bytes cell count has) l programmed) erased_is
-    ∙ ap (λ l. cells cell count [] (some_bytes cell count has) (some_bytes cell count (is_worked work.Erased lines)) l) programmed_is
-    ∙ ap (λ n. cells cell n [] (some_bytes cell n has) (some_bytes cell n (is_worked work.Erased lines)) (some_bytes cell n (is_worked work.Programmed lines))) count_is
-    ∙ ap (λ b. cells b (div_ceil size b) [] (some_bytes b (div_ceil size b) has) (some_bytes b (div_ceil size b) (is_worked work.Erased lines))
-    (some_bytes b (div_ceil size b) (is_worked work.Programmed lines))) cell_is
+-- two rows that are drawn apart, or as one line
+pub rows_together : (k : Cells) (n r : ℕ) → goes_on k n r ≡ true → top_of k n (r + 1) ≡ top_of k n r
+rows_together k n r is =
+    let none : row_height k n r ≡ 0 = ap (λ b. if b then 0 else if is_plain k n r then fold_height n else 1) is in
+    top_more k n r ∙ omega (arith, none)
+
+some_height : (b : Bool) (n : ℕ) → 0 < (if b then fold_height n else 1)
+some_height true n = omega arith
+some_height false n = omega arith
+
+pub rows_apart : (k : Cells) (n r : ℕ) → goes_on k n r ≡ false → top_of k n r < top_of k n (r + 1)
+rows_apart k n r is =
+    let same : row_height k n r ≡ (if is_plain k n r then fold_height n else 1) = ap (λ b. if b then 0 else if is_plain k n r then fold_height n else 1) is in
+    omega (arith, top_more k n r, same, some_height (is_plain k n r) n)
+
+-- no cell of a plain row is busy
+not_both : (a b : Bool) → (not a && not b) ≡ true → a ≡ false
+not_both false b is = refl
+not_both true b is = absurd (true≢false (sym is))
+
+kept_is : (s : State) → not (is_state s Kept) ≡ false → s ≡ Kept
+kept_is Kept is = refl
+kept_is Erased is = absurd (true≢false is)
+kept_is Restored is = absurd (true≢false is)
+kept_is Changed is = absurd (true≢false is)
+
+none_set : (xs : List Bool) (i : ℕ) → i < length xs → list_any (λ b. b) xs ≡ false → get_or xs i true ≡ false
+none_set xs i inside none = go (get_or xs i true) refl
+  where
+    go : (b : Bool) → get_or xs i true ≡ b → get_or xs i true ≡ false
+    go false is = is
+    go true is = absurd (true≢false (sym (list_any_at (λ b. b) xs i true inside is) ∙ none))
+
+pub plain_kept : (m : Marks) (edges : List Bool) (n r c : ℕ) → is_plain (record { busy = busy_of m; edges = edges }) n r ≡ true
+    → r * n ≤ c → c < row_end (record { busy = busy_of m; edges = edges }) n r → state_at m c ≡ Kept
+plain_kept m edges n r c plain from upto =
+    let busy = busy_of m in
+    let end = row_end (record { busy = busy; edges = edges }) n r in
+    let count : length busy ≡ div_ceil m.size m.cell = length-map-range_with_len (λ c. not (is_state (state_at m c) Kept)) 0 (div_ceil m.size m.cell) in
+    let row = slice_range busy (r * n) end in
+    let long : length row ≡ end - r * n = length-take-le (end - r * n) (drop (r * n) busy) (omega (arith, length-drop (r * n) busy)) in
+    let clear : get_or row (c - r * n) true ≡ false =
+    none_set row (c - r * n) (omega (arith, long, from, upto)) (not_both (list_any (λ b. b) row) _ plain) in
+    let here : get_or row (c - r * n) true ≡ get_or busy (r * n + (c - r * n)) true = get_or-take (end - r * n) (drop (r * n) busy) (c - r * n) true (omega (arith, from, upto)) ∙ get_or-drop (r * n) busy (c - r * n) true in
+    let there : r * n + (c - r * n) ≡ c = omega (arith, from) in
+    kept_is (state_at m c)
+    (sym (get_or-map-range_with_len (λ c. not (is_state (state_at m c) Kept)) 0 (div_ceil m.size m.cell) c c true (omega (arith, upto, count)) (omega arith))
+    ∙ ap (λ i. get_or busy i true) (sym there) ∙ sym here ∙ clear)
+
+-- cells of some edges, in rows
+pub some_edges : {E : Type 0} (m : Marks) (busy edges : List Bool) (r : Result Grid E) → busy ≡ busy_of m
+    → IfOk r (λ grid. grid ≡ in_rows (record { busy = busy; edges = edges })) → IfOk r (λ grid. (x : List Bool) × (grid ≡ in_rows (record { busy = busy_of m; edges = x })))
+some_edges m busy edges (Err why) is of = tt
+some_edges m busy edges (Ok grid) is of = (edges, of ∙ ap (λ b. in_rows (record { busy = b; edges = edges })) is)

@@ -1,7 +1,10 @@
--- The cells of a chip's map, and what a plan does to each (this project's).
-use Rattle.std.specs.Prelude.{ℕ, zero, suc, ◌+◌, ◌-◌, ◌*◌, Bool, false, ◌&&◌, ◌==◌, nat_le, max, if◌then◌else◌, Option, Some, None, List, map}
+-- The cells of a chip's map, and what the lines of a plan do to each (this project's).
+use Rattle.std.specs.Prelude.{ℕ, zero, suc, ◌+◌, ◌-◌, ◌*◌, ◌^◌, Bool, false, ◌&&◌, ◌==◌, nat_le, nat_lt, max, min, if◌then◌else◌, Option, Some, None, is_some, List, map, count_by, sum_by}
 use Rattle.std.specs.List.{list_any, range_with_len}
 use Rattle.std.specs.Option.{option_map_or}
+use Rattle.nor_hex.specs.Image.{Pairs, byte_at}
+use Rattle.nor_layout.specs.Chosen.{has}
+use Rattle.nor_layout.specs.declared.chosen.Interval.{Interval}
 use Rattle.nor_plan_read.specs.declared.line.PlanLine.{PlanLine}
 use Rattle.nor_plan_read.specs.declared.line.PlanLine.TheVariants.{Erase, Because, Program}
 use Rattle.nor_map.specs.declared.cells.Work.{Work}
@@ -32,13 +35,34 @@ works work line a = option_map_or (λ run. lies_in run a) (run_of work line) fal
 abbrev pub is_worked : Work → List PlanLine → ℕ → Bool
 is_worked work lines a = list_any (λ line. works work line a) lines
 
+-- what a chip is to hold: the image's byte at `base` and the address, at each chosen address
+pub record Wanted : Type 0 where
+  pub image : Pairs
+  pub base : ℕ
+  pub chosen : Option (List Interval)
+
+-- the image gives the byte at this address, and it is chosen
+abbrev pub is_new : Wanted → ℕ → Bool
+is_new w a = nat_lt (w.base + a) (2 ^ 32) && (has w.chosen a && is_some (byte_at w.image (w.base + a)))
+
 -- some byte of this cell is so, of cells of so many bytes
 abbrev pub some_byte : ℕ → (ℕ → Bool) → ℕ → Bool
 some_byte cell test c = list_any test (range_with_len (c * cell) cell)
 
+-- how many bytes of this cell are so
+abbrev pub bytes_so : ℕ → (ℕ → Bool) → ℕ → ℕ
+bytes_so cell test c = count_by test (range_with_len (c * cell) cell)
+
 -- of each of so many cells whether some byte of it is so
 abbrev pub some_bytes : ℕ → ℕ → (ℕ → Bool) → List Bool
 some_bytes cell count test = map (some_byte cell test) (range_with_len 0 count)
+
+-- how many new bytes of a cell the lines program: a byte counts once for each line, and at most as many as the cell has
+abbrev pub new_bytes : ℕ → Wanted → List PlanLine → ℕ → ℕ
+new_bytes cell wanted lines c = sum_by (λ line. bytes_so cell (λ a. works Programmed line a && is_new wanted a) c) lines
+
+abbrev pub new_in : ℕ → Wanted → List PlanLine → ℕ → ℕ
+new_in cell wanted lines c = min cell (new_bytes cell wanted lines c)
 
 -- a size doubled, at most so often, until at most 65,536 cells of it hold the chip
 unfoldable pub doubled : ℕ → ℕ → ℕ → ℕ

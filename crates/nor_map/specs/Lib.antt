@@ -1,15 +1,6 @@
 pub mod Cells
 pub mod Marks
-pub mod Grid
-pub mod Runs
 pub mod Rows
-pub mod Paths
-pub mod Drawn
-pub mod Shapes
-pub mod Blocks
-pub mod Said
-pub mod Words
-pub mod Constants
-pub mod Map
+pub mod Folded
+pub mod Totals
 pub mod Worked
-pub mod TextWorked

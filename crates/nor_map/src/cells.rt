@@ -1,12 +1,13 @@
-//! Which cells a plan erases, and which it programs.
+//! Which cells a plan erases, and which it programs, and how many bytes of each are new.
 
-ghost use Rattle.std.specs.Prelude.{◌≡◌, ◌<◌, ◌≤◌, ◌+◌, ◌*◌, ◌^◌, IfOk, IfSome, false, replicate};
-ghost use Rattle.std.specs.List.{list_any, range_with_len};
-ghost use Rattle.nor_layout.specs.Chosen.{has};
-ghost use Rattle.nor_map.specs.Cells.{bytes_from, is_worked, lies_in, run_of, some_bytes, works};
-ghost use Rattle.nor_map.specs.Marks.{MarkedBy};
+ghost use Rattle.std.specs.Prelude.{◌≡◌, ◌<◌, ◌≤◌, ◌^◌, ◌&&◌, IfOk, IfSome, false, replicate};
+ghost use Rattle.std.specs.Prelude.{◌==◌};
+ghost use Rattle.nor_map.specs.Cells.{bytes_from, bytes_so, is_new, is_worked, lies_in};
+ghost use Rattle.nor_map.specs.Cells.{new_bytes, run_of, works};
+ghost use Rattle.nor_map.specs.Marks.{CountedBy, MarkedBy};
+ghost use Rattle.nor_map.specs.declared.cells.Work.TheVariants as work;
 
-use nor_layout::Chosen;
+use crate::wanted::Wanted;
 use nor_plan_read::PlanLine;
 use std::alloc::{AllocError, Global};
 
@@ -55,6 +56,17 @@ pub(crate) fn unmarked(alloc: Global, count: u32) -> Result<Vec<bool>, AllocErro
     Ok(marks)
 }
 
+/// So many cells of which no byte is new.
+pub(crate) fn uncounted(alloc: Global, count: u32) -> Result<Vec<u32>, AllocError>
+    ensures { IfOk result (λ counts. counts.items ≡ replicate count 0) }
+{
+    let mut counts = Vec::new(alloc);
+    for _ in 0..count {
+        counts.push(0)?;
+    }
+    Ok(counts)
+}
+
 /// Marks the cells of `cell` bytes that hold some of the bytes that the plan works on so.
 pub(crate) fn mark_lines(marks: &mut [bool], cell: u64, work: Work, lines: &[PlanLine])
     requires { 0 < cell }
@@ -89,30 +101,51 @@ fn mark(marks: &mut [bool], cell: u64, first: u64, last: u64)
     }
 }
 
-/// Of each of `count` cells of `cell` bytes whether some byte of it is chosen.
-pub(crate) fn chosen_cells(
-    alloc: Global,
-    count: u32,
-    cell: u32,
-    chosen: &Chosen,
-) -> Result<Vec<bool>, AllocError>
-    requires some { 0 < cell }
-    requires few { count * cell < 2 ^ 32 + cell }
-    ensures { IfOk result (λ marks. marks.items ≡ some_bytes cell count (has chosen.now)) }
+/// Counts the new bytes that the plan programs, each in its cell of `cell` bytes.
+pub(crate) fn count_lines(counts: &mut [u32], cell: u32, wanted: &Wanted<'_>, lines: &[PlanLine])
+    requires { 0 < cell }
+    ensures { CountedBy cell (new_bytes cell wanted.now lines.now) counts.old counts.new }
 {
-    let mut marks = Vec::new(alloc);
-    for c in 0..count {
-        marks.push(is_some_chosen(chosen, c * cell, cell))?;
+    for line in lines {
+        count_line(counts, cell, wanted, *line);
     }
-    Ok(marks)
 }
 
-/// Whether some of so many bytes from an address on is chosen.
-fn is_some_chosen(chosen: &Chosen, start: u32, count: u32) -> bool
-    ensures { result ≡ list_any (has chosen.now) (range_with_len start count) }
+/// Counts the new bytes that a line programs, each in its cell of `cell` bytes.
+fn count_line(counts: &mut [u32], cell: u32, wanted: &Wanted<'_>, line: PlanLine)
+    requires { 0 < cell }
+    ensures { CountedBy cell
+        (bytes_so cell (λ a. works work.Programmed line a && is_new wanted.now a)) counts.old
+        counts.new }
 {
-    match chosen.next_run(start) {
-        None => false,
-        Some((first, _)) => first - start < count,
+    if let Some((first, last)) = run_of(Work::Programmed, line) {
+        count(counts, cell, wanted, first, last);
+    }
+}
+
+/// Counts the new bytes from `first` to `last`, each in its cell of `cell` bytes.
+fn count(counts: &mut [u32], cell: u32, wanted: &Wanted<'_>, first: u64, last: u64)
+    requires cell { 0 < cell }
+    requires order { first ≤ last }
+    requires last { last < 2 ^ 40 }
+    ensures { CountedBy cell (bytes_so cell (λ a. lies_in (first, last) a && is_new wanted.now a))
+        counts.old counts.new }
+{
+    for a in first..last + 1 {
+        if wanted.has(a) {
+            count_byte(counts, cell, a);
+        }
+    }
+}
+
+/// Counts the byte at an address in its cell of `cell` bytes.
+fn count_byte(counts: &mut [u32], cell: u32, address: u64)
+    requires cell { 0 < cell }
+    requires small { address < 2 ^ 40 }
+    ensures { CountedBy cell (bytes_so cell (λ a. a == address)) counts.old counts.new }
+{
+    let c = (address / u64::from(cell)) as usize;
+    if c < counts.len() {
+        counts[c] = counts[c].saturating_add(1).min(cell);
     }
 }

@@ -1,30 +1,28 @@
 //! What a plan does to the cells of a chip, and the map of it: an image for any browser.
 //! `docs/FORMATS.md`, "Map", has them.
 //!
-//! [`PlanMarks`] takes a plan's lines piece after piece; [`Grid::of`] says what they do to each
-//! cell; [`write_map`] writes the image, and takes no memory. [`laws`] says that each cell is drawn
-//! by its state, and [`worked`] has values of both, worked out by hand.
+//! [`PlanMarks`] takes a plan's lines piece after piece and knows the state of each cell;
+//! [`draw_map`] draws them. [`laws`] says that a folded line hides nothing, and [`worked`] has
+//! values, worked out by hand.
 #![tactic(auto)]
 
+mod beside;
 mod blocks;
 mod cells;
-mod constants;
-mod grid;
+mod drawing;
+mod labels;
 pub mod laws;
 mod marks;
-mod paths;
+mod part;
 mod rows;
-mod runs;
-mod said;
-mod shapes;
 mod sizes;
 mod state;
-mod text;
-mod words;
+mod totals;
+mod wanted;
 pub mod worked;
-mod writer;
 
-pub use grid::Grid;
+pub use beside::Title;
+pub use drawing::draw_map;
 pub use marks::PlanMarks;
 pub use state::State;
-pub use writer::write_map;
+pub use wanted::Wanted;

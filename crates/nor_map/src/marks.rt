@@ -1,38 +1,40 @@
 //! What the lines of a plan do to the cells of a chip, piece after piece.
 
-ghost use Rattle.std.specs.Prelude.{◌≡◌, ℕ, List, ◌<◌, ◌+◌, ◌-◌, ◌++◌, ◌^◌, [], count_by, length};
-ghost use Rattle.std.specs.Prelude.{take, IfErr, IfOk};
+ghost use Rattle.std.specs.Prelude.{◌≡◌, ℕ, List, ◌<◌, ◌+◌, ◌++◌, ◌^◌, [], count_by};
+ghost use Rattle.std.specs.Prelude.{IfErr, IfOk};
+ghost use Rattle.std.specs.Int.{div_ceil};
 ghost use Rattle.nor_plan_read.specs.declared.line.PlanLine.{PlanLine};
-ghost use Rattle.nor_map.specs.Said.{erases, programs};
-ghost use Rattle.nor_map.specs.Marks.{marks_of};
+ghost use Rattle.nor_map.specs.Cells.{Wanted as Holds};
+ghost use Rattle.nor_map.specs.Marks.{erases, marks_of, programs, state_at};
 
-use crate::blocks::MOST_LINES;
-use crate::cells::{Work, mark_lines, unmarked};
-use crate::said::{erase_count, program_count};
+use crate::blocks::{Block, keep_blocks};
+use crate::cells::{Work, count_lines, mark_lines, uncounted, unmarked};
 use crate::sizes::cell_size;
+use crate::state::State;
+use crate::wanted::Wanted;
 use nor_plan_read::PlanLine;
 use std::alloc::{AllocError, Global};
 use std::marker::Model;
 
-/// As many lines as are kept: one more than a plan may have whose erased blocks are outlined.
-const KEPT_LINES: usize = MOST_LINES + 1;
-
 /// What a plan does to the cells of a chip, whose lines come piece after piece.
 ///
-/// It holds two marks for each of at most 65,536 cells, and at most 10,001 lines, however many
-/// come.
+/// It holds six bytes for each of at most 65,536 cells, and of each cell the first block that
+/// begins in it, however many lines come.
 #[derive(Drop)]
-pub struct PlanMarks {
+pub struct PlanMarks<'a> {
     pub(crate) size: u32,
     pub(crate) cell: u32,
-    pub(crate) erased: Vec<bool>,
-    pub(crate) programmed: Vec<bool>,
+    wanted: Wanted<'a>,
+    erased: Vec<bool>,
+    programmed: Vec<bool>,
+    fresh: Vec<u32>,
     pub(crate) blocks: u64,
     pub(crate) programs: u64,
-    pub(crate) first_lines: Vec<PlanLine>,
+    /// What is drawn of the erased blocks; no clause speaks of it.
+    pub(crate) outlined: Vec<Block>,
 }
 
-impl Model for PlanMarks {
+impl<'a> Model for PlanMarks<'a> {
     ghost use Rattle.nor_map.specs.Marks.{IsMarks, Marks};
 
     ghost Value = { Marks };
@@ -40,48 +42,58 @@ impl Model for PlanMarks {
     ghost view = { λ m. record {
       size = m.size;
       cell = m.cell;
+      wanted = m.wanted;
       erased = m.erased.items;
       programmed = m.programmed.items;
+      fresh = m.fresh.items;
       blocks = m.blocks;
       programs = m.programs;
-      first_lines = m.first_lines.items;
     } };
 
-    ghost invariant = { λ m. IsMarks m.size m.cell m.erased.items m.programmed.items };
+    ghost invariant = { λ m. IsMarks m.size m.cell m.erased.items m.programmed.items
+        m.fresh.items };
 }
 
-impl PlanMarks {
+impl<'a> PlanMarks<'a> {
     /// What a plan of no lines yet does to a chip of `size` bytes: nothing. A cell is a page,
     /// doubled until 65,536 cells hold the chip.
     ///
     /// An error comes where memory was refused.
-    pub fn new(alloc: Global, size: u32, page: u32) -> Result<PlanMarks, AllocError>
-        ensures { IfOk result (λ marks. marks ≡ marks_of size page []) }
+    pub fn new(
+        alloc: Global,
+        size: u32,
+        page: u32,
+        wanted: Wanted<'a>,
+    ) -> Result<PlanMarks<'a>, AllocError>
+        ensures { IfOk result (λ marks. marks ≡ marks_of size page wanted.entry []) }
     {
         let cell = cell_size(size, page);
         let count = size.div_ceil(cell);
         Ok(PlanMarks {
             size,
             cell,
+            wanted,
             erased: unmarked(alloc, count)?,
             programmed: unmarked(alloc, count)?,
+            fresh: uncounted(alloc, count)?,
             blocks: 0,
             programs: 0,
-            first_lines: Vec::new(alloc),
+            outlined: Vec::new(alloc),
         })
     }
 
     /// Adds the next lines, which may overlap, stand in any order and lie past the chip.
     ///
-    /// An error comes where memory was refused; nothing is added then.
+    /// An error comes where memory was refused; no cell and no total changes then.
     pub fn add(&mut self, lines: &[PlanLine]) -> Result<(), AllocError>
         requires blocks { self.old.blocks + count_by erases lines.now < 2 ^ 64 }
         requires programs { self.old.programs + count_by programs lines.now < 2 ^ 64 }
-        ensures added { (size page : ℕ) (told : List PlanLine) → self.old ≡ marks_of size page told
-            → IfOk result (λ _. self.new ≡ marks_of size page (told ++ lines.now)) }
+        ensures added { (size page : ℕ) (wanted : Holds) (told : List PlanLine)
+            → self.old ≡ marks_of size page wanted told
+            → IfOk result (λ _. self.new ≡ marks_of size page wanted (told ++ lines.now)) }
         ensures unchanged { IfErr result (λ _. self.new ≡ self.old) }
     {
-        keep_lines(&mut self.first_lines, lines)?;
+        keep_blocks(&mut self.outlined, self.cell, lines)?;
         let cell = u64::from(self.cell);
         mark_lines(self.erased.as_mut_slice(), cell, Work::Erased, lines);
         mark_lines(
@@ -90,18 +102,67 @@ impl PlanMarks {
             Work::Programmed,
             lines,
         );
+        count_lines(self.fresh.as_mut_slice(), self.cell, &self.wanted, lines);
         self.blocks += erase_count(lines);
         self.programs += program_count(lines);
         Ok(())
     }
+
+    /// How many cells there are.
+    pub fn count(&self) -> u32
+        ensures { result ≡ div_ceil self.now.size self.now.cell }
+    {
+        self.size.div_ceil(self.cell)
+    }
+
+    /// The state of a cell, counted from 0.
+    pub fn state(&self, c: u32) -> State
+        requires { c < div_ceil self.now.size self.now.cell }
+        ensures { result ≡ state_at self.now c }
+    {
+        let c = c as usize;
+        State::of(self.erased[c], self.programmed[c], self.fresh[c] > 0)
+    }
+
+    /// How many bytes of a cell are new, all at most.
+    pub(crate) fn fresh_in(&self, c: u32) -> u32
+        requires { c < div_ceil self.now.size self.now.cell }
+    {
+        self.fresh[c as usize]
+    }
+
+    /// Whether some byte of a cell is erased.
+    pub(crate) fn is_erased(&self, c: u32) -> bool
+        requires { c < div_ceil self.now.size self.now.cell }
+    {
+        self.erased[c as usize]
+    }
 }
 
-/// Keeps the first of the next lines, as many as there is room for.
-fn keep_lines(kept: &mut Vec<PlanLine>, lines: &[PlanLine]) -> Result<(), AllocError>
-    ensures kept { IfOk result (λ _. kept.new.items
-        ≡ kept.old.items ++ take (10001 - length kept.old.items) lines.now) }
-    ensures unchanged { IfErr result (λ _. kept.new.items ≡ kept.old.items) }
+/// How many lines erase.
+fn erase_count(lines: &[PlanLine]) -> u64
+    ensures { result ≡ count_by erases lines.now }
 {
-    let room = KEPT_LINES.saturating_sub(kept.len()).min(lines.len());
-    kept.extend_from_slice(&lines[..room])
+    lines.iter().filter(|line| erases(**line)).count() as u64
+}
+
+/// How many lines program.
+fn program_count(lines: &[PlanLine]) -> u64
+    ensures { result ≡ count_by programs lines.now }
+{
+    lines.iter().filter(|line| programs(**line)).count() as u64
+}
+
+/// Whether a line erases.
+fn erases(line: PlanLine) -> bool
+    ensures { result ≡ erases line }
+{
+    matches!(line, PlanLine::Erase { .. })
+}
+
+/// Whether a line programs.
+fn programs(line: PlanLine) -> bool
+    ensures { result ≡ programs line }
+{
+    matches!(line, PlanLine::Program { .. })
 }

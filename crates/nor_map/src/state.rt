@@ -1,56 +1,44 @@
 //! The state of a cell.
 
-ghost use Rattle.std.specs.Prelude.{◌≡◌};
-ghost use Rattle.nor_map.specs.Grid.{letter, state_of};
+ghost use Rattle.std.specs.Prelude.{◌≡◌, ◌<◌, nat_lt};
+ghost use Rattle.nor_map.specs.Marks.{is_state, state_of};
 
 /// What a plan does to a cell.
 #[derive(Clone, Copy)]
 pub enum State {
-    /// No byte of it is chosen, erased or programmed.
-    Untouched,
-    /// Some byte of it is chosen; none is erased or programmed.
-    Chosen,
-    /// Some byte of it is programmed; none is erased.
-    Programmed,
-    /// Some byte of it is erased, and some byte of it is chosen.
+    /// No byte of it is erased or programmed.
+    Kept,
+    /// Some byte of it is erased; none is programmed.
     Erased,
-    /// Some byte of it is erased, and no byte of it is chosen: what it held is restored.
+    /// Some byte of it is programmed; none is new.
     Restored,
+    /// Some byte of it is new.
+    Changed,
 }
 
 impl State {
-    /// All states, in the order of the legend.
-    pub const ALL: [State; 5] = [
-        State::Untouched,
-        State::Chosen,
-        State::Programmed,
-        State::Erased,
-        State::Restored,
-    ];
-
-    /// The state of a cell of which some byte is chosen, erased, programmed.
-    pub(crate) fn of(chosen: bool, erased: bool, programmed: bool) -> State
-        ensures { result ≡ state_of chosen erased programmed }
+    /// The state of a cell of which some byte is erased, is programmed, is new.
+    pub(crate) fn of(erased: bool, programmed: bool, new: bool) -> State
+        ensures { result ≡ state_of erased programmed new }
     {
-        match (erased, chosen, programmed) {
-            (true, true, _) => State::Erased,
-            (true, false, _) => State::Restored,
-            (false, _, true) => State::Programmed,
-            (false, true, false) => State::Chosen,
-            (false, false, false) => State::Untouched,
+        match (new, programmed, erased) {
+            (true, _, _) => State::Changed,
+            (false, true, _) => State::Restored,
+            (false, false, true) => State::Erased,
+            (false, false, false) => State::Kept,
         }
     }
 
-    /// Its letter: `u`, `c`, `p`, `e`, `r`.
-    pub fn letter(self) -> u8
-        ensures { result ≡ letter self }
+    /// Whether it is this state.
+    pub fn is(self, other: State) -> bool
+        ensures { result ≡ is_state self other }
     {
-        match self {
-            State::Untouched => b'u',
-            State::Chosen => b'c',
-            State::Programmed => b'p',
-            State::Erased => b'e',
-            State::Restored => b'r',
+        match (self, other) {
+            (State::Kept, State::Kept)
+            | (State::Erased, State::Erased)
+            | (State::Restored, State::Restored)
+            | (State::Changed, State::Changed) => true,
+            _ => false,
         }
     }
 }

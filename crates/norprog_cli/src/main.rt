@@ -41,14 +41,15 @@ fn main(rt: HostRuntime) -> ExitCode {
     // the next files opened get the numbers of standard streams that were closed: a folder, which
     // can't be written to, takes these, so that no device or output does
     let _kept = [fs::open(&rt, "/"), fs::open(&rt, "/"), fs::open(&rt, "/")];
-    let mut err = Heard::new(IntoWrite::new(rt.stderr()));
+    let terminal = rt.stderr().is_terminal();
+    let mut err = Heard::new(IntoWrite::new(rt.stderr()), terminal);
     let words = words_of(rt.alloc(), env::args(&rt));
     ExitCode::from(main_status(&rt, words, &mut err))
 }
 
 /// Does what the program's words say, and returns the status. Where standard error is a terminal
-/// which device is waited for goes there too, and how far steps came. Of the system's files and
-/// streams nothing is known.
+/// which device is waited for goes there too, and how far steps came, and a refusal explains
+/// itself. Of the system's files and streams nothing is known.
 fn main_status<E: ByteOut + Drop>(
     rt: &HostRuntime,
     words: Result<Vec<String>, Refusal>,
@@ -64,7 +65,7 @@ fn main_status<E: ByteOut + Drop>(
     let files = System::new(rt);
     let mut trail = Places::new(alloc);
     let mut out = Gathered::new(IntoWrite::new(rt.stdout()));
-    if rt.stderr().is_terminal() {
+    if err.terminal {
         let mut progress = IntoWrite::new(rt.stderr());
         answer_given(
             alloc,

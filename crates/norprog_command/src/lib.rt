@@ -1,14 +1,15 @@
 //! The command that the words of a command line spell, done by the crate of that command, and what
-//! `--details` says of its refusal.
+//! more is said of its refusal.
 #![tactic(auto)]
 
-ghost use Rattle.std.specs.Prelude.{◌≡◌, ◌<◌, ◌≤◌, ◌+◌, ◌-◌, ◌^◌, map, string_bytes};
+ghost use Rattle.std.specs.Prelude.{◌≡◌, ◌<◌, ◌≤◌, ◌+◌, ◌-◌, ◌^◌, map, string_bytes, IfOk};
 ghost use Rattle.norprog_common.specs.Told.{output};
 ghost use Rattle.norprog_files.specs.Files.{Did};
-ghost use Rattle.norprog_command.specs.Answers.{AnswersLine, AnswersTo, AnswersWords, screen};
+ghost use Rattle.norprog_command.specs.Answers.{AnswersLine, AnswersTo, AnswersWords, EndsHelp};
+ghost use Rattle.norprog_command.specs.Answers.{screen};
 
-use nor_base::ByteOut;
-use norprog_common::{answered, refuse};
+use nor_base::{ByteOut, put_all};
+use norprog_common::{Refusal, answered, refuse};
 use norprog_details::{Heard, write_details};
 use norprog_device::write_waiting;
 use norprog_explain::explain;
@@ -43,14 +44,14 @@ pub fn command<F: Files, O: ByteOut, E: ByteOut + Drop, P: ByteOut>(
         (output ⟦<Heard<E> as ByteOut>⟧.held ⟦<Heard<E> as ByteOut>⟧.count err.old err.new))
         result) }
 {
-    match asked_by(alloc, words.as_slice()) {
+    match asked_by(alloc, words.as_slice(), err.terminal) {
         Ok(line) => answer_line(alloc, files, trail, line, out, err, progress),
         Err(refusal) => refuse(&refusal, err),
     }
 }
 
-/// Does what a command line asks for. With `--details` more is written of its refusal, unless
-/// standard error failed meanwhile: then its line was cut.
+/// Does what a command line asks for. Where more is to be said of its refusal that is written,
+/// unless standard error failed meanwhile: then its line was cut.
 fn answer_line<F: Files, O: ByteOut, E: ByteOut + Drop, P: ByteOut>(
     alloc: Global,
     files: &F,
@@ -134,6 +135,19 @@ fn answer_to<F: Files, O: ByteOut, E: ByteOut, P: ByteOut>(
         Asked::Hex(given) => answered(hex_asked(alloc, files, trail, given), err),
         Asked::Script(given) => answered(script_asked(alloc, files, trail, given, out), err),
         Asked::Explain(words) => answered(explain(words.as_slice(), out), err),
+        Asked::Help(text) => answered(help(text.as_str(), out), err),
+    }
+}
+
+/// Writes a command's help. Returns the status, 0.
+fn help<O: ByteOut>(text: &str, out: &mut O) -> Result<u8, Refusal>
+    requires { O.count out.old < 2 ^ 64 - 1 }
+    ensures status { IfOk result (λ status. status ≡ 0) }
+    ensures ends { EndsHelp text.now (output O.held O.count out.old out.new) result }
+{
+    match put_all(out, text.as_bytes()) {
+        Ok(()) => Ok(0),
+        Err(_) => Err(Refusal::WRITE),
     }
 }
 

@@ -23,21 +23,28 @@ pub struct Given<'a> {
     pub regions: Vec<Bytes>,
 }
 
-/// Of `build`: the job, and the name of the script's file.
+/// A file that is to be made.
+#[derive(Clone, Copy)]
+pub struct OutFile<'a> {
+    pub path: &'a str,
+    /// It may be written over, whatever it holds.
+    pub force: bool,
+}
+
+/// Of `build`: the job, and the script's file.
 #[derive(Drop)]
 pub struct BuildArgs<'a> {
     pub job: Given<'a>,
-    pub out: Option<&'a str>,
+    pub out: Option<OutFile<'a>>,
 }
 
-/// Of `plan`: the job, whether the times and the regions are reported, and the name of the map's
-/// file.
+/// Of `plan`: the job, whether the times and the regions are reported, and the map's file.
 #[derive(Drop)]
 pub struct PlanArgs<'a> {
     pub job: Given<'a>,
     pub times: bool,
     pub regions: bool,
-    pub map: Option<&'a str>,
+    pub map: Option<OutFile<'a>>,
 }
 
 /// Of `check`: the job, the name of the script's file, and whether a chip is reported that shows a
@@ -81,7 +88,7 @@ pub struct DrawArgs<'a> {
     pub script: Option<&'a str>,
     pub from: Option<&'a str>,
     pub steps: Option<&'a str>,
-    pub out: Option<&'a str>,
+    pub out: Option<OutFile<'a>>,
 }
 
 /// Of `hex`.
@@ -89,7 +96,7 @@ pub struct DrawArgs<'a> {
 pub struct HexArgs<'a> {
     pub bin: Option<&'a str>,
     pub at: Option<&'a str>,
-    pub out: Option<&'a str>,
+    pub out: Option<OutFile<'a>>,
 }
 
 /// Of `script`: the chip is that of a listing.
@@ -98,7 +105,7 @@ pub struct ScriptArgs<'a> {
     pub setup: SetupArgs<'a>,
     pub log: Option<&'a str>,
     pub without_identity: bool,
-    pub out: Option<&'a str>,
+    pub out: Option<OutFile<'a>>,
 }
 
 /// Of `run`.
@@ -112,7 +119,7 @@ pub struct RunArgs<'a> {
     pub keep: bool,
     pub limit: Option<&'a str>,
     pub page: Option<&'a str>,
-    pub out: Option<&'a str>,
+    pub out: Option<OutFile<'a>>,
 }
 
 /// Of `play`.
@@ -166,6 +173,8 @@ pub struct FlashArgs<'a> {
     /// Bytes of the image may lie off the chip.
     pub beyond: bool,
     pub dry_run: bool,
+    /// The plan is printed whole.
+    pub list: bool,
     /// As of `read`.
     pub raw: bool,
     /// As of `read`.

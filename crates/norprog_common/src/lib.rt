@@ -19,8 +19,8 @@ pub use chip::{Chip, chip_of, optional_status, source_of};
 pub use content::read_content;
 pub use faults::{FileName, Gap, Refusal, Stray, answered, refuse, refuse_lines};
 pub use given::{
-    BuildArgs, CheckArgs, ChipArgs, DrawArgs, FlashArgs, Given, HexArgs, ListArgs, PlanArgs,
-    PlayArgs, ReadArgs, RunArgs, ScriptArgs, SetupArgs,
+    BuildArgs, CheckArgs, ChipArgs, DrawArgs, FlashArgs, Given, HexArgs, ListArgs, OutFile,
+    PlanArgs, PlayArgs, ReadArgs, RunArgs, ScriptArgs, SetupArgs,
 };
 pub use inputs::{Texts, inputs_of};
 pub use looked::look_through;

@@ -35,19 +35,25 @@ impl Line {
 pub struct Heard<E: Drop> {
     /// The writer.
     pub out: E,
+    /// It is a terminal, so that a refusal explains itself.
+    pub terminal: bool,
     line: Line,
 }
 
 impl<E: ByteOut + Drop> Heard<E> {
     /// A writer through which nothing went yet.
-    pub fn new(out: E) -> Heard<E>
+    pub fn new(out: E, terminal: bool) -> Heard<E>
         ensures { result.out ≡ out }
     {
         let line = Line {
             bytes: ArrayVec::new(),
             closed: true,
         };
-        Heard { out, line }
+        Heard {
+            out,
+            terminal,
+            line,
+        }
     }
 
     /// A copy of the last line that was written, without its LF; of a longer one its first 128

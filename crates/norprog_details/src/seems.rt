@@ -13,6 +13,10 @@ pub(crate) enum Kind {
     SRecords,
     /// A flash map (flashmap, `__FMAP__`).
     Fmap,
+    /// Text in UTF-16 (Unicode), with its byte order mark.
+    Utf16,
+    /// Text in UTF-8 after a byte order mark.
+    Marked,
     /// Bytes that are no text.
     Raw,
     /// None of these.
@@ -26,6 +30,10 @@ const S_RECORDS: &[u8] = b"it has S-records; for Intel HEX: objcopy -I srec -O i
 const RAW: &[u8] =
     b"it is a raw image; for Intel HEX, with H the address of its first byte: norprog hex --bin ";
 
+const UTF_16: &[u8] = b"it is UTF-16 text; in ASCII: iconv -f UTF-16 -t ASCII ";
+
+const MARKED: &[u8] = b"it begins with a byte order mark; without it: tail -c +4 ";
+
 const FMAP: &[u8] = b"it has an FMAP; for a layout: dump_fmap -F ";
 
 /// What a file seems to be, by its first bytes.
@@ -36,7 +44,11 @@ pub(crate) fn seems(text: &[u8]) -> Kind {
         Kind::Fmap
     } else if is_s_record(text) {
         Kind::SRecords
-    } else if is_raw(front(text, 80)) && !is_marked(text) {
+    } else if text.starts_with(b"\xFF\xFE") || text.starts_with(b"\xFE\xFF") {
+        Kind::Utf16
+    } else if text.starts_with(b"\xEF\xBB\xBF") {
+        Kind::Marked
+    } else if is_raw(front(text, 80)) {
         Kind::Raw
     } else {
         Kind::Text
@@ -49,13 +61,6 @@ fn is_s_record(text: &[u8]) -> bool {
         [b'S', digit, ..] => b'0' <= *digit && *digit <= b'9',
         _ => false,
     }
-}
-
-/// Whether a text begins with a byte order mark.
-fn is_marked(text: &[u8]) -> bool {
-    text.starts_with(b"\xEF\xBB\xBF")
-        || text.starts_with(b"\xFF\xFE")
-        || text.starts_with(b"\xFE\xFF")
 }
 
 /// Whether some byte is in no text.
@@ -89,6 +94,8 @@ fn add_for_hex(file: &[u8], kind: Kind, said: &mut Vec<u8>) -> Result<(), AllocE
         Kind::Elf => add(said, &[ELF, file, b" ", file, b".hex\n"]),
         Kind::SRecords => add(said, &[S_RECORDS, file, b" ", file, b".hex\n"]),
         Kind::Raw => add(said, &[RAW, file, b" --at H --out ", file, b".hex\n"]),
+        Kind::Utf16 => add(said, &[UTF_16, file, b" > ", file, b".hex\n"]),
+        Kind::Marked => add(said, &[MARKED, file, b" > ", file, b".hex\n"]),
         Kind::Fmap | Kind::Text => Ok(()),
     }
 }
@@ -97,6 +104,8 @@ fn add_for_hex(file: &[u8], kind: Kind, said: &mut Vec<u8>) -> Result<(), AllocE
 fn add_for_layout(file: &[u8], kind: Kind, said: &mut Vec<u8>) -> Result<(), AllocError> {
     match kind {
         Kind::Fmap => add(said, &[FMAP, file, b" > ", file, b".layout\n"]),
+        Kind::Utf16 => add(said, &[UTF_16, file, b" > ", file, b".layout\n"]),
+        Kind::Marked => add(said, &[MARKED, file, b" > ", file, b".layout\n"]),
         Kind::Elf | Kind::SRecords | Kind::Raw | Kind::Text => Ok(()),
     }
 }

@@ -1,3 +1,4 @@
+pub mod Wire
 pub mod Line
 pub mod Opened
 pub mod Blame

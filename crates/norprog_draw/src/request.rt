@@ -4,13 +4,13 @@ ghost use Rattle.std.specs.Prelude.{◌≡◌, is_some, option_map, IfSome};
 ghost use Rattle.norprog_common.specs.Values.{said_number};
 ghost use Rattle.norprog_draw.specs.Request.{is_well_formed, AsksFor};
 
-use norprog_common::{DrawArgs, decimal};
+use norprog_common::{DrawArgs, OutFile, decimal};
 
 /// What `draw` is asked for: each value is of its form.
 #[derive(Clone, Copy)]
 pub struct DrawRequest<'a> {
     pub script: &'a str,
-    pub out: &'a str,
+    pub out: OutFile<'a>,
     /// The first step that is drawn, counted from 0.
     pub from: u64,
     /// How many steps are drawn; all from the first on where none is given.

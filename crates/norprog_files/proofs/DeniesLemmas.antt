@@ -9,6 +9,9 @@ use Rattle.norprog_files.specs.declared.disk.How.{How}
 use Rattle.norprog_files.specs.declared.disk.Stat.{Stat}
 use Rattle.norprog_files.specs.Disk.{Call}
 use Rattle.norprog_files.specs.Files.{Denies, Unallotted, Unusable}
+use Rattle.norprog_common.specs.declared.given.OutFile.{OutFile}
+use Rattle.norprog_files.specs.Replaced.{Spares, Unlike, Unknown, name_of}
+use Rattle.norprog_files.specs.declared.replaced.OutKind.{OutKind}
 use Rattle.norprog_files.specs.Guards as guard
 use Rattle.norprog_files.specs.Guards.{EndsApart, EndsDevice, EndsInput, EndsLook, EndsOpen, EndsOutput, FindsTerminal, OpensSame}
 
@@ -29,11 +32,17 @@ apart_denies : {places : List FileId} {name : FileName} {found : Result Stat Err
 apart_denies (guard.IsSame stat is) = Unusable
 apart_denies (guard.Unasked error why denies) = denies
 
-pub output_denies : {F : Type 0} {path : List ℕ} {opened : List FileId} {name : FileName} {log : List (Call F)} {why : Refusal} → EndsOutput path opened name log (Err why)
-    → Denies name why
-output_denies (guard.IsMade found printed log result apart other ends) = open_denies ends
+spares_denies : {F : Type 0} {remaining : F → Option (List ℕ)} {o : OutFile} {kind : OutKind} {found : Result Stat Error} {log : List (Call F)} {why : Refusal}
+    → Spares remaining o kind found log (Err why) → Denies (name_of kind) why
+spares_denies (Unlike len file front risk shown other) = Unusable
+spares_denies (Unknown len result why risk denies) = denies
+
+pub output_denies : {F : Type 0} {remaining : F → Option (List ℕ)} {o : OutFile} {kind : OutKind} {opened : List FileId} {log : List (Call F)} {why : Refusal}
+    → EndsOutput remaining o kind opened log (Err why) → Denies (name_of kind) why
+output_denies (guard.IsMade found printed looked log result apart other spared ends) = open_denies ends
 output_denies (guard.OverInput found printed why ends) = apart_denies ends
 output_denies (guard.OverPrinted found printed why ends) = apart_denies ends
+output_denies (guard.OverOther found printed looked why ends) = spares_denies ends
 
 same_denies : {F : Type 0} {path : List ℕ} {how : How} {place : FileId} {log : List (Call F)} {why : Refusal} → OpensSame path how place log (Err why) → Denies Device why
 same_denies (guard.IsAnother asked other) = Unusable

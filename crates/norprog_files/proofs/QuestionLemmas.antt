@@ -5,7 +5,7 @@ use Rattle.norprog_common.specs.declared.faults.FileName.{FileName}
 use Rattle.norprog_common.specs.declared.faults.Refusal.{Refusal}
 use Rattle.norprog_files.specs.declared.disk.How.TheVariants.{Read, Write}
 use Rattle.norprog_files.specs.declared.disk.Stat.{Stat}
-use Rattle.norprog_files.specs.Disk.{Asks, Call, Looks, Opens}
+use Rattle.norprog_files.specs.Disk.{Asks, Call, Opens}
 use Rattle.norprog_files.specs.Guards.{AreQuestions, EndsLook, IsSeen, NoQuestion, OfFile, OfName, OneQuestion, ToRead, ToWrite, Unreached, Unseen}
 
 pub asks : {F : Type 0} (path : List ℕ) (found : Result Stat Error) → AreQuestions {F = F} (Asks path found ∷ [])

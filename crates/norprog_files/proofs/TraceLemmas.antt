@@ -11,7 +11,9 @@ use Rattle.nor_job.specs.declared.fault.BuildFault.TheVariants as fault
 use Rattle.norprog_common.specs.declared.faults.FileName.{FileName}
 use Rattle.norprog_common.specs.declared.faults.Refusal.{Refusal}
 use Rattle.norprog_common.specs.declared.faults.Refusal.TheVariants.{Build}
+use Rattle.norprog_common.specs.declared.given.OutFile.{OutFile}
 use Rattle.norprog_files.specs.declared.disk.FileId.{FileId}
+use Rattle.norprog_files.specs.declared.replaced.OutKind.{OutKind}
 use Rattle.norprog_files.specs.Disk.{Call}
 use Rattle.norprog_files.specs.Files.{Adds, Denies, Event, Unallotted, came, closing}
 use Rattle.norprog_files.specs.Guards.{EndsOutput, GoesOut}
@@ -53,6 +55,6 @@ closed_by path held file (Err error) (Ok y) failed is kept adds ends = absurd cc
 closed_by path held file flushed (Err broken) failed is kept adds ends = traced adds refl refl (ToLost path held file flushed _ kept ends)
 
 -- files that were opened, as a slice
-pub over : {F : Type 0} {path : List ℕ} {opened items : List FileId} {name : FileName} {log : List (Call F)} {result : Result F Refusal} → opened ≡ items
-    → EndsOutput path opened name log result → EndsOutput path items name log result
-over {path = path} {name = name} {log = log} {result = result} is ends = subst (λ places. EndsOutput path places name log result) is ends
+pub over : {F : Type 0} {remaining : F → Option (List ℕ)} {o : OutFile} {kind : OutKind} {opened items : List FileId} {log : List (Call F)} {result : Result F Refusal}
+    → opened ≡ items → EndsOutput remaining o kind opened log result → EndsOutput remaining o kind items log result
+over {remaining = remaining} {o = o} {kind = kind} {log = log} {result = result} is ends = subst (λ places. EndsOutput remaining o kind places log result) is ends

@@ -5,6 +5,8 @@ use Rattle.nor_base.specs.Device.{Ahead, Gives, IsAtEnd}
 use Rattle.nor_job.specs.declared.fault.BuildFault.TheVariants as fault
 use Rattle.norprog_common.specs.declared.faults.FileName.{FileName}
 use Rattle.norprog_common.specs.declared.faults.Refusal.{Refusal}
+use Rattle.norprog_common.specs.declared.given.OutFile.{OutFile}
+use Rattle.norprog_files.specs.declared.replaced.OutKind.{OutKind}
 use Rattle.norprog_common.specs.declared.faults.Refusal.TheVariants.{File, Build}
 
 -- a line to a device: the bytes that it was sent, where it says so, and those that it has ahead
@@ -17,7 +19,8 @@ wire held given = record { sent = held; ahead = given }
 
 -- one thing that is done with the file of a name. `Opened`: it was opened to be read, this is ahead of its reader, and it has so many bytes.
 -- `Given`: it was read from its first byte to its last, and these are all. `Denied`: it couldn't be opened, read or made, or memory ran
--- out. `Asked`: the system was asked about it; it may have been opened meanwhile, but was neither made, emptied nor written to. `Made`: it was made, or emptied; it is none of the files that were opened before, nor that of standard output. `New`: it was made,
+-- out. `Asked`: the system was asked about it; it may have been opened meanwhile, but was neither made, emptied nor written to. `Made`: it was made, or emptied, for such a content; it is none of the files that were opened before, nor that of
+-- standard output, and nothing of another kind was lost there, unless that was said to be right. `New`: it was made,
 -- and none of its name was there. `Sent`: it was closed, and all that it took has gone out. `Lost`: it was closed, and some may not have.
 -- `Wired`: a terminal was opened to be read and written. `Unwired`: it was closed. What a file or a line has then stands beside it
 pub data Event : Type 0 where
@@ -25,7 +28,7 @@ pub data Event : Type 0 where
   Given : List ℕ → List ℕ → Event
   Denied : List ℕ → Event
   Asked : List ℕ → Event
-  Made : List ℕ → Option (List ℕ) → Event
+  Made : OutFile → OutKind → Option (List ℕ) → Event
   New : List ℕ → Option (List ℕ) → Event
   Sent : List ℕ → Option (List ℕ) → Event
   Lost : List ℕ → Option (List ℕ) → Event
@@ -60,12 +63,12 @@ abbrev pub IsWhole : Ahead → List ℕ → Type 0
 IsWhole ahead bytes = (rest : Ahead) × Gives ahead bytes rest × IsAtEnd rest
 
 -- a file was made and took just this text, all of which has gone out
-pub data Sends (name text : List ℕ) : List Event → Type 0 where
-  Sends_all : (begun ended : Option (List ℕ)) → Appends begun ended text → Sends name text (Made name begun ∷ Sent name ended ∷ [])
+pub data Sends (out : OutFile) (kind : OutKind) (text : List ℕ) : List Event → Type 0 where
+  Sends_all : (begun ended : Option (List ℕ)) → Appends begun ended text → Sends out kind text (Made out kind begun ∷ Sent out.path.now ended ∷ [])
 
 -- a file was made and took just this text; some of it may not have gone out
-pub data Loses (name text : List ℕ) : List Event → Type 0 where
-  Loses_some : (begun ended : Option (List ℕ)) → Appends begun ended text → Loses name text (Made name begun ∷ Lost name ended ∷ [])
+pub data Loses (out : OutFile) (kind : OutKind) (text : List ℕ) : List Event → Type 0 where
+  Loses_some : (begun ended : Option (List ℕ)) → Appends begun ended text → Loses out kind text (Made out kind begun ∷ Lost out.path.now ended ∷ [])
 
 -- a file was closed that held this, whatever came of that
 pub data IsClosed (name : List ℕ) (held : Option (List ℕ)) : Event → Type 0 where
@@ -73,8 +76,9 @@ pub data IsClosed (name : List ℕ) (held : Option (List ℕ)) : Event → Type 
   ClosedLost : IsClosed name held (Lost name held)
 
 -- a file was made, took just this text, and was closed
-pub data Leaves (name text : List ℕ) : List Event → Type 0 where
-  Leaves_it : (begun ended : Option (List ℕ)) (last : Event) → Appends begun ended text → IsClosed name ended last → Leaves name text (Made name begun ∷ last ∷ [])
+pub data Leaves (out : OutFile) (kind : OutKind) (text : List ℕ) : List Event → Type 0 where
+  Leaves_it : (begun ended : Option (List ℕ)) (last : Event) → Appends begun ended text → IsClosed out.path.now ended last
+      → Leaves out kind text (Made out kind begun ∷ last ∷ [])
 
 -- the file of this name was opened, or read whole
 pub data IsUsed (path : List ℕ) : Event → Type 0 where

@@ -11,6 +11,7 @@ use Rattle.norprog_common.specs.declared.faults.FileName.{FileName}
 use Rattle.norprog_common.specs.declared.faults.FileName.TheVariants as name
 use Rattle.norprog_common.specs.declared.faults.Refusal.{Refusal}
 use Rattle.norprog_common.specs.declared.faults.Refusal.TheVariants.{File, Build}
+use Rattle.norprog_common.specs.declared.given.OutFile.{OutFile}
 use Rattle.norprog_files.specs.declared.disk.FileId.{FileId}
 use Rattle.norprog_files.specs.declared.disk.How.{How}
 use Rattle.norprog_files.specs.declared.disk.How.TheVariants.{Read, Empty, Write}
@@ -19,6 +20,8 @@ use Rattle.norprog_files.specs.declared.disk.Kind.TheVariants as kind
 use Rattle.norprog_files.specs.declared.disk.Stat.{Stat}
 use Rattle.norprog_files.specs.Disk.{Call, Asks, Opens, Looks, Syncs}
 use Rattle.norprog_files.specs.Files.{Denies}
+use Rattle.norprog_files.specs.Replaced.{Spares, name_of}
+use Rattle.norprog_files.specs.declared.replaced.OutKind.{OutKind}
 use Rattle.norprog_files.specs.Terminal.{IsListed}
 
 -- the file of a name is opened so, or it can't be
@@ -67,16 +70,19 @@ printed_to (Err error) = []
 abbrev pub stdout : List ℕ
 stdout = codes "/dev/stdout"
 
--- an output is made, or emptied, after it was asked what has its name: it is none of the files that were opened, nor that of standard output.
--- Else none is opened
-pub data EndsOutput {F : Type 0} (path : List ℕ) (opened : List FileId) (name : FileName) : List (Call F) → Result F Refusal → Type 0 where
-  IsMade : (found printed : Result Stat Error) (log : List (Call F)) (result : Result F Refusal) → IsApart opened found
-      → IsApart (printed_to printed) found → EndsOpen path Empty name log result
-      → EndsOutput path opened name (Asks path found ∷ Asks stdout printed ∷ log) result
-  OverInput : (found printed : Result Stat Error) (why : Refusal) → EndsApart opened name found (Err why)
-      → EndsOutput path opened name (Asks path found ∷ Asks stdout printed ∷ []) (Err why)
-  OverPrinted : (found printed : Result Stat Error) (why : Refusal) → EndsApart (printed_to printed) name found (Err why)
-      → EndsOutput path opened name (Asks path found ∷ Asks stdout printed ∷ []) (Err why)
+-- an output is made, or emptied, after it was asked what has its name: it is none of the files that were opened, nor that of standard output,
+-- and nothing of another kind is lost there. Else none is emptied
+pub data EndsOutput {F : Type 0} (remaining : F → Option (List ℕ)) (o : OutFile) (kind : OutKind) (opened : List FileId) : List (Call F) → Result F Refusal → Type 0
+  where
+    IsMade : (found printed : Result Stat Error) (looked log : List (Call F)) (result : Result F Refusal) → IsApart opened found
+        → IsApart (printed_to printed) found → Spares remaining o kind found looked (Ok tt) → EndsOpen o.path.now Empty (name_of kind) log result
+        → EndsOutput remaining o kind opened (Asks o.path.now found ∷ Asks stdout printed ∷ (looked ++ log)) result
+    OverInput : (found printed : Result Stat Error) (why : Refusal) → EndsApart opened (name_of kind) found (Err why)
+        → EndsOutput remaining o kind opened (Asks o.path.now found ∷ Asks stdout printed ∷ []) (Err why)
+    OverPrinted : (found printed : Result Stat Error) (why : Refusal) → EndsApart (printed_to printed) (name_of kind) found (Err why)
+        → EndsOutput remaining o kind opened (Asks o.path.now found ∷ Asks stdout printed ∷ []) (Err why)
+    OverOther : (found printed : Result Stat Error) (looked : List (Call F)) (why : Refusal) → Spares remaining o kind found looked (Err why)
+        → EndsOutput remaining o kind opened (Asks o.path.now found ∷ Asks stdout printed ∷ looked) (Err why)
 
 -- all that a file took goes out of its buffer, and then, of a regular file, to its storage device
 pub data GoesOut {F A : Type 0} (file : BufWriter F A) : List (Call F) → Result Unit Error → Type 0 where

@@ -9,9 +9,11 @@ use Rattle.std.specs.declared.io.Error.{Error}
 use Rattle.nor_base.specs.Device.{ahead_of}
 use Rattle.norprog_common.specs.declared.faults.FileName.{FileName}
 use Rattle.norprog_common.specs.declared.faults.Refusal.{Refusal}
+use Rattle.norprog_common.specs.declared.given.OutFile.{OutFile}
 use Rattle.norprog_files.specs.declared.disk.FileId.{FileId}
 use Rattle.norprog_files.specs.declared.disk.How.TheVariants.{Anew}
 use Rattle.norprog_files.specs.Disk.{Call}
+use Rattle.norprog_files.specs.declared.replaced.OutKind.{OutKind}
 use Rattle.norprog_files.specs.Files.{Asked, Denied, Event, Given, Lost, Made, New, Opened, Sent, Unwired, Wire, Wired, wire}
 use Rattle.norprog_files.specs.Guards.{AreQuestions, EndsDevice, EndsInput, EndsOpen, EndsOutput, GoesOut}
 
@@ -32,10 +34,11 @@ pub data ComesTo {F : Type 0} (files : Reports F) (opened : List FileId) : List 
   ToNoInput : (path : List ℕ) (name : FileName) (result : Result (F × ℕ) Refusal) (ids : List FileId) (calls : List (Call F)) → EndsInput path name calls ids result
       → ComesTo files opened calls (Denied path) (opened ++ ids)
   ToAsked : (path : List ℕ) (calls : List (Call F)) → AreQuestions calls → ComesTo files opened calls (Asked path) opened
-  ToMade : (path : List ℕ) (name : FileName) (file : BufWriter F Global) (calls : List (Call F)) → EndsOutput path opened name calls (Ok (writer_inner file))
-      → writer_buffer file ≡ [] → ComesTo files opened calls (Made path (writer_contents files.contents file)) opened
-  ToNoOutput : (path : List ℕ) (name : FileName) (result : Result F Refusal) (calls : List (Call F)) → EndsOutput path opened name calls result
-      → ComesTo files opened calls (Denied path) opened
+  ToMade : (o : OutFile) (kind : OutKind) (file : BufWriter F Global) (calls : List (Call F))
+      → EndsOutput files.remaining o kind opened calls (Ok (writer_inner file)) → writer_buffer file ≡ []
+      → ComesTo files opened calls (Made o kind (writer_contents files.contents file)) opened
+  ToNoOutput : (o : OutFile) (kind : OutKind) (result : Result F Refusal) (calls : List (Call F)) → EndsOutput files.remaining o kind opened calls result
+      → ComesTo files opened calls (Denied o.path.now) opened
   ToNew : (path : List ℕ) (name : FileName) (file : BufWriter F Global) (calls : List (Call F)) → EndsOpen path Anew name calls (Ok (writer_inner file))
       → writer_buffer file ≡ [] → ComesTo files opened calls (New path (writer_contents files.contents file)) opened
   ToNoNew : (path : List ℕ) (name : FileName) (result : Result F Refusal) (calls : List (Call F)) → EndsOpen path Anew name calls result

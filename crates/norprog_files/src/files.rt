@@ -4,9 +4,11 @@ ghost use Rattle.std.specs.Prelude.{◌≡◌, ◌<◌, [], ◌∷◌, List, IfE
 ghost use Rattle.norprog_common.specs.declared.faults.FileName.TheVariants.{Device};
 ghost use Rattle.norprog_files.specs.Files.{Adds, Asked, Denied, Denies, Event, Given, Made, New};
 ghost use Rattle.norprog_files.specs.Files.{Opened, Unwired, Wired, came, closing, wire};
+ghost use Rattle.norprog_files.specs.Replaced.{name_of};
 
+use crate::replaced::OutKind;
 use nor_base::{ByteIn, ByteOut, Failed};
-use norprog_common::{FileName, Refusal};
+use norprog_common::{FileName, OutFile, Refusal};
 use std::alloc::Global;
 
 /// What was done with files, in order. It notes which files were opened, so that none of them is
@@ -67,23 +69,23 @@ pub trait Files {
             (came result (λ bytes. Given path.now bytes.items) (Denied path.now)) }
         ensures refused { IfErr result (Denies name) };
 
-    /// Makes a file, or empties the one that is there, unless it is one of those that were opened
-    /// or the one that standard output goes to. What is written to it goes out where it is closed,
+    /// Makes a file, or empties the one that is there, unless it was opened, is that of standard
+    /// output, or holds bytes of another kind. What is written to it goes out where it is closed,
     /// if not before.
     ///
-    /// Where it is, and where it can't be made, `File` of `name`; `Memory` where a growth is
-    /// refused.
+    /// Where it is, and where it can't be made, `File` of the kind's name; `Memory` where a growth
+    /// is refused.
     fn create(
         &self,
         trail: &mut Self::Trail,
         alloc: Global,
-        path: &str,
-        name: FileName,
+        out: OutFile<'_>,
+        kind: OutKind,
     ) -> Result<Self::Output, Refusal>
         ensures did { Adds (Self.Trail.did trail.old) (Self.Trail.did trail.new) (came result
-            (λ file. Made path.now (Self.Output.held file)) (Denied path.now)) }
+            (λ file. Made out.entry kind (Self.Output.held file)) (Denied out.entry.path.now)) }
         ensures unfailed { IfOk result (λ file. Self.Output.count file ≡ 0) }
-        ensures refused { IfErr result (Denies name) };
+        ensures refused { IfErr result (Denies (name_of kind)) };
 
     /// Makes a file where none of that name is there, not even a link to none. What is written to
     /// it goes out where it is closed, if not before.

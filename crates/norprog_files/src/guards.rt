@@ -10,8 +10,9 @@ ghost use Rattle.norprog_files.specs.Guards.{EndsDevice, FindsTerminal, GoesOut,
 ghost use Rattle.norprog_files.specs.Guards.{printed_to};
 
 use crate::disk::{Disk, FileId, How, Kind, Stat};
+use crate::replaced::{OutKind, only_alike};
 use crate::terminal::is_listed;
-use norprog_common::{FileName, Refusal};
+use norprog_common::{FileName, OutFile, Refusal};
 use std::alloc::Global;
 use std::io::{self, BufReader, BufWriter, ErrorKind, Read, Write};
 
@@ -46,22 +47,25 @@ pub(crate) fn open_input<D: Disk>(
 }
 
 /// Makes an output, or empties the one that is there, unless it is one of the files that were
-/// opened or the regular file that standard output goes to.
+/// opened or the regular file that standard output goes to, or holds bytes of another kind.
 pub(crate) fn open_output<D: Disk>(
     disk: &D,
     calls: &mut D::Calls,
-    path: &str,
+    alloc: Global,
+    out: OutFile<'_>,
+    kind: OutKind,
     opened: &[FileId],
-    name: FileName,
 ) -> Result<D::File, Refusal>
     ensures { Did (D.Calls.did calls.old) (D.Calls.did calls.new)
-        (λ log. EndsOutput path.now opened.now name log result) }
+        (λ log. EndsOutput D.File.remaining out.entry kind opened.now log result) }
 {
-    let found = disk.stat(calls, path);
+    let name = kind.name();
+    let found = disk.stat(calls, out.path);
     let printed = disk.stat(calls, STDOUT);
     only_apart(found, opened, name)?;
     only_unprinted(found, printed, name)?;
-    open_as(disk, calls, path, How::Empty, name)
+    only_alike(disk, calls, alloc, out, found, kind)?;
+    open_as(disk, calls, out.path, How::Empty, name)
 }
 
 /// Refuses what is there and is one of these files, or can't be asked about.

@@ -5,10 +5,12 @@
 mod disk;
 mod files;
 mod guards;
+mod replaced;
 mod system;
 mod terminal;
 mod trouble;
 
 pub use disk::{Calls, Disk, FileId, Host, How, Kind, Stat, Unkept};
 pub use files::{Files, Trail};
+pub use replaced::OutKind;
 pub use system::{Places, System};

@@ -10,9 +10,10 @@ use crate::files::{Files, Trail};
 use crate::guards::{
     MOST_BYTES, gone_out, open_as, open_input, open_output, open_terminal, read_opened, write_out,
 };
+use crate::replaced::OutKind;
 use crate::trouble::{device_error, open_error};
 use nor_base::{Failed, FromRead, IntoWrite};
-use norprog_common::{FileName, Refusal};
+use norprog_common::{FileName, OutFile, Refusal};
 use std::alloc::Global;
 use std::fs;
 use std::io::{self, BufReader, BufWriter, Read, Write};
@@ -114,11 +115,11 @@ impl<D: Disk> Files for System<D> {
         &self,
         trail: &mut Places<D::Calls>,
         alloc: Global,
-        path: &str,
-        name: FileName,
+        out: OutFile<'_>,
+        kind: OutKind,
     ) -> Result<IntoWrite<BufWriter<D::File>>, Refusal> {
         let opened = trail.opened.as_slice();
-        let file = open_output(&self.disk, &mut trail.calls, path, opened, name)?;
+        let file = open_output(&self.disk, &mut trail.calls, alloc, out, kind, opened)?;
         buffered(alloc, file)
     }
 

@@ -16,7 +16,8 @@ use Rattle.nor_serprog.specs.Steps.{AreCarried, IsCarried}
 use Rattle.norprog_failure.specs.declared.failure.Failure.{Failure}
 use Rattle.norprog_failure.specs.declared.failure.Failure.TheVariants as failure
 use Rattle.norprog_failure.specs.Reported.{other_byte, read_address, FailsAs, failure_by}
-use Rattle.norprog_flash.specs.Worked.{HasFailedAt}
+use Rattle.norprog_device.specs.Wire.{Wire}
+use Rattle.norprog_flash.specs.Worked.{HasFailedAt, Session}
 
 tail_of : (P : Step → Type 0) (x : Step) (xs : List Step) → All P (x ∷ xs) → All P xs
 tail_of P x xs all = λ k d lt. all (suc k) d (omega (arith, lt))
@@ -47,19 +48,19 @@ no_operation m clocks want (reason.Differs place byte) fails =
     absurd (never_byte (read_address m clocks) place byte (get_or want place 0) fails)
 
 -- of steps that are operations none fails as none
-pub never_fails : (h i : Option (List ℕ)) (a b : Ahead) (limits : Limits) (turns : ℕ) (m : Parameters) (steps : List Step) (step : ℕ) (why : Failure)
-    → AreCarried limits steps → HasFailedAt h i a b limits turns m steps step why → why ≡ failure.Carried → ⊥
-never_fails h i a b limits turns m steps step why carried failed is =
+pub never_fails : (s : Session) (before after : Wire) (steps : List Step) (step : ℕ) (why : Failure) → AreCarried s.limits steps
+    → HasFailedAt s before after steps step why → why ≡ failure.Carried → ⊥
+never_fails s before after steps step why carried failed is =
     let halted = failed.halted in
     let at = failed.failed in
     let none : failed.halt.why ≡ reason.Carried =
-    no_operation m (step_clocks at.0) (expected at.0) failed.halt.why
-    (subst (λ (f : Failure). FailsAs m (step_clocks at.0) (expected at.0) failed.halt.why f) is at.2) in
-    let can : IsCarried limits halted.at =
-    one_after (IsCarried limits) halted.done (halted.beyond ++ halted.rest) halted.at (subst (AreCarried limits) halted.those carried) in
+    no_operation s.reading.meaning (step_clocks at.0) (expected at.0) failed.halt.why
+    (subst (λ (f : Failure). FailsAs s.reading.meaning (step_clocks at.0) (expected at.0) failed.halt.why f) is at.2) in
+    let can : IsCarried s.limits halted.at =
+    one_after (IsCarried s.limits) halted.done (halted.beyond ++ halted.rest) halted.at (subst (AreCarried s.limits) halted.those carried) in
     elim halted.stopped [
-      | inl within ↦ never_none halted.held within.held halted.ahead b limits turns halted.at can
-          (subst (λ (r : Reason). HasStopped halted.held within.held halted.ahead b limits turns r halted.at) none within.stopped)
+      | inl within ↦ never_none halted.held within.held halted.ahead after.ahead s.limits s.job.ask.turns halted.at can
+          (subst (λ (r : Reason). HasStopped halted.held within.held halted.ahead after.ahead s.limits s.job.ask.turns r halted.at) none within.stopped)
       | inr cut ↦ let bad : reason.Carried ≡ reason.Exchange fault.Write = sym none ∙ cut.writer in cc
     ]
 

@@ -2,8 +2,7 @@
 use Rattle.std.proofs.Common.{◌≡◌, ℕ, ◌+◌, ◌-◌, ◌*◌, ◌<◌, ◌≤◌, ◌⊎◌, inl, inr, List, [], length, take, drop, take_all, sym, ap, subst, Option, unwrap_or, ◌∙◌, arith, min, length-drop}
 use Rattle.std.proofs.lemmas.Bool.{cases_lt}
 use Rattle.std.proofs.Math.ListN.{drop_of_length-le}
-use Rattle.nor_base.specs.Parameters.{Parameters}
-use Rattle.norprog_flash.specs.Resumed.{window, IsOfDump}
+use Rattle.norprog_flash.specs.Resumed.{window}
 
 -- a part up to where the bytes end is as good as one past there
 same_part : (xs : List ℕ) (size place last : ℕ) → place ≤ length xs → last ≡ min (length xs) (place + size)
@@ -34,7 +33,7 @@ unfolding window
 no_window size xs k past = no_part xs size (k * size) past
 
 -- so of what these slices hold
-pub of_dump : (m : Parameters) (held old goal content wanted : List ℕ) (dump : Option (List ℕ)) → held ≡ content → old ≡ unwrap_or dump held
-    → goal ≡ wanted → IsOfDump m held old goal → IsOfDump m content (unwrap_or dump content) wanted
-of_dump m held old goal content wanted dump same older is kept =
-    subst (λ x. IsOfDump m x (unwrap_or dump x) wanted) same (subst (λ x. IsOfDump m held x wanted) older (subst (IsOfDump m held old) is kept))
+pub of_dump : (P : List ℕ → List ℕ → List ℕ → Type 0) (held old goal content wanted : List ℕ) (dump : Option (List ℕ)) → held ≡ content
+    → old ≡ unwrap_or dump held → goal ≡ wanted → P held old goal → P content (unwrap_or dump content) wanted
+of_dump P held old goal content wanted dump same older is p =
+    subst (λ x. P x (unwrap_or dump x) wanted) same (subst (λ x. P held x wanted) older (subst (P held old) is p))

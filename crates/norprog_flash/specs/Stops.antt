@@ -1,7 +1,7 @@
 -- Why work isn't begun (this project's).
 use Rattle.std.specs.Prelude.{◌≡◌, ◌≢◌, ◌⊎◌, ℕ, false, List, length, Option, unwrap_or}
-use Rattle.nor_base.specs.declared.step.Step.{Step}
-use Rattle.nor_base.specs.Device.{Ahead, Cuts}
+use Rattle.std.specs.Io.KnownBytes.{Appends}
+use Rattle.nor_base.specs.Device.{Cuts}
 use Rattle.nor_job.specs.declared.fault.BuildFault.{BuildFault}
 use Rattle.nor_job.specs.declared.fault.BuildFault.TheVariants.{ContentSize, Write}
 use Rattle.nor_probe.specs.Status.{suits}
@@ -9,13 +9,14 @@ use Rattle.norprog_common.specs.declared.faults.FileName.TheVariants as file
 use Rattle.norprog_common.specs.declared.faults.Refusal.{Refusal}
 use Rattle.norprog_common.specs.declared.faults.Refusal.TheVariants.{Build, File}
 use Rattle.norprog_common.specs.Rules.{BreaksRules}
+use Rattle.norprog_device.specs.Wire.{Wire}
 use Rattle.norprog_flash.specs.declared.ending.Unflashed.{Unflashed}
 use Rattle.norprog_flash.specs.declared.ending.Unflashed.TheVariants.{Refused, Device, Unlike, Closed}
 use Rattle.norprog_flash.specs.declared.job.Job.{Job}
-use Rattle.norprog_flash.specs.Begun.{start_at}
+use Rattle.norprog_flash.specs.Begun.{IsPlanOf, Printed, start_at}
 use Rattle.norprog_flash.specs.Resumed.{IsOfAnother}
 use Rattle.norprog_flash.specs.Task.{dump_of, flash_task}
-use Rattle.norprog_flash.specs.Way.{last_text}
+use Rattle.norprog_flash.specs.Way.{plan_text, work_text}
 use Rattle.norprog_read.specs.declared.asked.Ask.{Ask}
 use Rattle.norprog_read.specs.declared.asked.Reading.{Reading}
 use Rattle.norprog_read.specs.declared.fault.Unread.{Unread}
@@ -23,7 +24,7 @@ use Rattle.norprog_read.specs.declared.fault.Unread.TheVariants as unread
 use Rattle.norprog_read.specs.Chip.{HasReadChip}
 use Rattle.norprog_read.specs.Stops.{StopsChip}
 use Rattle.norprog_work.specs.Refused.{RefusesWork}
-use Rattle.norprog_work.specs.Work.{IsWork}
+use Rattle.norprog_work.specs.Work.{Plan}
 
 -- why a chip isn't read is why work isn't begun
 abbrev pub of_reading : Unread → Unflashed
@@ -32,10 +33,9 @@ of_reading (unread.Device why) = Device why
 of_reading (unread.Unlike why) = Unlike why
 
 -- the reading of the chip, by reads of no more than so many bytes, stopped so
-pub record StopsReading (most : ℕ) (held_before held_after : Option (List ℕ)) (ahead_before ahead_after : Ahead) (ask : Ask)
-    (why : Unflashed) : Type 0 where
+pub record StopsReading (most : ℕ) (before after : Wire) (ask : Ask) (why : Unflashed) : Type 0 where
   pub stop : Unread
-  pub stops : StopsChip most held_before held_after ahead_before ahead_after ask stop
+  pub stops : StopsChip most before after ask stop
   pub is : why ≡ of_reading stop
 
 -- its status shows that it can't take work; or the job's image breaks its rules
@@ -45,38 +45,25 @@ IsUnsuited job r (Refused why) = BreaksRules job.rules (flash_task job r.tables.
 IsUnsuited job r other = ⊥
 
 -- it was read, and that is so
-pub record StopsUnsuited (most : ℕ) (held_before held_after : Option (List ℕ)) (ahead_before ahead_after : Ahead) (job : Job)
-    (why : Unflashed) : Type 0 where
+pub record StopsUnsuited (most : ℕ) (before after : Wire) (job : Job) (why : Unflashed) : Type 0 where
   pub reading : Reading
-  pub read : HasReadChip most held_before held_after ahead_before ahead_after job.ask reading
+  pub read : HasReadChip most before after job.ask reading
   pub unsuited : IsUnsuited job reading why
 
 -- it wasn't read, or that is so
-abbrev pub StopsBefore : ℕ → Option (List ℕ) → Option (List ℕ) → Ahead → Ahead → Job → Unflashed → Type 0
-StopsBefore most held_before held_after ahead_before ahead_after job why =
-    StopsReading most held_before held_after ahead_before ahead_after job.ask why
-    ⊎ StopsUnsuited most held_before held_after ahead_before ahead_after job why
+abbrev pub StopsBefore : ℕ → Wire → Wire → Job → Unflashed → Type 0
+StopsBefore most before after job why = StopsReading most before after job.ask why ⊎ StopsUnsuited most before after job why
 
--- the work from the content to the target was planned and printed, but not all of how to go on
-pub record LacksWay (job : Job) (r : Reading) (out_before out_after : Option (List ℕ)) : Type 0 where
-  pub goal : List ℕ
-  pub steps : List Step
-  pub middle : Option (List ℕ)
-  pub work : IsWork (flash_task job r.tables.items) r.content.items (unwrap_or (dump_of job) r.content.items) goal steps out_before middle
-  pub cut : Cuts middle out_after (last_text job r steps)
-
--- the work was planned and printed, and the chip isn't the one of the older dump
-pub record IsOnAnother (job : Job) (r : Reading) (out_before out_after : Option (List ℕ)) : Type 0 where
-  pub goal : List ℕ
-  pub steps : List Step
-  pub work : IsWork (flash_task job r.tables.items) r.content.items (unwrap_or (dump_of job) r.content.items) goal steps out_before out_after
-  pub another : IsOfAnother r.meaning r.content.items (unwrap_or (dump_of job) r.content.items) goal
-
--- work is resumed from a dump that hasn't the chip's length, and nothing was printed; or the work from the content to the target, for which some lines of the plan may have been printed, couldn't be planned or printed; or one of these
-abbrev pub CantPlan : Job → Reading → Option (List ℕ) → Option (List ℕ) → Refusal → Type 0
-CantPlan job r out_before out_after why =
-    ((why ≡ Build ContentSize) × (length (unwrap_or (dump_of job) r.content.items) ≢ length r.content.items) × (out_after ≡ out_before))
-    ⊎ (((fault : BuildFault) × (why ≡ Build fault) × RefusesWork (flash_task job r.tables.items) r.content.items
-    (unwrap_or (dump_of job) r.content.items) out_before out_after fault)
-    ⊎ (((why ≡ Build Write) × LacksWay job r out_before out_after)
-    ⊎ ((why ≡ File file.Resume) × IsOnAnother job r out_before out_after)))
+-- why work on a chip that was read isn't begun, by what was printed till then
+pub data CantPlan (job : Job) (r : Reading) (out : Printed) : Refusal → Type 0 where
+  -- the dump from which it is resumed hasn't the chip's length
+  OtherSize : length (unwrap_or (dump_of job) r.content.items) ≢ length r.content.items → out.after ≡ out.before
+      → CantPlan job r out (Build ContentSize)
+  -- it can't be planned
+  Unplanned : (fault : BuildFault) → RefusesWork (flash_task job r.tables.items) r.content.items (unwrap_or (dump_of job) r.content.items) fault
+      → out.after ≡ out.before → CantPlan job r out (Build fault)
+  -- the plan was printed, and the chip isn't the one of that dump
+  OnAnother : (p : Plan) → IsPlanOf job r p → IsOfAnother r.meaning r.content.items (unwrap_or (dump_of job) r.content.items) p.goal
+      → Appends out.before out.after (plan_text job p) → CantPlan job r out (File file.Resume)
+  -- the plan, or how to go on, wasn't all printed
+  Unprinted : (p : Plan) → IsPlanOf job r p → Cuts out.before out.after (work_text job r p) → CantPlan job r out (Build Write)

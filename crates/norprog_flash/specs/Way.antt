@@ -1,11 +1,13 @@
--- How to go on with work that stops on the way, as it is printed before the first step (this project's).
-use Rattle.std.specs.Prelude.{ℕ, Bool, true, false, List, [], ◌∷◌, ◌++◌, codes}
+-- What is printed before the first step: the plan, and how to go on with work that stops on the way (this project's).
+use Rattle.std.specs.Prelude.{ℕ, Bool, true, false, ◌||◌, nat_eq, count_by, decimal, List, [], ◌∷◌, ◌++◌, codes}
 use Rattle.nor_base.specs.declared.step.Step.{Step}
+use Rattle.norprog.specs.Report.{report_text}
 use Rattle.norprog_common.specs.declared.given.FlashArgs.{FlashArgs}
 use Rattle.norprog_flash.specs.declared.job.Job.{Job}
 use Rattle.norprog_flash.specs.State.{way_on}
 use Rattle.norprog_read.specs.declared.asked.Reading.{Reading}
 use Rattle.norprog_read.specs.Line.{note_line}
+use Rattle.norprog_work.specs.Work.{Plan}
 
 -- what comes before the command
 abbrev pub way_front : List ℕ
@@ -24,3 +26,20 @@ way_text false (step ∷ more) texts = way_line texts
 -- and before it the size that the identification says, where that is to be noted
 abbrev pub last_text : Job → Reading → List Step → List ℕ
 last_text job r steps = note_line r.note ++ way_text job.dry steps job.texts.now
+
+-- the whole plan is printed where that is asked for, and where only the plan is wanted
+abbrev pub is_listed : Job → Bool
+is_listed job = job.dry || job.texts.now.list
+
+-- the lines of a plan, or how many they are
+abbrev pub lines_text : Bool → List ℕ → List ℕ
+lines_text true lines = lines
+lines_text false lines = codes "lines " ++ (decimal (count_by (nat_eq 10) lines) ++ codes "\n")
+
+-- what is printed of a plan: its lines, or their number, and its report
+abbrev pub plan_text : Job → Plan → List ℕ
+plan_text job p = lines_text (is_listed job) p.lines ++ report_text p.report
+
+-- and before the first step: that, and then how to go on
+abbrev pub work_text : Job → Reading → Plan → List ℕ
+work_text job r p = plan_text job p ++ last_text job r p.steps

@@ -1,26 +1,26 @@
 //! A chip that is read, and planned for.
 
 ghost use Rattle.std.specs.Prelude.{◌≡◌, ◌<◌, ◌≤◌, ◌+◌, ◌-◌, ◌^◌, [], ◌∷◌, true, length, unwrap_or};
-ghost use Rattle.std.specs.Prelude.{IfOk, IfErr, MatchResult, Ok};
+ghost use Rattle.std.specs.Prelude.{ℕ, List, Option, IfOk, IfErr, MatchResult, Ok};
 ghost use Rattle.nor_base.specs.Device.{HaveRoom};
 ghost use Rattle.nor_probe.specs.Status.{suits};
 ghost use Rattle.nor_job.specs.Status.{start_of};
-ghost use Rattle.norprog_common.specs.Content.{CountsWriter};
 ghost use Rattle.norprog_common.specs.Rules.{BreaksRules, MeetsRules};
 ghost use Rattle.norprog_flash.specs.Blame.{fault_before};
-ghost use Rattle.norprog_flash.specs.Begun.{HasRead, PrintsPlan, start_at};
+ghost use Rattle.norprog_device.specs.Wire.{wire};
+ghost use Rattle.norprog_flash.specs.Begun.{HasRead, IsPlanOf, PrintsPlan, printed, start_at};
 ghost use Rattle.norprog_flash.specs.Task.{dump_of, flash_task};
-ghost use Rattle.norprog_work.specs.Work.{IsWork};
+ghost use Rattle.norprog_work.specs.Work.{plan_of};
 ghost use Rattle.nor_reader.specs.Harmless.{HasSentHarmless, SendsHarmless};
 ghost use Rattle.nor_reader.specs.Laws.{GivesBy};
-ghost use Rattle.norprog_read.specs.Blame.{CountsBoth};
+ghost use Rattle.norprog_device.specs.Blame.{CountsBoth};
 ghost use Rattle.norprog_flash.specs.Opened.{HasHeld, StopsHolding};
 ghost use Rattle.norprog_flash.specs.Stops.{CantPlan, StopsBefore};
 
 use crate::ending::Unflashed;
 use crate::job::{Job, inputs_for};
 use crate::resumed::is_of_dump;
-use crate::way::print_way;
+use crate::way::{write_last, write_plan};
 use nor_base::{ByteIn, ByteOut, Start};
 use nor_job::BuildFault;
 use nor_probe::suits;
@@ -51,12 +51,14 @@ pub fn hold<R: ByteIn, W: ByteOut>(
 ) -> Result<Held, Unflashed>
     requires asked { (job.now.ask.content ≡ true)
         × (R.count from.old < 2 ^ 64 - 3) × (W.count to.old < 2 ^ 64 - 3) }
-    ensures held { IfOk result (λ held. HasHeld limits.now job.now (W.held to.old) (W.held to.new)
-        (R.ahead from.old) (R.ahead from.new) held.reading
+    ensures held { IfOk result (λ held. HasHeld limits.now job.now
+        (wire (W.held to.old) (R.ahead from.old))
+        (wire (W.held to.new) (R.ahead from.new)) held.reading
         × GivesBy held.reading.meaning
         (start_of (flash_task job.now held.reading.tables.items)) held.by) }
-    ensures stops { IfErr result (StopsHolding limits.now job.now (W.held to.old) (W.held to.new)
-        (R.ahead from.old) (R.ahead from.new)) }
+    ensures stops { IfErr result (StopsHolding limits.now job.now
+        (wire (W.held to.old) (R.ahead from.old))
+        (wire (W.held to.new) (R.ahead from.new))) }
     ensures counts { CountsBoth (R.count from.old) (R.count from.new) (W.count to.old)
         (W.count to.new) (fault_before result) }
 {
@@ -66,8 +68,8 @@ pub fn hold<R: ByteIn, W: ByteOut>(
     }
 }
 
-/// Plans for a chip that was read; prints the lines of the plan, and then how to go on where the
-/// work stops on the way. Where work is resumed the chip has to be the one of the older dump.
+/// Plans for a chip that was read; prints the plan, and then how to go on where the work stops on
+/// the way. Where work is resumed the chip has to be the one of the older dump.
 pub(crate) fn print_plan<O: ByteOut>(
     alloc: Global,
     job: &Job<'_>,
@@ -76,13 +78,19 @@ pub(crate) fn print_plan<O: ByteOut>(
 ) -> Result<Work, Refusal>
     requires out { O.count out.old < 2 ^ 64 - 1 }
     ensures plan { IfOk result
-        (λ work. PrintsPlan job.now reading.now work.goal.items work.steps.items
-        (O.held out.old) (O.held out.new)) }
+        (λ work. PrintsPlan job.now reading.now (plan_of work)
+        (printed (O.held out.old) (O.held out.new))) }
     ensures refused { IfErr result
-        (CantPlan job.now reading.now (O.held out.old) (O.held out.new)) }
-    ensures out_count { CountsWriter (O.count out.old) (O.count out.new) result }
+        (CantPlan job.now reading.now (printed (O.held out.old) (O.held out.new))) }
+    ensures out_count { (O.count out.old ≤ O.count out.new)
+        × (O.count out.new ≤ O.count out.old + 1)
+        × IfOk result (λ _. O.count out.new ≡ O.count out.old) }
 {
-    let work = plan_for(alloc, job, reading, out)?;
+    let work = plan_for(alloc, job, reading)?;
+    match write_plan(job, &work, out) {
+        Ok(()) => {}
+        Err(_) => return Err(Refusal::WRITE),
+    }
     let held = reading.content.as_slice();
     if !is_of_dump(
         &reading.meaning,
@@ -92,25 +100,17 @@ pub(crate) fn print_plan<O: ByteOut>(
     ) {
         return Err(Refusal::File(FileName::Resume));
     }
-    print_way(job, reading, work.steps.as_slice(), out)?;
-    Ok(work)
+    match write_last(job, reading, work.steps.as_slice(), out) {
+        Ok(()) => Ok(work),
+        Err(_) => Err(Refusal::WRITE),
+    }
 }
 
-/// Plans for a chip that was read, and prints the lines of the plan.
-fn plan_for<O: ByteOut>(
-    alloc: Global,
-    job: &Job<'_>,
-    reading: &Reading,
-    out: &mut O,
-) -> Result<Work, Refusal>
-    requires out { O.count out.old < 2 ^ 64 - 1 }
-    ensures work { IfOk result
-        (λ work. IsWork (flash_task job.now reading.now.tables.items) reading.now.content.items
-        (unwrap_or (dump_of job.now) reading.now.content.items) work.goal.items work.steps.items
-        (O.held out.old) (O.held out.new)) }
-    ensures refused { IfErr result
-        (CantPlan job.now reading.now (O.held out.old) (O.held out.new)) }
-    ensures out_count { CountsWriter (O.count out.old) (O.count out.new) result }
+/// Plans for a chip that was read.
+fn plan_for(alloc: Global, job: &Job<'_>, reading: &Reading) -> Result<Work, Refusal>
+    ensures work { IfOk result (λ work. IsPlanOf job.now reading.now (plan_of work)) }
+    ensures refused { IfErr result (λ why. (text : Option (List ℕ))
+        → CantPlan job.now reading.now (printed text text) why) }
 {
     let inputs = inputs_for(job, reading.tables.as_slice());
     let content = reading.content.as_slice();
@@ -118,7 +118,7 @@ fn plan_for<O: ByteOut>(
     if old.len() != content.len() {
         return Err(Refusal::Build(BuildFault::ContentSize));
     }
-    match work_for(alloc, &inputs, content, old, out) {
+    match work_for(alloc, &inputs, content, old) {
         Ok(work) => Ok(work),
         Err(why) => Err(Refusal::Build(why)),
     }
@@ -146,14 +146,14 @@ fn read_suited<R: ByteIn, W: ByteOut>(
     requires asked { (job.now.ask.content ≡ true)
         × HaveRoom (R.count from.old) (W.count to.old) }
     ensures read { IfOk result
-        (λ held. HasRead limits.now.asked job.now (W.held to.old) (W.held to.new)
-        (R.ahead from.old) (R.ahead from.new) held.reading) }
+        (λ held. HasRead limits.now.asked job.now (wire (W.held to.old) (R.ahead from.old))
+        (wire (W.held to.new) (R.ahead from.new)) held.reading) }
     ensures way { IfOk result
         (λ held. GivesBy held.reading.meaning
         (start_of (flash_task job.now held.reading.tables.items)) held.by) }
     ensures stops { IfErr result
-        (StopsBefore limits.now.asked (W.held to.old) (W.held to.new) (R.ahead from.old)
-        (R.ahead from.new) job.now) }
+        (StopsBefore limits.now.asked (wire (W.held to.old) (R.ahead from.old))
+        (wire (W.held to.new) (R.ahead from.new)) job.now) }
     ensures harmless { MatchResult result (λ _. HasSentHarmless (W.held to.old) (W.held to.new))
         (λ _. SendsHarmless (W.held to.old) (W.held to.new)) }
     ensures counts { CountsBoth (R.count from.old) (R.count from.new) (W.count to.old)

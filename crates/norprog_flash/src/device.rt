@@ -1,23 +1,24 @@
 //! Work on a chip that was read, and whose content is saved.
 
-ghost use Rattle.std.specs.Prelude.{◌≡◌, ◌<◌, ◌≤◌, ◌+◌, ◌-◌, ◌^◌, ℕ, List, Option, true};
+ghost use Rattle.std.specs.Prelude.{◌≡◌, ◌<◌, ◌≤◌, ◌+◌, ◌-◌, ◌^◌, true};
 ghost use Rattle.std.specs.Prelude.{IfOk, IfErr};
-ghost use Rattle.nor_base.specs.Device.{Ahead, HaveRoom};
+ghost use Rattle.nor_base.specs.Device.{HaveRoom};
 ghost use Rattle.nor_job.specs.Status.{start_of};
 ghost use Rattle.nor_reader.specs.Laws.{GivesBy};
-ghost use Rattle.norprog_common.specs.Content.{CountsWriter};
-ghost use Rattle.norprog_flash.specs.Begun.{HasRead, IsPlannedOn, IsReadOn};
+ghost use Rattle.norprog_flash.specs.Begun.{HasRead, IsPlannedOn, IsReadOn, printed};
 ghost use Rattle.norprog_flash.specs.Blame.{fault_after, fault_of_ending};
 ghost use Rattle.norprog_flash.specs.Ended.{EndsWork};
 ghost use Rattle.norprog_flash.specs.Stops.{CantPlan};
 ghost use Rattle.norprog_flash.specs.Task.{flash_task};
-ghost use Rattle.norprog_flash.specs.Worked.{GoesOn};
-ghost use Rattle.norprog_read.specs.Blame.{CountsBoth};
+ghost use Rattle.norprog_device.specs.Wire.{Wire, wire};
+ghost use Rattle.norprog_flash.specs.Worked.{GoesOn, session};
+ghost use Rattle.norprog_work.specs.Work.{plan_of};
+ghost use Rattle.norprog_device.specs.Blame.{CountsBoth};
 
 use crate::begun::{Held, print_plan};
 use crate::ending::Ending;
 use crate::job::Job;
-use crate::work::{Back, do_work};
+use crate::work::do_work;
 use nor_base::{ByteIn, ByteOut};
 use nor_flasher::{breaks, closes, doable};
 use nor_serprog::{Limits, carried};
@@ -48,17 +49,18 @@ pub fn go_on<R: ByteIn, W: ByteOut, O: ByteOut, P: ByteOut>(
     requires room { HaveRoom (R.count from.old) (W.count to.old)
         × (O.count out.old < 2 ^ 64 - 1)
         × (P.count progress.old < 2 ^ 64 - 1) }
-    ensures ends { (sent : Option (List ℕ)) (ahead : Ahead)
-        → HasRead limits.now.asked job.now sent (W.held to.old) ahead (R.ahead from.old)
-        held.now.reading
-        → IfOk result (EndsWork job.now limits.now held.now.reading sent (W.held to.new) ahead
-        (R.ahead from.new) (O.held out.old) (O.held out.new)) }
+    ensures ends { (first : Wire) → HasRead limits.now.asked job.now first
+        (wire (W.held to.old) (R.ahead from.old)) held.now.reading
+        → IfOk result (EndsWork (session job.now limits.now held.now.reading) first
+        (wire (W.held to.new) (R.ahead from.new)) (printed (O.held out.old) (O.held out.new))) }
     ensures refused { IfErr result
-        (CantPlan job.now held.now.reading (O.held out.old) (O.held out.new)) }
+        (CantPlan job.now held.now.reading (printed (O.held out.old) (O.held out.new))) }
     ensures unsent { IfErr result (λ _. (to.new ≡ to.old) × (from.new ≡ from.old)) }
     ensures counts { CountsBoth (R.count from.old) (R.count from.new) (W.count to.old)
         (W.count to.new) (fault_after result)
-        × CountsWriter (O.count out.old) (O.count out.new) result }
+        × (O.count out.old ≤ O.count out.new)
+        × (O.count out.new ≤ O.count out.old + 1)
+        × IfOk result (λ _. O.count out.new ≡ O.count out.old) }
 {
     closes();
     breaks();
@@ -80,34 +82,21 @@ fn work_on<R: ByteIn, W: ByteOut, P: ByteOut>(
     progress: &mut P,
 ) -> Ending
     requires planned { IsPlannedOn limits.now.asked job.now held.now.reading
-        work.now.goal.items work.now.steps.items }
+        (plan_of work.now) }
     requires way { GivesBy held.now.reading.meaning
         (start_of (flash_task job.now held.now.reading.tables.items)) held.now.by }
     requires room { HaveRoom (R.count from.old) (W.count to.old)
         × (P.count progress.old < 2 ^ 64 - 1) }
-    ensures goes { GoesOn (W.held to.old) (W.held to.new) (R.ahead from.old) (R.ahead from.new)
-        limits.now job.now held.now.reading work.now.goal.items work.now.steps.items result }
+    ensures goes { GoesOn (session job.now limits.now held.now.reading)
+        (wire (W.held to.old) (R.ahead from.old)) (wire (W.held to.new) (R.ahead from.new))
+        (plan_of work.now) result }
     ensures counts { CountsBoth (R.count from.old) (R.count from.new) (W.count to.old)
         (W.count to.new) (fault_of_ending result) }
 {
-    let steps = work.steps.as_slice();
-    if let Err(step) = carried(steps, limits) {
+    if let Err(step) = carried(work.steps.as_slice(), limits) {
         let why = Failure::Carried;
         return Ending::Failed { step, why };
     }
     doable();
-    do_work(
-        &held.reading.meaning,
-        Back {
-            by: held.by,
-            larger: job.ask.any_size,
-        },
-        from,
-        to,
-        limits,
-        job.ask.turns,
-        steps,
-        work.goal.as_slice(),
-        progress,
-    )
+    do_work(from, to, limits, job, held, work, progress)
 }

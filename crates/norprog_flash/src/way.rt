@@ -1,46 +1,69 @@
-//! How to go on with work that stops on the way, as it is printed before the first step.
+//! What is printed before the first step: the plan, and how to go on with work that stops on the
+//! way.
 
-ghost use Rattle.std.specs.Prelude.{◌≡◌, ◌<◌, ◌-◌, ◌^◌, IfOk, IfErr};
-ghost use Rattle.std.specs.Io.KnownBytes.{Appends};
-ghost use Rattle.nor_base.specs.Device.{Counts, Cuts, Writes};
-ghost use Rattle.nor_job.specs.declared.fault.BuildFault.TheVariants.{Write};
-ghost use Rattle.norprog_common.specs.declared.faults.Refusal.TheVariants.{Build};
-ghost use Rattle.norprog_common.specs.Content.{CountsWriter};
-ghost use Rattle.norprog_flash.specs.Way.{last_text, way_line, way_text};
+ghost use Rattle.std.specs.Prelude.{◌≡◌, ◌<◌, ◌-◌, ◌^◌, count_by, nat_eq};
+ghost use Rattle.nor_base.specs.Device.{Counts, Writes};
+ghost use Rattle.norprog_flash.specs.Way.{is_listed, last_text, lines_text, plan_text, way_line};
+ghost use Rattle.norprog_flash.specs.Way.{way_text};
+ghost use Rattle.norprog_work.specs.Work.{plan_of};
 
 use crate::job::Job;
 use crate::options::write_way_on;
-use nor_base::{ByteOut, Failed, Step, put_all};
-use norprog_common::{FlashArgs, Refusal};
+use itoa::Buffer;
+use nor_base::{ByteOut, Failed, Step, put_all, put_parts};
+use norprog::write_report;
+use norprog_common::FlashArgs;
 use norprog_read::{Reading, write_note};
+use norprog_work::Work;
 
 /// What comes before the command.
 const FRONT: &[u8] =
     b"if this stops on the way: switch the chip's power off and on, and go on with: ";
 
-/// Prints the size that the identification says, where that is to be noted; and how to go on where
-/// these steps stop on the way, nothing where there are none, and where only the plan is wanted.
-pub(crate) fn print_way<O: ByteOut>(
-    job: &Job<'_>,
-    reading: &Reading,
-    steps: &[Step],
-    out: &mut O,
-) -> Result<(), Refusal>
+/// Writes a plan: all its lines where they are asked for, or else how many they are; and its
+/// report.
+pub(crate) fn write_plan<O: ByteOut>(job: &Job<'_>, work: &Work, out: &mut O) -> Result<(), Failed>
     requires { O.count out.old < 2 ^ 64 - 1 }
-    ensures way { IfOk result (λ _. Appends (O.held out.old) (O.held out.new)
-        (last_text job.now reading.now steps.now)) }
-    ensures refused { IfErr result (λ why. (why ≡ Build Write) × Cuts (O.held out.old)
-        (O.held out.new) (last_text job.now reading.now steps.now)) }
-    ensures out_count { CountsWriter (O.count out.old) (O.count out.new) result }
+    ensures bytes { Writes (O.held out.old) (O.held out.new) result
+        (plan_text job.now (plan_of work.now)) }
+    ensures count { Counts (O.count out.old) (O.count out.new) result }
 {
-    match write_last(job, reading, steps, out) {
-        Ok(()) => Ok(()),
-        Err(_) => Err(Refusal::WRITE),
-    }
+    write_lines(is_listed(job), work.lines.as_slice(), out)?;
+    write_report(&work.report, out)
 }
 
-/// Writes that.
-fn write_last<O: ByteOut>(
+/// Whether the whole plan is printed.
+fn is_listed(job: &Job<'_>) -> bool
+    ensures { result ≡ is_listed job.now }
+{
+    job.dry || job.texts.list
+}
+
+/// Writes lines, or how many they are.
+fn write_lines<O: ByteOut>(listed: bool, lines: &[u8], out: &mut O) -> Result<(), Failed>
+    requires { O.count out.old < 2 ^ 64 - 1 }
+    ensures bytes { Writes (O.held out.old) (O.held out.new) result
+        (lines_text listed lines.now) }
+    ensures count { Counts (O.count out.old) (O.count out.new) result }
+{
+    if listed {
+        return put_all(out, lines);
+    }
+    let mut digits = Buffer::new();
+    let count = count_lines(lines);
+    put_parts(out, &[b"lines ", digits.format(count).as_bytes(), b"\n"])
+}
+
+/// How many lines are closed.
+fn count_lines(lines: &[u8]) -> u64
+    ensures { result ≡ count_by (nat_eq 10) lines.now }
+{
+    lines.iter().filter(|byte| **byte == b'\n').count() as u64
+}
+
+/// Writes the size that the identification says, where that is to be noted; and how to go on where
+/// these steps stop on the way, nothing where there are none, and where only the plan is wanted.
+pub(crate) fn write_last<O: ByteOut>(
     job: &Job<'_>,
     reading: &Reading,
     steps: &[Step],

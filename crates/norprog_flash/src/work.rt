@@ -7,16 +7,21 @@ ghost use Rattle.nor_probe.specs.Compared.{CountsMismatch};
 ghost use Rattle.nor_serprog.specs.Done.{IsDoable};
 ghost use Rattle.nor_serprog.specs.declared.fault.Fault.TheVariants.{Read, Write};
 ghost use Rattle.norprog_flash.specs.Blame.{fault_of_ending};
-ghost use Rattle.norprog_flash.specs.Worked.{IsFailureAt, ReadsBack, WorksOut};
-ghost use Rattle.norprog_read.specs.Blame.{CountsBoth};
+ghost use Rattle.norprog_device.specs.Wire.{wire};
+ghost use Rattle.norprog_flash.specs.Worked.{IsFailureAt, ReadsBack, WorksOut, back_of, session};
+ghost use Rattle.norprog_work.specs.Work.{plan_of};
+ghost use Rattle.norprog_device.specs.Blame.{CountsBoth};
 
+use crate::begun::Held;
 use crate::ending::Ending;
+use crate::job::Job;
 use nor_base::{ByteIn, ByteOut, Meaning, Step};
 use nor_flasher::{Halt, do_steps};
 use nor_probe::Mismatch;
 use nor_reader::{ReadBy, read_again, read_past};
 use nor_serprog::Limits;
 use norprog_failure::{Failure, failure_by, failure_of};
+use norprog_work::Work;
 
 /// How a chip is read back.
 #[derive(Clone, Copy)]
@@ -27,37 +32,41 @@ pub struct Back {
     pub larger: bool,
 }
 
-/// Has the device do the steps, and then read the chip, which must give the goal's bytes, and end
-/// there.
+/// Has the device do the steps of work that was planned, and then read the chip, which must give
+/// the goal's bytes, and end there.
 pub(crate) fn do_work<R: ByteIn, W: ByteOut, P: ByteOut>(
-    meaning: &Meaning,
-    back: Back,
     from: &mut R,
     to: &mut W,
     limits: &Limits,
-    turns: u64,
-    steps: &[Step],
-    goal: &[u8],
+    job: &Job<'_>,
+    held: &Held,
+    work: &Work,
     progress: &mut P,
 ) -> Ending
-    requires form { All IsDoable steps.now }
-    requires size { length goal.now ≤ 2 ^ 32 }
+    requires form { All IsDoable work.now.steps.items }
+    requires size { length work.now.goal.items ≤ 2 ^ 32 }
     requires room { HaveRoom (R.count from.old) (W.count to.old) }
     requires told { P.count progress.old < 2 ^ 64 - 1 }
-    ensures ends { WorksOut (W.held to.old) (W.held to.new) (R.ahead from.old) (R.ahead from.new)
-        limits.now turns meaning.now back steps.now goal.now result }
+    ensures ends { WorksOut (session job.now limits.now held.now.reading)
+        (wire (W.held to.old) (R.ahead from.old)) (wire (W.held to.new) (R.ahead from.new))
+        (back_of job.now held.now.by) (plan_of work.now) result }
     ensures counts { CountsBoth (R.count from.old) (R.count from.new) (W.count to.old)
         (W.count to.new) (fault_of_ending result) }
 {
-    if let Err(halt) = do_steps(from, to, limits, turns, steps, progress) {
-        let why = failure_at(meaning, steps, halt);
+    let steps = work.steps.as_slice();
+    if let Err(halt) = do_steps(from, to, limits, job.ask.turns, steps, progress) {
+        let why = failure_at(&held.reading.meaning, steps, halt);
         return Ending::Failed {
             step: halt.step,
             why,
         };
     }
     let transactions = steps.len() as u64;
-    match read_back(from, to, limits, back, goal) {
+    let back = Back {
+        by: held.by,
+        larger: job.ask.any_size,
+    };
+    match read_back(from, to, limits, back, work.goal.as_slice()) {
         Ok(()) => Ending::Done { transactions },
         Err(why) => Ending::Failed {
             step: transactions,
@@ -77,8 +86,8 @@ fn read_back<R: ByteIn, W: ByteOut>(
 ) -> Result<(), Mismatch>
     requires size { length bytes.now ≤ 2 ^ 32 }
     requires room { HaveRoom (R.count from.old) (W.count to.old) }
-    ensures back { ReadsBack limits.now.asked (W.held to.old) (W.held to.new) (R.ahead from.old)
-        (R.ahead from.new) result back bytes.now }
+    ensures back { ReadsBack limits.now.asked (wire (W.held to.old) (R.ahead from.old))
+        (wire (W.held to.new) (R.ahead from.new)) result back bytes.now }
     ensures counts { CountsMismatch Read (R.count from.old) (R.count from.new) result
         × CountsMismatch Write (W.count to.old) (W.count to.new) result }
 {

@@ -13,10 +13,10 @@ use Rattle.norprog_common.specs.declared.faults.Refusal.{Refusal}
 use Rattle.norprog_common.specs.declared.faults.Refusal.TheVariants.{Build, File}
 use Rattle.norprog_files.specs.Files.{Unwired, Wire, Wired}
 use Rattle.norprog_named.specs.Play.{EndsPlaying, OnDevice, Stopped, begun}
-use Rattle.norprog_player.specs.Expected.{Expectation}
+use Rattle.norprog_player.specs.Expected.{Expectation, Play}
 use Rattle.norprog_player.specs.Job.{of_script}
 use Rattle.norprog_player.specs.Moment.{moment}
-use Rattle.norprog_player.specs.Played.{EndsOnDevice, Play, StopsOnDevice}
+use Rattle.norprog_player.specs.Played.{EndsOnDevice, StopsOnDevice}
 use Rattle.norprog_player.specs.Tables.{tables_of}
 use Rattle.norprog_player.specs.declared.ending.Ending.{Ending}
 use Rattle.norprog_player.specs.declared.unplayed.Unplayed.{Unplayed}

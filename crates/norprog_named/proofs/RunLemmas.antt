@@ -7,8 +7,10 @@ use Rattle.norprog_common.specs.declared.faults.FileName.TheVariants as file
 use Rattle.norprog_common.specs.declared.faults.Refusal.{Refusal}
 use Rattle.norprog_common.specs.declared.faults.Refusal.TheVariants.{Build, File}
 use Rattle.norprog_common.specs.Setup.{setup_task}
+use Rattle.norprog_common.specs.declared.given.OutFile.{OutFile}
+use Rattle.norprog_files.specs.declared.replaced.OutKind.TheVariants.{Content}
 use Rattle.norprog_files.specs.Files.{Event, Lost, Made, Sent, closing}
-use Rattle.norprog_named.specs.Run.{Closes, EndsRun, IsPlayOf, NoOut, OpensPlay, OutLost, OutSent, Played, Refused, out_of}
+use Rattle.norprog_named.specs.Run.{Closes, EndsRun, IsPlayOf, NoOut, OpensPlay, OutLost, OutSent, Played, Refused}
 use Rattle.norprog_run.specs.Stream.{Blames, IsPlayed, Play, Unplayed}
 use Rattle.norprog_run.specs.declared.request.RunRequest.{RunRequest}
 use Rattle.norprog_run.specs.declared.verdict.Verdict.{Verdict}
@@ -21,11 +23,11 @@ blames_wider (Build fault.Write) f g h failed = h failed
 blames_wider other f g h failed = tt
 
 -- an output that is named
-pub sent : (p : Play) (path : List ℕ) (out : Option (List ℕ)) → out ≡ Some path → Closes p out true (Made path p.begun ∷ Sent path p.ended ∷ [])
-sent p path out is = subst (λ (o : Option (List ℕ)). Closes p o true (Made path p.begun ∷ Sent path p.ended ∷ [])) (sym is) (OutSent path)
+pub sent : (p : Play) (o : OutFile) (out : Option OutFile) → out ≡ Some o → Closes p out true (Made o (Content p.len) p.begun ∷ Sent o.path.now p.ended ∷ [])
+sent p o out is = subst (λ (named : Option OutFile). Closes p named true (Made o (Content p.len) p.begun ∷ Sent o.path.now p.ended ∷ [])) (sym is) (OutSent o)
 
-pub kept : (p : Play) (path : List ℕ) (out : Option (List ℕ)) → out ≡ Some path → Closes p out false (Made path p.begun ∷ Lost path p.ended ∷ [])
-kept p path out is = subst (λ (o : Option (List ℕ)). Closes p o false (Made path p.begun ∷ Lost path p.ended ∷ [])) (sym is) (OutLost path)
+pub kept : (p : Play) (o : OutFile) (out : Option OutFile) → out ≡ Some o → Closes p out false (Made o (Content p.len) p.begun ∷ Lost o.path.now p.ended ∷ [])
+kept p o out is = subst (λ (named : Option OutFile). Closes p named false (Made o (Content p.len) p.begun ∷ Lost o.path.now p.ended ∷ [])) (sym is) (OutLost o)
 
 -- the play on the files that were opened
 pub play_asked : (r : RunRequest) (p : Play) {tables : List ℕ} {script : Ahead} {log : List Event} → p.chip ≡ setup_task r.setup tables → p.bench ≡ r.bench
@@ -33,10 +35,10 @@ pub play_asked : (r : RunRequest) (p : Play) {tables : List ℕ} {script : Ahead
 play_asked r p {tables} chip bench opens = record { tables = tables; opens = opens; chip = chip; bench = bench }
 
 -- an output that is closed with this result
-pub closes : {T E : Type 0} (p : Play) (result : Result T E) (path : List ℕ) (out : Option (List ℕ)) → out ≡ Some path
-    → Closes p out (is_ok result) (Made path p.begun ∷ closing result path p.ended ∷ [])
-closes p (Ok x) path out is = sent p path out is
-closes p (Err why) path out is = kept p path out is
+pub closes : {T E : Type 0} (p : Play) (result : Result T E) (o : OutFile) (out : Option OutFile) → out ≡ Some o
+    → Closes p out (is_ok result) (Made o (Content p.len) p.begun ∷ closing result o.path.now p.ended ∷ [])
+closes p (Ok x) o out is = sent p o out is
+closes p (Err why) o out is = kept p o out is
 
 -- one that failed before isn't closed as one of which all has gone out
 pub unsent : {T E : Type 0} (result : Result T E) (m n : ℕ) → IfOk result (λ _. n ≡ 0) → m < n → is_ok result ≡ false
@@ -45,12 +47,12 @@ unsent (Err why) m n whole more = refl
 
 -- a play without an output
 pub ends_nowhere : (Unread : Type 0) (r : RunRequest) (p : Play) (script rest : Ahead) (read : List Event) (result : Result Verdict Refusal) → IsPlayOf r p script read
-    → out_of r ≡ None → IfOk result (λ verdict. HadText script rest (IsPlayed p verdict)) → IfErr result (Unplayed p script rest)
+    → r.out ≡ None → IfOk result (λ verdict. HadText script rest (IsPlayed p verdict)) → IfErr result (Unplayed p script rest)
     → IfErr result (Blames Unread Unread (true ≡ false)) → EndsRun Unread r (read ++ []) result
 ends_nowhere Unread r p script rest read (Ok verdict) of none played unplayed blames =
-    Played p script rest read [] verdict of played (subst (λ (o : Option (List ℕ)). Closes p o true []) (sym none) NoOut)
+    Played p script rest read [] verdict of played (subst (λ (o : Option OutFile). Closes p o true []) (sym none) NoOut)
 ends_nowhere Unread r p script rest read (Err why) of none played unplayed blames =
-    Refused p script rest read [] true why of unplayed (subst (λ (o : Option (List ℕ)). Closes p o true []) (sym none) NoOut) blames
+    Refused p script rest read [] true why of unplayed (subst (λ (o : Option OutFile). Closes p o true []) (sym none) NoOut) blames
 
 -- the same of whichever came
 pub blames_all : {T A B C D E F : Type 0} (result : Result T Refusal) → (A → D) → (B → E) → (C → F) → IfErr result (Blames A B C) → IfErr result (Blames D E F)

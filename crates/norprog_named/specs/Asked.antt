@@ -17,6 +17,7 @@ use Rattle.norprog_common.specs.declared.given.ChipArgs.{ChipArgs}
 use Rattle.norprog_common.specs.declared.given.DrawArgs.{DrawArgs}
 use Rattle.norprog_common.specs.declared.given.HexArgs.{HexArgs}
 use Rattle.norprog_common.specs.declared.given.ListArgs.{ListArgs}
+use Rattle.norprog_common.specs.declared.given.OutFile.{OutFile}
 use Rattle.norprog_common.specs.declared.given.PlanArgs.{PlanArgs}
 use Rattle.norprog_common.specs.declared.given.RunArgs.{RunArgs}
 use Rattle.norprog_common.specs.declared.given.ScriptArgs.{ScriptArgs}
@@ -59,9 +60,9 @@ Prints text = PrintsAt text (λ a. 0)
 abbrev pub EndsHexAsked : Type 0 → HexArgs → List Event → Result ℕ Refusal → Type 0
 EndsHexAsked Unread given = EndsAs (Err Usage) (is_well_formed given ≡ false) (AsksFor given) (EndsHex Unread)
 
--- the job and the name of its output are those that the values spell
-abbrev pub AsksBuild : BuildArgs → Request × List ℕ → Type 0
-AsksBuild given asked = job.AsksFor given.job asked.0 × (option_map (λ t. t.now) given.out ≡ Some asked.1)
+-- the job and its output are those that the values spell
+abbrev pub AsksBuild : BuildArgs → Request × OutFile → Type 0
+AsksBuild given asked = job.AsksFor given.job asked.0 × (given.out ≡ Some asked.1)
 
 -- how `build` does, whose report is printed
 abbrev pub EndsBuildAsked : Type 0 → BuildArgs → Output → List Event → Result ℕ Refusal → Type 0

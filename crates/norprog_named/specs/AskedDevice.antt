@@ -9,13 +9,14 @@ use Rattle.norprog_common.specs.declared.given.ReadArgs.{ReadArgs}
 use Rattle.norprog_device.specs.Line.{device_line}
 use Rattle.norprog_files.specs.Files.{Event}
 use Rattle.norprog_flash.specs.Answer.{family_of, state_told}
+use Rattle.norprog_flash.specs.Begun.{Printed, printed as on_screen}
 use Rattle.norprog_flash.specs.Line as flash_line
 use Rattle.norprog_flash.specs.Request as request
 use Rattle.norprog_flash.specs.declared.ending.Ending as flash
 use Rattle.norprog_flash.specs.declared.ending.Unflashed.{Unflashed}
 use Rattle.norprog_flash.specs.declared.ending.Unflashed.TheVariants as unflashed
 use Rattle.norprog_named.specs.Asked.{EndsAs}
-use Rattle.norprog_named.specs.Flash.{EndsFlash, Prints, prints}
+use Rattle.norprog_named.specs.Flash.{EndsFlash}
 use Rattle.norprog_named.specs.Play.{EndsPlay}
 use Rattle.norprog_named.specs.Read.{EndsRead}
 use Rattle.norprog_player.specs.Request as play
@@ -37,7 +38,7 @@ abbrev pub EndsPlayAsked : Type 0 → PlayArgs → List Event → Result Ending 
 EndsPlayAsked Unread given = EndsAs (Err (unplayed.Refused Usage)) (play.is_well_formed given ≡ false) (play.AsksFor given) (EndsPlay Unread)
 
 -- at usage of `flash` nothing is printed
-abbrev pub EndsFlashAsked : FlashArgs → Prints → List Event → Result flash.Ending Unflashed → Type 0
+abbrev pub EndsFlashAsked : FlashArgs → Printed → List Event → Result flash.Ending Unflashed → Type 0
 EndsFlashAsked given out =
     EndsAs (Err (unflashed.Refused Usage)) ((request.is_well_formed given ≡ false) × (out.after ≡ out.before)) (request.AsksFor given)
     (λ r. EndsFlash r out)
@@ -71,7 +72,7 @@ SaysFlash given out err status (Err (unflashed.Closed bits)) = Says [] (flash_li
 pub record ReportsFlash (given : FlashArgs) (out err : Output) (status : ℕ) (log : List Event) : Type 0 where
   pub answer : Result flash.Ending Unflashed
   pub middle : Option (List ℕ)
-  pub ends : EndsFlashAsked given (prints out.before middle) log answer
+  pub ends : EndsFlashAsked given (on_screen out.before middle) log answer
   pub says : SaysFlash given (between middle out.after out.failures out.failed) err status answer
 
 -- there is such an answer, and that is said

@@ -11,9 +11,11 @@ use Rattle.norprog_common.specs.Rules.{BreaksRules, MeetsRules}
 use Rattle.norprog_common.specs.declared.faults.FileName.TheVariants as file
 use Rattle.norprog_common.specs.declared.faults.Refusal.{Refusal}
 use Rattle.norprog_common.specs.declared.faults.Refusal.TheVariants.{Build}
+use Rattle.norprog_common.specs.declared.given.OutFile.{OutFile}
 use Rattle.norprog_common.specs.declared.request.Request.{Request}
 use Rattle.norprog_common.specs.declared.rules.ImageRules.{ImageRules}
 use Rattle.norprog_files.specs.Files.{Event, Denied, Denies, IsClosed, Lost, Made, Sent, StopsOpening}
+use Rattle.norprog_files.specs.declared.replaced.OutKind.TheVariants as kind
 use Rattle.norprog_named.specs.Job.{IsJobOf, job_files}
 
 -- the work of a build: its task, the content's length, what the content's reader had ahead and what it has, what the output held and what
@@ -46,17 +48,17 @@ abbrev pub Unbuilt : ImageRules → Work → Type 0 → Type 0 → Refusal → T
 Unbuilt rules w = Undone rules w (StopsWork w.task w.len w.content w.rest w.begun w.ended)
 
 -- how `build` ends, and what was done with files by then
-pub data EndsBuild (Unread : Type 0) (r : Request) (out : List ℕ) : List Event → Result Report Refusal → Type 0 where
+pub data EndsBuild (Unread : Type 0) (r : Request) (out : OutFile) : List Event → Result Report Refusal → Type 0 where
   -- the output was sent the script of the request's job
   Built : (w : Work) (job : List Event) (report : Report) → IsJobOf r w.task w.content w.len job → MeetsRules r.rules w.task w.len → IsBuiltBy w report
-      → EndsBuild Unread r out (job ++ (Made out w.begun ∷ Sent out w.ended ∷ [])) (Ok report)
+      → EndsBuild Unread r out (job ++ (Made out kind.Script w.begun ∷ Sent out.path.now w.ended ∷ [])) (Ok report)
   -- a file of the job can't be opened
   NoInput : (log : List Event) (why : Refusal) → StopsOpening (job_files r) log why → EndsBuild Unread r out log (Err why)
   -- the output can't be made
   NoOutput : (t : Task) (content : Ahead) (len : ℕ) (job : List Event) (why : Refusal) → IsJobOf r t content len job → Denies file.Out why
-      → EndsBuild Unread r out (job ++ (Denied out ∷ [])) (Err why)
+      → EndsBuild Unread r out (job ++ (Denied out.path.now ∷ [])) (Err why)
   -- nothing is built, whatever came of the closing; some of a script hasn't gone out
-  NotBuilt : (w : Work) (job : List Event) (last : Event) (why : Refusal) → IsJobOf r w.task w.content w.len job → IsClosed out w.ended last
-      → Unbuilt r.rules w Unread (last ≡ Lost out w.ended) why → EndsBuild Unread r out (job ++ (Made out w.begun ∷ last ∷ [])) (Err why)
+  NotBuilt : (w : Work) (job : List Event) (last : Event) (why : Refusal) → IsJobOf r w.task w.content w.len job → IsClosed out.path.now w.ended last
+      → Unbuilt r.rules w Unread (last ≡ Lost out.path.now w.ended) why → EndsBuild Unread r out (job ++ (Made out kind.Script w.begun ∷ last ∷ [])) (Err why)
   Unsent : (w : Work) (job : List Event) (report : Report) → IsJobOf r w.task w.content w.len job → IsBuiltBy w report
-      → EndsBuild Unread r out (job ++ (Made out w.begun ∷ Lost out w.ended ∷ [])) (Err (Build fault.Write))
+      → EndsBuild Unread r out (job ++ (Made out kind.Script w.begun ∷ Lost out.path.now w.ended ∷ [])) (Err (Build fault.Write))

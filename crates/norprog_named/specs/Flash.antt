@@ -1,5 +1,5 @@
 -- How `flash` ends (this project's).
-use Rattle.std.specs.Prelude.{◌≡◌, ℕ, ◌&&◌, not, List, [], ◌∷◌, ◌++◌, Option, Some, option_map, Result, Ok, Err}
+use Rattle.std.specs.Prelude.{◌≡◌, ℕ, ◌&&◌, not, List, [], ◌∷◌, ◌++◌, if◌then◌else◌, Option, Some, None, option_map, Result, Ok, Err}
 use Rattle.nor_serprog.specs.Greeting.{Greeted}
 use Rattle.nor_serprog.specs.declared.fault.GreetFault.{GreetFault}
 use Rattle.nor_serprog.specs.declared.limits.Limits.{Limits}
@@ -11,6 +11,7 @@ use Rattle.norprog_device.specs.Blame.{is_cut}
 use Rattle.norprog_device.specs.Opened.{LetsGo}
 use Rattle.norprog_device.specs.declared.fault.DeviceFault.TheVariants.{Greet}
 use Rattle.norprog_files.specs.Files.{Event, Denied, Denies, Given, StopsOpening, Unwired, Wire, Wired}
+use Rattle.norprog_flash.specs.Begun.{Printed}
 use Rattle.norprog_flash.specs.Blame.{fault_in}
 use Rattle.norprog_flash.specs.Early.{IsSoundEarly, RefusesEarly}
 use Rattle.norprog_flash.specs.Opened.{EndsTested, HasHeld, StopsHolding}
@@ -20,20 +21,12 @@ use Rattle.norprog_flash.specs.declared.ending.Unflashed.{Unflashed}
 use Rattle.norprog_flash.specs.declared.ending.Unflashed.TheVariants.{Device, Refused}
 use Rattle.norprog_flash.specs.declared.job.Job.{Job}
 use Rattle.norprog_flash.specs.declared.request.FlashRequest.{FlashRequest}
-use Rattle.norprog_named.specs.Job.{Reads, ReadsNamed, chip_files, named_by}
-use Rattle.norprog_named.specs.Saved.{Saves}
+use Rattle.norprog_named.specs.Job.{Reads, ReadsNamed, chip_files, named_by, wire_of}
+use Rattle.norprog_named.specs.Saved.{SavesIf}
 use Rattle.norprog_named.specs.declared.flash_files.FlashTexts.{FlashTexts}
 use Rattle.norprog_read.specs.Request.{IsAskOf}
 use Rattle.norprog_read.specs.declared.asked.Reading.{Reading}
 use Rattle.norprog_read.specs.declared.request.ReadRequest.{ReadRequest}
-
--- what standard output held before, and holds
-pub record Prints : Type 0 where
-  pub before : Option (List ℕ)
-  pub after : Option (List ℕ)
-
-abbrev pub prints : Option (List ℕ) → Option (List ℕ) → Prints
-prints before after = record { before = before; after = after }
 
 -- the files that are read, each with its option, in their order
 abbrev pub flash_files : FlashRequest → List (FileName × List ℕ)
@@ -79,26 +72,30 @@ pub record IsJobOf (r : FlashRequest) (held : FlashTexts) (job : Job) : Type 0 w
   pub dry : job.dry ≡ r.dry_run
   pub texts : job.texts.now ≡ r.texts.now
 
+-- where what the chip holds is saved: nowhere where only the plan is wanted
+abbrev pub file_for : Job → List ℕ → Option (List ℕ)
+file_for job name = if job.dry then None else Some name
+
 -- how a job ends on a device that reported these limits, while its line goes from this to that; what the chip held is saved in the file of
--- this name
-pub data EndsHeld (limits : Limits) (name : List ℕ) (job : Job) (begun done : Wire) (out : Prints) : List Event → Result Ending Unflashed → Type 0
+-- this name, unless only the plan is wanted
+pub data EndsHeld (limits : Limits) (name : List ℕ) (job : Job) (begun done : Wire) (out : Printed) : List Event → Result Ending Unflashed → Type 0
   where
     -- what the chip held is saved, and then the work on it ended so
-    Ended : (r : Reading) (saved : List Event) (ending : Ending) → Saves name file.Before r.content.items saved (Ok tt)
-        → EndsTested limits job begun.sent done.sent begun.ahead done.ahead out.before out.after r ending → EndsHeld limits name job begun done out saved (Ok ending)
+    Ended : (r : Reading) (saved : List Event) (ending : Ending) → SavesIf (file_for job name) file.Before r.content.items saved (Ok tt)
+        → EndsTested limits job (wire_of begun) (wire_of done) out r ending → EndsHeld limits name job begun done out saved (Ok ending)
     -- the chip isn't read, or can't take the work
-    NotHeld : (why : Unflashed) → StopsHolding limits job begun.sent done.sent begun.ahead done.ahead why → out.after ≡ out.before
+    NotHeld : (why : Unflashed) → StopsHolding limits job (wire_of begun) (wire_of done) why → out.after ≡ out.before
         → EndsHeld limits name job begun done out [] (Err why)
     -- it was read, and nothing else was sent; what it holds can't be saved
-    NotSaved : (r : Reading) (saved : List Event) (why : Refusal) → HasHeld limits job begun.sent done.sent begun.ahead done.ahead r
-        → Saves name file.Before r.content.items saved (Err why) → out.after ≡ out.before → EndsHeld limits name job begun done out saved (Err (Refused why))
+    NotSaved : (r : Reading) (saved : List Event) (why : Refusal) → HasHeld limits job (wire_of begun) (wire_of done) r
+        → SavesIf (file_for job name) file.Before r.content.items saved (Err why) → out.after ≡ out.before → EndsHeld limits name job begun done out saved (Err (Refused why))
     -- that is saved, and nothing else was sent; the work can't be planned or printed
-    NotPlanned : (r : Reading) (saved : List Event) (why : Refusal) → HasHeld limits job begun.sent done.sent begun.ahead done.ahead r
-        → Saves name file.Before r.content.items saved (Ok tt) → CantPlan job r out.before out.after why
+    NotPlanned : (r : Reading) (saved : List Event) (why : Refusal) → HasHeld limits job (wire_of begun) (wire_of done) r
+        → SavesIf (file_for job name) file.Before r.content.items saved (Ok tt) → CantPlan job r out why
         → EndsHeld limits name job begun done out saved (Err (Refused why))
 
 -- from the handshake on, while its line goes from this to that
-pub data EndsGreeted (name : List ℕ) (job : Job) (first last : Wire) (out : Prints) : List Event → Result Ending Unflashed → Type 0 where
+pub data EndsGreeted (name : List ℕ) (job : Job) (first last : Wire) (out : Printed) : List Event → Result Ending Unflashed → Type 0 where
   -- the device reported these limits, and the job ended so; then the pins were let go, unless a request was cut
   Session : (limits : Limits) (begun done : Wire) (log : List Event) (answer : Result Ending Unflashed)
       → Greeted first.sent begun.sent first.ahead begun.ahead (Ok limits) → EndsHeld limits name job begun done out log answer
@@ -108,7 +105,7 @@ pub data EndsGreeted (name : List ℕ) (job : Job) (first last : Wire) (out : Pr
       → EndsGreeted name job first last out [] (Err (Device (Greet why)))
 
 -- of a job on the device of a name
-pub data EndsJob (device name : List ℕ) (job : Job) (out : Prints) : List Event → Result Ending Unflashed → Type 0 where
+pub data EndsJob (device name : List ℕ) (job : Job) (out : Printed) : List Event → Result Ending Unflashed → Type 0 where
   -- it has no fault that shows before its chip is read, and ended so on the device, which was closed
   OnDevice : (first last : Wire) (log : List Event) (answer : Result Ending Unflashed) → IsSoundEarly job → EndsGreeted name job first last out log answer
       → EndsJob device name job out (Wired device first ∷ (log ++ (Unwired device last ∷ []))) answer
@@ -119,7 +116,7 @@ pub data EndsJob (device name : List ℕ) (job : Job) (out : Prints) : List Even
       → EndsJob device name job out (Denied device ∷ []) (Err (Refused why))
 
 -- how `flash` ends, and what was done with files by then
-pub data EndsFlash (r : FlashRequest) (out : Prints) : List Event → Result Ending Unflashed → Type 0 where
+pub data EndsFlash (r : FlashRequest) (out : Printed) : List Event → Result Ending Unflashed → Type 0 where
   -- the files were read, and their job ended so
   Worked : (held : FlashTexts) (job : Job) (read work : List Event) (answer : Result Ending Unflashed) → ReadsFlash r held read → IsJobOf r held job
       → EndsJob r.read.device.now r.before.now job out work answer → EndsFlash r out (read ++ work) answer

@@ -8,6 +8,8 @@ use Rattle.norprog_common.specs.declared.faults.FileName.{FileName}
 use Rattle.norprog_common.specs.declared.faults.FileName.TheVariants as file
 use Rattle.norprog_common.specs.declared.faults.Refusal.{Refusal}
 use Rattle.norprog_common.specs.declared.request.Request.{Request}
+use Rattle.norprog_device.specs.Wire.{Wire, wire}
+use Rattle.norprog_files.specs.Files as files
 use Rattle.norprog_files.specs.Files.{Event, Given, Opened, StopsOpening}
 
 -- a file that an option names, where it does
@@ -56,3 +58,7 @@ pub data IsJobOf (r : Request) (t : Task) (content : Ahead) (len : ℕ) : List E
   Opens_job : (held : Held) (layout tables : List Event) → t ≡ task_by r held → Reads (option_map (λ t. t.now) r.layout) held.layout layout
       → ReadsTables (origin_of r.chip) held.sfdp tables
       → IsJobOf r t content len (Given r.hex.now held.hex ∷ (layout ++ (tables ++ (Opened r.content.now content len ∷ []))))
+
+-- the wire of a terminal, as it was opened or closed
+abbrev pub wire_of : files.Wire → Wire
+wire_of line = wire line.sent line.ahead

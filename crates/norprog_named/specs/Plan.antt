@@ -11,9 +11,11 @@ use Rattle.norprog_common.specs.Told.{Fails, Output}
 use Rattle.norprog_common.specs.declared.faults.FileName.TheVariants as file
 use Rattle.norprog_common.specs.declared.faults.Refusal.{Refusal}
 use Rattle.norprog_common.specs.declared.faults.Refusal.TheVariants.{Build}
+use Rattle.norprog_common.specs.declared.given.OutFile.{OutFile}
 use Rattle.norprog_common.specs.declared.given.PlanArgs.{PlanArgs}
 use Rattle.norprog_common.specs.declared.rules.ImageRules.{ImageRules}
 use Rattle.norprog_files.specs.Files.{Event, Leaves, Lost, Made, Sends, StopsOpening}
+use Rattle.norprog_files.specs.declared.replaced.OutKind.TheVariants as kind
 use Rattle.norprog_named.specs.Build.{Undone, Work, work}
 use Rattle.norprog_named.specs.Job.{IsJobOf, job_files, named_by}
 use Rattle.norprog_named.specs.declared.plan_files.MapFile.{MapFile}
@@ -32,31 +34,27 @@ pub record AsksPlan (given : PlanArgs) (request : PlanRequest) : Type 0 where
 abbrev pub shows_of : PlanRequest → Shows
 shows_of r = record { times = r.times; regions = r.regions; picture = is_some r.map }
 
--- the name of the picture's file, where one is named
-abbrev pub map_of : PlanRequest → Option (List ℕ)
-map_of r = option_map (λ t. t.now) r.map
-
--- it was made, where one is named
-pub data MakesMap {O : Type 0} (held : O → Option (List ℕ)) : Option (List ℕ) → Option (MapFile O) → List Event → Type 0 where
+-- the picture's file was made, where one is named
+pub data MakesMap {O : Type 0} (held : O → Option (List ℕ)) : Option OutFile → Option (MapFile O) → List Event → Type 0 where
   NoneMade : MakesMap held None None []
-  MapMade : (map : MapFile O) → MakesMap held (Some map.path.now) (Some map) (Made map.path.now (held map.file) ∷ [])
+  MapMade : (map : MapFile O) → MakesMap held (Some map.out) (Some map) (Made map.out kind.Picture (held map.file) ∷ [])
 
 -- this was done with it then, where one is named; else nothing was
-pub data WithMap (Done : List ℕ → List Event → Type 0) : Option (List ℕ) → List Event → Type 0 where
+pub data WithMap (Done : OutFile → List Event → Type 0) : Option OutFile → List Event → Type 0 where
   NoneNamed : WithMap Done None []
-  MapNamed : (path : List ℕ) (log : List Event) → Done path log → WithMap Done (Some path) log
+  MapNamed : (o : OutFile) (log : List Event) → Done o log → WithMap Done (Some o) log
 
 -- it was sent just the picture
-abbrev pub SendsMap : List ℕ → Option (List ℕ) → List Event → Type 0
-SendsMap picture = WithMap (λ path. Sends path picture)
+abbrev pub SendsMap : List ℕ → Option OutFile → List Event → Type 0
+SendsMap picture = WithMap (λ o. Sends o kind.Picture picture)
 
 -- it was left empty
-abbrev pub LeavesMap : Option (List ℕ) → List Event → Type 0
-LeavesMap = WithMap (λ path. Leaves path [])
+abbrev pub LeavesMap : Option OutFile → List Event → Type 0
+LeavesMap = WithMap (λ o. Leaves o kind.Picture [])
 
 -- one is named, and some of the picture hasn't gone out
-pub data LosesMap : Option (List ℕ) → List Event → Type 0 where
-  MapLost : (path : List ℕ) (begun ended : Option (List ℕ)) → LosesMap (Some path) (Made path begun ∷ Lost path ended ∷ [])
+pub data LosesMap : Option OutFile → List Event → Type 0 where
+  MapLost : (o : OutFile) (begun ended : Option (List ℕ)) → LosesMap (Some o) (Made o kind.Picture begun ∷ Lost o.path.now ended ∷ [])
 
 -- the files of a request's job were opened, and this tells its plan; its image keeps the rules
 pub record TellsJob (r : PlanRequest) (o : Outline) (job : List Event) : Type 0 where
@@ -74,19 +72,19 @@ Untold rules w = Undone rules w (StopsPlan w.task w.len w.content w.rest w.begun
 -- how `plan` ends, and what was done with files by then
 pub data EndsPlan (Unread : Type 0) (r : PlanRequest) (out : Output) : List Event → Result ℕ Refusal → Type 0 where
   -- the lines of the plan and what stands behind them were printed, and its picture went out
-  Told : (o : Outline) (job map : List Event) → TellsJob r o job → SendsMap o.picture (map_of r) map → Appends out.before out.after (o.lines ++ o.rest)
+  Told : (o : Outline) (job map : List Event) → TellsJob r o job → SendsMap o.picture r.map map → Appends out.before out.after (o.lines ++ o.rest)
       → EndsPlan Unread r out (job ++ map) (Ok 0)
   -- a file of the job can't be opened: nothing is printed
   NoInput : (log : List Event) (why : Refusal) → StopsOpening (job_files r.job) log why → out.after ≡ out.before → EndsPlan Unread r out log (Err why)
   -- the file of the picture can't be made: nothing is printed
   NoMap : (t : Task) (content : Ahead) (len : ℕ) (job map : List Event) (why : Refusal) → IsJobOf r.job t content len job
-      → StopsOpening (named_by file.Map (map_of r)) map why → out.after ≡ out.before → EndsPlan Unread r out (job ++ map) (Err why)
+      → StopsOpening (named_by file.Map (option_map (λ m. m.path.now) r.map)) map why → out.after ≡ out.before → EndsPlan Unread r out (job ++ map) (Err why)
   -- the plan isn't told, and the file of the picture is left empty
-  NotTold : (t : Task) (content rest : Ahead) (len : ℕ) (job map : List Event) (why : Refusal) → IsJobOf r.job t content len job → LeavesMap (map_of r) map
+  NotTold : (t : Task) (content rest : Ahead) (len : ℕ) (job map : List Event) (why : Refusal) → IsJobOf r.job t content len job → LeavesMap r.map map
       → Untold r.job.rules (work t len content rest out.before out.after) Unread (Fails out) why → EndsPlan Unread r out (job ++ map) (Err why)
   -- all lines were printed, and some of the picture hasn't gone out
-  Undrawn : (o : Outline) (job map : List Event) → TellsJob r o job → LosesMap (map_of r) map → Appends out.before out.after o.lines
+  Undrawn : (o : Outline) (job map : List Event) → TellsJob r o job → LosesMap r.map map → Appends out.before out.after o.lines
       → EndsPlan Unread r out (job ++ map) (Err (Build fault.Write))
   -- all lines were, the picture went out, and printing failed: a proper prefix of what stands behind the lines was printed
-  Unprinted : (o : Outline) (job map : List Event) (middle : Option (List ℕ)) → TellsJob r o job → SendsMap o.picture (map_of r) map → Appends out.before middle o.lines
+  Unprinted : (o : Outline) (job map : List Event) (middle : Option (List ℕ)) → TellsJob r o job → SendsMap o.picture r.map map → Appends out.before middle o.lines
       → Cuts middle out.after o.rest → Fails out → EndsPlan Unread r out (job ++ map) (Err (Build fault.Write))

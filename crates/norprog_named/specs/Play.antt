@@ -1,6 +1,5 @@
 -- How `play` ends (this project's).
 use Rattle.std.specs.Prelude.{◌≡◌, ℕ, List, [], ◌∷◌, ◌++◌, Result, Ok, Err}
-use Rattle.nor_base.specs.Device.{Ahead}
 use Rattle.nor_base.specs.Port.{Shown}
 use Rattle.nor_job.specs.Status.{start_of}
 use Rattle.nor_job.specs.Task.{Task}
@@ -14,10 +13,10 @@ use Rattle.norprog_common.specs.declared.faults.Refusal.TheVariants.{Build, File
 use Rattle.norprog_files.specs.Files.{Event, Denied, Denies, Opened, StopsOpening, Unwired, Wire, Wired}
 use Rattle.norprog_named.specs.Job.{ReadsTables, named_by, tables_of}
 use Rattle.norprog_player.specs.Early.{EndsInMemory, MayPlay}
-use Rattle.norprog_player.specs.Expected.{Expectation}
-use Rattle.norprog_player.specs.Job.{IsReady, RefusesJob}
+use Rattle.norprog_player.specs.Expected.{Expectation, Play}
+use Rattle.norprog_player.specs.Job.{IsReady, RefusesJob, Sources}
 use Rattle.norprog_player.specs.Moment.{Moment, moment}
-use Rattle.norprog_player.specs.Played.{EndsOnDevice, Play, StopsOnDevice, shown_in}
+use Rattle.norprog_player.specs.Played.{EndsOnDevice, StopsOnDevice, shown_in}
 use Rattle.norprog_player.specs.Tables as chip
 use Rattle.norprog_player.specs.declared.ending.Ending.{Ending}
 use Rattle.norprog_player.specs.declared.request.PlayRequest.{PlayRequest}
@@ -28,20 +27,10 @@ use Rattle.norprog_player.specs.declared.unplayed.Unplayed.TheVariants.{Refused}
 abbrev pub play_files : PlayRequest → List (FileName × List ℕ)
 play_files r = named_by file.Sfdp (tables_of (origin_of r.setup.chip)) ++ ((file.Content, r.content.now) ∷ (file.Script, r.script.now) ∷ [])
 
--- what a play is read from: the task that has the chip, what is ahead of the content's reader and how many bytes that has, what is ahead of
--- the script's, and what is ahead of both after they were read
-pub record Sources : Type 0 where
-  pub task : Task
-  pub content : Ahead
-  pub len : ℕ
-  pub script : Ahead
-  pub content_rest : Ahead
-  pub script_rest : Ahead
-
 -- those files were opened, and have this
 pub data Opens (r : PlayRequest) (s : Sources) : List Event → Type 0 where
   Opens_all : (tables : List ℕ) (len : ℕ) (log : List Event) → ReadsTables (origin_of r.setup.chip) tables log → s.task ≡ setup_task r.setup tables
-      → Opens r s (log ++ (Opened r.content.now s.content s.len ∷ Opened r.script.now s.script len ∷ []))
+      → Opens r s (log ++ (Opened r.content.now s.content.ahead s.len ∷ Opened r.script.now s.script.ahead len ∷ []))
 
 -- the chip that is expected of a request
 abbrev pub expects : PlayRequest → Task → Expectation
@@ -51,7 +40,7 @@ expects r t = record { part = t.part; start = start_of t; tables = chip.tables_o
 pub record IsPlayOf (r : PlayRequest) (p : Play) (log : List Event) : Type 0 where
   pub sources : Sources
   pub opens : Opens r sources log
-  pub ready : IsReady sources.task sources.script sources.script_rest sources.len sources.content sources.content_rest p.meaning p.steps p.content
+  pub ready : IsReady sources p.meaning p.steps p.content
   pub expected : p.expected ≡ expects r sources.task
   pub limit : p.limit ≡ r.limit
 
@@ -82,5 +71,5 @@ pub data EndsPlay (Unread : Type 0) (r : PlayRequest) : List Event → Result En
   NoInput : (log : List Event) (why : Refusal) → StopsOpening (play_files r) log why → EndsPlay Unread r log (Err (Refused why))
   -- the chip, the script or the content is refused: no device is opened
   NoPlay : (s : Sources) (log : List Event) (why : Refusal) → Opens r s log
-      → RefusesJob s.task s.script s.script_rest s.len s.content s.content_rest why → (why ≡ File file.Script → Unread) → (why ≡ Build Read → Unread)
+      → RefusesJob s why → (why ≡ File file.Script → Unread) → (why ≡ Build Read → Unread)
       → EndsPlay Unread r log (Err (Refused why))

@@ -4,7 +4,7 @@ use Rattle.norprog_common.specs.Chip.{origin_of}
 use Rattle.norprog_common.specs.declared.faults.FileName.TheVariants as file
 use Rattle.norprog_common.specs.declared.faults.Refusal.{Refusal}
 use Rattle.norprog_files.specs.Files.{Event, Denied, Denies, StopsOpening, Unwired, Wire, Wired}
-use Rattle.norprog_named.specs.Job.{ReadsNamed, chip_files}
+use Rattle.norprog_named.specs.Job.{ReadsNamed, chip_files, wire_of}
 use Rattle.norprog_named.specs.Saved.{SavesIf}
 use Rattle.norprog_read.specs.Opened.{HasReadOpened, StopsOpened}
 use Rattle.norprog_read.specs.Request.{IsAskOf}
@@ -17,12 +17,12 @@ use Rattle.norprog_read.specs.declared.request.ReadRequest.{ReadRequest}
 -- how the reading of the chip behind the device of this name ends
 pub data EndsReading (device : List ℕ) (ask : Ask) : List Event → Result Reading Unread → Type 0 where
   -- it was read so, and the device was closed
-  Read : (first last : Wire) (reading : Reading) → HasReadOpened first.sent last.sent first.ahead last.ahead ask reading
+  Read : (first last : Wire) (reading : Reading) → HasReadOpened (wire_of first) (wire_of last) ask reading
       → EndsReading device ask (Wired device first ∷ Unwired device last ∷ []) (Ok reading)
   -- the device can't be opened
   NoDevice : (why : Refusal) → Denies file.Device why → EndsReading device ask (Denied device ∷ []) (Err (Refused why))
   -- the device, the line or the chip stopped it, and the device was closed
-  Stopped : (first last : Wire) (why : Unread) → StopsOpened first.sent last.sent first.ahead last.ahead ask why
+  Stopped : (first last : Wire) (why : Unread) → StopsOpened (wire_of first) (wire_of last) ask why
       → EndsReading device ask (Wired device first ∷ Unwired device last ∷ []) (Err why)
 
 -- what a chip gave is saved so: its tables, and then its content, each where a name is given

@@ -10,6 +10,8 @@ use Rattle.norprog_common.specs.declared.faults.FileName.TheVariants as file
 use Rattle.norprog_common.specs.declared.faults.Refusal.{Refusal}
 use Rattle.norprog_common.specs.declared.faults.Refusal.TheVariants.{Build}
 use Rattle.norprog_files.specs.Files.{Event, Denied, Denies, Lost, Made, Opened, Sent, StopsOpening}
+use Rattle.norprog_common.specs.declared.given.OutFile.{OutFile}
+use Rattle.norprog_files.specs.declared.replaced.OutKind.TheVariants as kind
 use Rattle.norprog_named.specs.Job.{ReadsTables, named_by, tables_of}
 use Rattle.norprog_run.specs.Stream.{Blames, IsPlayed, Play, Unplayed}
 use Rattle.norprog_run.specs.declared.request.RunRequest.{RunRequest}
@@ -32,28 +34,24 @@ pub record IsPlayOf (r : RunRequest) (p : Play) (script : Ahead) (log : List Eve
   pub bench : p.bench ≡ r.bench
 
 -- the output, where one is named, was made, took what the play put, and was closed: all of that has gone out, or (`false`) some may not have
-pub data Closes (p : Play) : Option (List ℕ) → Bool → List Event → Type 0 where
+pub data Closes (p : Play) : Option OutFile → Bool → List Event → Type 0 where
   NoOut : Closes p None true []
-  OutSent : (path : List ℕ) → Closes p (Some path) true (Made path p.begun ∷ Sent path p.ended ∷ [])
-  OutLost : (path : List ℕ) → Closes p (Some path) false (Made path p.begun ∷ Lost path p.ended ∷ [])
-
--- the name of the output
-abbrev pub out_of : RunRequest → Option (List ℕ)
-out_of r = option_map (λ t. t.now) r.out
+  OutSent : (o : OutFile) → Closes p (Some o) true (Made o (kind.Content p.len) p.begun ∷ Sent o.path.now p.ended ∷ [])
+  OutLost : (o : OutFile) → Closes p (Some o) false (Made o (kind.Content p.len) p.begun ∷ Lost o.path.now p.ended ∷ [])
 
 -- how `run` ends, and what was done with files by then
 pub data EndsRun (Unread : Type 0) (r : RunRequest) : List Event → Result Verdict Refusal → Type 0 where
   -- the script that the file has was played, and the output, where one is named, was sent what the chip holds then
   Played : (p : Play) (script rest : Ahead) (read out : List Event) (verdict : Verdict) → IsPlayOf r p script read
-      → HadText script rest (IsPlayed p verdict) → Closes p (out_of r) true out → EndsRun Unread r (read ++ out) (Ok verdict)
+      → HadText script rest (IsPlayed p verdict) → Closes p r.out true out → EndsRun Unread r (read ++ out) (Ok verdict)
   -- a file that is read can't be opened
   NoInput : (log : List Event) (why : Refusal) → StopsOpening (run_files r) log why → EndsRun Unread r log (Err why)
   -- the output can't be made
-  NoOutput : (p : Play) (script : Ahead) (read : List Event) (path : List ℕ) (why : Refusal) → IsPlayOf r p script read → out_of r ≡ Some path
-      → Denies file.Out why → EndsRun Unread r (read ++ (Denied path ∷ [])) (Err why)
+  NoOutput : (p : Play) (script : Ahead) (read : List Event) (o : OutFile) (why : Refusal) → IsPlayOf r p script read → r.out ≡ Some o
+      → Denies file.Out why → EndsRun Unread r (read ++ (Denied o.path.now ∷ [])) (Err why)
   -- the script isn't played, or what the chip holds then isn't written, whatever came of the closing
   Refused : (p : Play) (script rest : Ahead) (read out : List Event) (sent : Bool) (why : Refusal) → IsPlayOf r p script read
-      → Unplayed p script rest why → Closes p (out_of r) sent out → Blames Unread Unread (sent ≡ false) why → EndsRun Unread r (read ++ out) (Err why)
+      → Unplayed p script rest why → Closes p r.out sent out → Blames Unread Unread (sent ≡ false) why → EndsRun Unread r (read ++ out) (Err why)
   -- some of what the chip holds hasn't gone out
   Unsent : (p : Play) (script rest : Ahead) (read out : List Event) (verdict : Verdict) → IsPlayOf r p script read
-      → HadText script rest (IsPlayed p verdict) → Closes p (out_of r) false out → EndsRun Unread r (read ++ out) (Err (Build fault.Write))
+      → HadText script rest (IsPlayed p verdict) → Closes p r.out false out → EndsRun Unread r (read ++ out) (Err (Build fault.Write))

@@ -9,6 +9,7 @@ use Rattle.norprog_common.specs.declared.faults.Refusal.{Refusal}
 use Rattle.norprog_common.specs.declared.faults.Refusal.TheVariants.{Build}
 use Rattle.norprog_common.specs.declared.setup.Setup.{Setup}
 use Rattle.norprog_files.specs.Files.{Event, Denied, Denies, Given, IsClosed, Lost, Made, Sent, StopsOpening}
+use Rattle.norprog_files.specs.declared.replaced.OutKind.TheVariants as kind
 use Rattle.norprog_named.specs.Job.{ReadsNamed, chip_files}
 use Rattle.norprog_script.specs.Written.{Source, WasWritten, RefusesLog, foreign, listed}
 use Rattle.norprog_script.specs.declared.request.ScriptRequest.{ScriptRequest}
@@ -38,16 +39,16 @@ pub data IsLogOf (r : ScriptRequest) (tables text : List ℕ) : List Event → T
 pub data EndsScript (r : ScriptRequest) : List Event → Result Tally Refusal → Type 0 where
   -- the output was sent the script of the log, and it has so many steps
   Written : (tables text : List ℕ) (read : List Event) (begun ended : Option (List ℕ)) (tally : Tally) → IsLogOf r tables text read
-      → WasWritten (source_of r tables) text begun ended tally → EndsScript r (read ++ (Made r.out.now begun ∷ Sent r.out.now ended ∷ [])) (Ok tally)
+      → WasWritten (source_of r tables) text begun ended tally → EndsScript r (read ++ (Made r.out kind.Script begun ∷ Sent r.out.path.now ended ∷ [])) (Ok tally)
   -- a file that is read can't be
   NoInput : (log : List Event) (why : Refusal) → StopsOpening (script_files r) log why → EndsScript r log (Err why)
   -- the output can't be made
   NoOutput : (tables text : List ℕ) (read : List Event) (why : Refusal) → IsLogOf r tables text read → Denies file.Out why
-      → EndsScript r (read ++ (Denied r.out.now ∷ [])) (Err why)
+      → EndsScript r (read ++ (Denied r.out.path.now ∷ [])) (Err why)
   -- the log has no script by the chip, the output failed, or memory ran out
   Refused : (tables text : List ℕ) (read : List Event) (begun ended : Option (List ℕ)) (last : Event) (why : Refusal) → IsLogOf r tables text read
-      → RefusesLog (source_of r tables) text begun ended why → IsClosed r.out.now ended last → (why ≡ Build fault.Write → last ≡ Lost r.out.now ended)
-      → EndsScript r (read ++ (Made r.out.now begun ∷ last ∷ [])) (Err why)
+      → RefusesLog (source_of r tables) text begun ended why → IsClosed r.out.path.now ended last → (why ≡ Build fault.Write → last ≡ Lost r.out.path.now ended)
+      → EndsScript r (read ++ (Made r.out kind.Script begun ∷ last ∷ [])) (Err why)
   -- some of the script hasn't gone out
   Unsent : (tables text : List ℕ) (read : List Event) (begun ended : Option (List ℕ)) (tally : Tally) → IsLogOf r tables text read
-      → WasWritten (source_of r tables) text begun ended tally → EndsScript r (read ++ (Made r.out.now begun ∷ Lost r.out.now ended ∷ [])) (Err (Build fault.Write))
+      → WasWritten (source_of r tables) text begun ended tally → EndsScript r (read ++ (Made r.out kind.Script begun ∷ Lost r.out.path.now ended ∷ [])) (Err (Build fault.Write))

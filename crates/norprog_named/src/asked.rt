@@ -66,10 +66,10 @@ pub fn build_asked<F: Files, O: ByteOut>(
     let Some(request) = job_of(given.job) else {
         return Err(Refusal::Usage);
     };
-    let Some(path) = given.out else {
+    let Some(out_file) = given.out else {
         return Err(Refusal::Usage);
     };
-    let report = build(alloc, files, trail, &request, path)?;
+    let report = build(alloc, files, trail, &request, out_file)?;
     match write_report(&report, out) {
         Ok(()) => Ok(0),
         Err(_) => Err(Refusal::WRITE),

@@ -9,7 +9,7 @@ ghost use Rattle.norprog_files.specs.Files.{Did};
 ghost use Rattle.norprog_named.specs.AskedDevice.{EndsPlayAsked, EndsReadAsked, Reported};
 ghost use Rattle.norprog_named.specs.AskedDevice.{EndsFlashAsked, ReportsFlash, SaysFlash};
 ghost use Rattle.norprog_named.specs.AskedDevice.{SaysPlay, SaysRead};
-ghost use Rattle.norprog_named.specs.Flash.{prints};
+ghost use Rattle.norprog_flash.specs.Begun.{printed as on_screen};
 
 use crate::flash_files::flash;
 use crate::play_files::play;
@@ -199,7 +199,7 @@ fn flash_given<F: Files, O: ByteOut, P: ByteOut>(
 ) -> Result<Flashed, Unflashed>
     requires { (O.count out.old < 2 ^ 64 - 1) × (P.count progress.old < 2 ^ 64 - 1) }
     ensures ends { Did (F.Trail.did trail.old) (F.Trail.did trail.new) (λ log. EndsFlashAsked
-        given.now (prints (O.held out.old) (O.held out.new)) log result) }
+        given.now (on_screen (O.held out.old) (O.held out.new)) log result) }
     ensures count { (O.count out.old ≤ O.count out.new)
         × (O.count out.new ≤ O.count out.old + 1) }
 {

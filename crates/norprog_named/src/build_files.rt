@@ -10,23 +10,23 @@ use crate::job::open_job;
 use nor_base::{ByteIn, ByteOut};
 use nor_job::Inputs;
 use norprog::Report;
-use norprog_common::{FileName, ImageRules, Refusal, Request, inputs_of, refuse_image};
-use norprog_files::{Files, Trail};
+use norprog_common::{ImageRules, OutFile, Refusal, Request, inputs_of, refuse_image};
+use norprog_files::{Files, OutKind, Trail};
 use std::alloc::Global;
 
-/// Builds the job of a request into the file of the name `out` (docs/FORMATS.md, section 9).
+/// Builds the job of a request into a file (docs/FORMATS.md, section 9).
 pub fn build<F: Files>(
     alloc: Global,
     files: &F,
     trail: &mut F::Trail,
     request: &Request<'_>,
-    out: &str,
+    out: OutFile<'_>,
 ) -> Result<Report, Refusal>
     ensures { Did (F.Trail.did trail.old) (F.Trail.did trail.new)
-        (λ log. EndsBuild (F.unread files.now) request.now out.now log result) }
+        (λ log. EndsBuild (F.unread files.now) request.now out.entry log result) }
 {
     let (texts, mut content, len) = open_job(alloc, files, trail, request)?;
-    let mut script = files.create(trail, alloc, out, FileName::Out)?;
+    let mut script = files.create(trail, alloc, out, OutKind::Script)?;
     let inputs = inputs_of(request, &texts);
     let built = built(
         alloc,
@@ -36,7 +36,7 @@ pub fn build<F: Files>(
         len,
         &mut script,
     );
-    let closed = files.close(trail, out, script);
+    let closed = files.close(trail, out.path, script);
     let report = built?;
     match closed {
         Ok(()) => Ok(report),

@@ -5,7 +5,7 @@ ghost use Rattle.norprog_named.specs.Draw.{EndsDraw};
 
 use norprog_common::{FileName, Refusal};
 use norprog_draw::{DrawRequest, draw_steps, steps_of};
-use norprog_files::{Files, Trail};
+use norprog_files::{Files, OutKind, Trail};
 use std::alloc::Global;
 
 /// Draws the steps of a script that are asked for (docs/FORMATS.md, section 9). Returns the status,
@@ -21,9 +21,9 @@ pub fn draw<F: Files>(
 {
     let script = files.read(trail, alloc, request.script, FileName::Script)?;
     let steps = steps_of(alloc, script.as_slice(), request.from)?;
-    let mut out = files.create(trail, alloc, request.out, FileName::Out)?;
+    let mut out = files.create(trail, alloc, request.out, OutKind::Waveform)?;
     let drawn = draw_steps(steps.as_slice(), request.from, request.count, &mut out);
-    let closed = files.close(trail, request.out, out);
+    let closed = files.close(trail, request.out.path, out);
     match drawn {
         Ok(()) => match closed {
             Ok(()) => Ok(0),

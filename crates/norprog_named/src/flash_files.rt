@@ -6,11 +6,13 @@ ghost use Rattle.norprog_device.specs.Blame.{is_cut};
 ghost use Rattle.norprog_files.specs.Files.{Did, wire};
 ghost use Rattle.norprog_flash.specs.Blame.{fault_in as told_in};
 ghost use Rattle.norprog_named.specs.Flash.{EndsFlash, EndsGreeted, EndsHeld, EndsJob, IsJobOf};
-ghost use Rattle.norprog_named.specs.Flash.{ReadsFlash, flash_files, prints, reading_of};
+ghost use Rattle.norprog_named.specs.Flash.{ReadsFlash, file_for, flash_files};
+ghost use Rattle.norprog_flash.specs.Begun.{printed};
+ghost use Rattle.norprog_named.specs.Flash.{reading_of};
 ghost use Rattle.norprog_named.specs.Job.{Reading};
 
 use crate::job::{read_chip, read_named};
-use crate::saved::save;
+use crate::saved::save_if;
 use nor_base::{ByteIn, ByteOut};
 use nor_serprog::{Limits, greet};
 use norprog_common::{FileName, Refusal};
@@ -32,8 +34,8 @@ pub(crate) struct FlashTexts {
 }
 
 /// Programs the chip behind a device (docs/FORMATS.md, sections 9 and 14): reads it, saves what it
-/// holds in a new file, plans, and does the work. The lines of the plan go to `out`, and how far
-/// the work is to `progress`; where that fails nothing changes.
+/// holds in a new file, unless only the plan is wanted, plans, and does the work. The plan goes to
+/// `out`, and how far the work is to `progress`; where that fails nothing changes.
 pub fn flash<F: Files, O: ByteOut, P: ByteOut>(
     alloc: Global,
     files: &F,
@@ -44,7 +46,7 @@ pub fn flash<F: Files, O: ByteOut, P: ByteOut>(
 ) -> Result<Ending, Unflashed>
     requires { (O.count out.old < 2 ^ 64 - 1) × (P.count progress.old < 2 ^ 64 - 1) }
     ensures ends { Did (F.Trail.did trail.old) (F.Trail.did trail.new) (λ log. EndsFlash
-        request.now (prints (O.held out.old) (O.held out.new)) log result) }
+        request.now (printed (O.held out.old) (O.held out.new)) log result) }
     ensures count { (O.count out.old ≤ O.count out.new)
         × (O.count out.new ≤ O.count out.old + 1)
         × IfOk result (λ _. O.count out.new ≡ O.count out.old) }
@@ -137,7 +139,8 @@ fn bytes_in(bytes: &Option<Vec<u8>>) -> Option<&[u8]>
 }
 
 /// Does a job on the chip behind the device of this name, which is opened only where the job has no
-/// fault that shows before. What the chip holds is saved in the file of the name `before`.
+/// fault that shows before. What the chip holds is saved in the file of the name `before`, unless
+/// only the plan is wanted.
 fn flash_job<F: Files, O: ByteOut, P: ByteOut>(
     alloc: Global,
     files: &F,
@@ -151,7 +154,7 @@ fn flash_job<F: Files, O: ByteOut, P: ByteOut>(
     requires whole { job.now.ask.content ≡ true }
     requires room { (O.count out.old < 2 ^ 64 - 1) × (P.count progress.old < 2 ^ 64 - 1) }
     ensures ends { Did (F.Trail.did trail.old) (F.Trail.did trail.new) (λ log. EndsJob device.now
-        before.now job.now (prints (O.held out.old) (O.held out.new)) log result) }
+        before.now job.now (printed (O.held out.old) (O.held out.new)) log result) }
     ensures count { (O.count out.old ≤ O.count out.new)
         × (O.count out.new ≤ O.count out.old + 1)
         × IfOk result (λ _. O.count out.new ≡ O.count out.old) }
@@ -184,7 +187,7 @@ fn flash_greeted<F: Files, O: ByteOut, P: ByteOut>(
     ensures ends { Did (F.Trail.did trail.old) (F.Trail.did trail.new) (λ log. EndsGreeted
         before.now job.now (wire (F.ToDevice.held to.old) (F.FromDevice.ahead from.old))
         (wire (F.ToDevice.held to.new) (F.FromDevice.ahead from.new))
-        (prints (O.held out.old) (O.held out.new)) log result) }
+        (printed (O.held out.old) (O.held out.new)) log result) }
     ensures count { (O.count out.old ≤ O.count out.new)
         × (O.count out.new ≤ O.count out.old + 1)
         × IfOk result (λ _. O.count out.new ≡ O.count out.old) }
@@ -208,6 +211,13 @@ fn frees_pins(limits: &Limits, ended: &Result<Ending, Unflashed>) -> bool
     limits.pins && !is_cut(fault_in(ended))
 }
 
+/// Where what the chip holds is saved: nowhere where only the plan is wanted.
+fn file_for<'a>(job: &Job<'_>, before: &'a str) -> Option<&'a str>
+    ensures { option_map (λ t. t.now) result ≡ file_for job.now before.entry.now }
+{
+    if job.dry { None } else { Some(before) }
+}
+
 /// Reads the chip of a device, saves what it holds in a new file, and then has the work done.
 fn flash_held<F: Files, O: ByteOut, P: ByteOut>(
     alloc: Global,
@@ -228,7 +238,7 @@ fn flash_held<F: Files, O: ByteOut, P: ByteOut>(
     ensures ends { Did (F.Trail.did trail.old) (F.Trail.did trail.new) (λ log. EndsHeld limits.now
         before.now job.now (wire (F.ToDevice.held to.old) (F.FromDevice.ahead from.old))
         (wire (F.ToDevice.held to.new) (F.FromDevice.ahead from.new))
-        (prints (O.held out.old) (O.held out.new)) log result) }
+        (printed (O.held out.old) (O.held out.new)) log result) }
     ensures count { (O.count out.old ≤ O.count out.new)
         × (O.count out.new ≤ O.count out.old + 1)
         × IfOk result (λ _. O.count out.new ≡ O.count out.old) }
@@ -237,7 +247,8 @@ fn flash_held<F: Files, O: ByteOut, P: ByteOut>(
 {
     let held = hold(alloc, from, to, limits, job)?;
     let content = held.reading.content.as_slice();
-    save(alloc, files, trail, before, FileName::Before, content)?;
+    let path = file_for(job, before);
+    save_if(alloc, files, trail, path, FileName::Before, content)?;
     match go_on(alloc, from, to, limits, job, &held, out, progress) {
         Ok(ending) => Ok(ending),
         Err(refusal) => Err(Unflashed::Refused(refusal)),

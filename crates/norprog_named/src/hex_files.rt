@@ -7,7 +7,7 @@ ghost use Rattle.norprog_named.specs.Hex.{EndsHex, refusal_of as told_of};
 use crate::hex_request::HexRequest;
 use nor_hex_out::{Unconverted, convert, fits};
 use norprog_common::{FileName, Refusal};
-use norprog_files::{Files, Trail};
+use norprog_files::{Files, OutKind, Trail};
 use std::alloc::Global;
 
 /// Writes a raw image as Intel HEX (docs/FORMATS.md, section 9). Returns the status, 0.
@@ -24,9 +24,9 @@ pub fn hex<F: Files>(
     if !fits(len, request.at) {
         return Err(Refusal::BinSize);
     }
-    let mut out = files.create(trail, alloc, request.out, FileName::Out)?;
+    let mut out = files.create(trail, alloc, request.out, OutKind::Hex)?;
     let converted = convert(alloc, &mut bin, len, request.at, &mut out);
-    let closed = files.close(trail, request.out, out);
+    let closed = files.close(trail, request.out.path, out);
     match converted {
         Ok(()) => match closed {
             Ok(()) => Ok(0),

@@ -3,7 +3,7 @@
 ghost use Rattle.std.specs.Prelude.{◌≡◌, is_some, option_map, IfSome};
 ghost use Rattle.norprog_named.specs.HexRequest.{said_address, is_well_formed, AsksFor};
 
-use norprog_common::{HexArgs, base};
+use norprog_common::{HexArgs, OutFile, base};
 
 /// What `hex` is asked for: each value is of its form.
 #[derive(Clone, Copy)]
@@ -11,7 +11,7 @@ pub struct HexRequest<'a> {
     pub bin: &'a str,
     /// The address of the first byte.
     pub at: u32,
-    pub out: &'a str,
+    pub out: OutFile<'a>,
 }
 
 /// The request that the values spell. None where one isn't there, or isn't of its form.

@@ -7,6 +7,7 @@ ghost use Rattle.nor_base.specs.Device.{HaveRoom};
 ghost use Rattle.norprog_common.specs.Request.{is_well_formed};
 ghost use Rattle.norprog_common.specs.Rules.{MeetsRules};
 ghost use Rattle.norprog_common.specs.declared.faults.FileName.TheVariants.{Map};
+ghost use Rattle.norprog_common.specs.declared.given.OutFile.{OutFile};
 ghost use Rattle.norprog_files.specs.Files.{Did, Event};
 ghost use Rattle.norprog_named.specs.Build.{work};
 ghost use Rattle.norprog_named.specs.Job.{Reading, named_by};
@@ -19,10 +20,10 @@ use crate::job::open_job;
 use nor_base::{ByteIn, ByteOut, Failed, put_all};
 use nor_job::Inputs;
 use norprog_common::{
-    FileName, PlanArgs, Refusal, Request, inputs_of, refuse_image, request_of as job_of,
+    OutFile, PlanArgs, Refusal, Request, inputs_of, refuse_image, request_of as job_of,
 };
-use norprog_files::{Files, Trail};
-use norprog_plan::{Shows, Told, tell};
+use norprog_files::{Files, OutKind, Trail};
+use norprog_plan::{Shows, Title, Told, tell};
 use std::alloc::Global;
 
 /// What `plan` is asked for.
@@ -34,7 +35,7 @@ pub struct PlanRequest<'a> {
     /// So is what the image gives each chosen region.
     pub regions: bool,
     /// The file of the picture, where one is asked for.
-    pub map: Option<&'a str>,
+    pub map: Option<OutFile<'a>>,
 }
 
 /// The request that the values of a command line spell. None where one isn't of its form.
@@ -52,7 +53,7 @@ pub(crate) fn plan_of<'a>(given: PlanArgs<'a>) -> Option<PlanRequest<'a>>
 
 /// The file of a picture.
 struct MapFile<'a, O> {
-    path: &'a str,
+    out: OutFile<'a>,
     file: O,
 }
 
@@ -96,17 +97,17 @@ fn make_map<'a, F: Files>(
     alloc: Global,
     files: &F,
     trail: &mut F::Trail,
-    path: Option<&'a str>,
+    named: Option<OutFile<'a>>,
 ) -> Result<Option<MapFile<'a, F::Output>>, Refusal>
     ensures did { Did (F.Trail.did trail.old) (F.Trail.did trail.new)
-        (Reading (named_by Map (option_map (λ t. t.now) path.entry))
-        (MakesMap F.Output.held (option_map (λ t. t.now) path.entry)) result) }
+        (Reading (named_by Map (option_map (λ o. o.path.now) named.entry))
+        (MakesMap F.Output.held named.entry) result) }
     ensures unfailed { IfOk result (λ map. IfSome map (λ map. F.Output.count map.file ≡ 0)) }
 {
-    match path {
-        Some(path) => Ok(Some(MapFile {
-            path,
-            file: files.create(trail, alloc, path, FileName::Map)?,
+    match named {
+        Some(out) => Ok(Some(MapFile {
+            out,
+            file: files.create(trail, alloc, out, OutKind::Picture)?,
         })),
         None => Ok(None),
     }
@@ -138,21 +139,36 @@ fn print_lines<R: ByteIn, O: ByteOut>(
         regions: request.regions,
         picture: request.map.is_some(),
     };
-    match tell(alloc, inputs, content, len, shows, out) {
+    let title = title_of(&request.job);
+    match tell(alloc, inputs, content, len, shows, &title, out) {
         Ok(told) => Ok(told),
         Err(fault) => Err(Refusal::Build(fault)),
     }
 }
 
+/// What a picture is of, as it was typed.
+fn title_of<'a>(job: &'a Request<'_>) -> Title<'a> {
+    let layout: &[u8] = match job.layout {
+        Some(layout) => layout.as_bytes(),
+        None => b"",
+    };
+    Title {
+        image: job.hex.as_bytes(),
+        content: job.content.as_bytes(),
+        layout,
+        regions: job.regions.as_slice(),
+    }
+}
+
 /// Closes the file of a picture that isn't drawn, if there is one.
 fn leave_map<F: Files>(files: &F, trail: &mut F::Trail, map: Option<MapFile<'_, F::Output>>)
-    ensures { (path : Option (List ℕ)) (made : List Event)
-        → MakesMap F.Output.held path map.entry made
+    ensures { (named : Option OutFile) (made : List Event)
+        → MakesMap F.Output.held named map.entry made
         → Did (F.Trail.did trail.old) (F.Trail.did trail.new)
-        (λ log. LeavesMap path (made ++ log)) }
+        (λ log. LeavesMap named (made ++ log)) }
 {
-    if let Some(MapFile { path, file }) = map {
-        let _ = files.close(trail, path, file);
+    if let Some(MapFile { out, file }) = map {
+        let _ = files.close(trail, out.path, file);
     }
 }
 
@@ -165,16 +181,16 @@ fn send_map<F: Files>(
     picture: &[u8],
 ) -> Result<(), Failed>
     requires { IfSome map (λ map. F.Output.count map.file ≡ 0) }
-    ensures { (path : Option (List ℕ)) (made : List Event)
-        → MakesMap F.Output.held path map.entry made
+    ensures { (named : Option OutFile) (made : List Event)
+        → MakesMap F.Output.held named map.entry made
         → Did (F.Trail.did trail.old) (F.Trail.did trail.new) (λ log. MatchResult result
-        (λ _. SendsMap picture.now path (made ++ log)) (λ _. LosesMap path (made ++ log))) }
+        (λ _. SendsMap picture.now named (made ++ log)) (λ _. LosesMap named (made ++ log))) }
 {
-    let Some(MapFile { path, mut file }) = map else {
+    let Some(MapFile { out, mut file }) = map else {
         return Ok(());
     };
     let put = put_all(&mut file, picture);
-    let closed = files.close(trail, path, file);
+    let closed = files.close(trail, out.path, file);
     put?;
     closed
 }

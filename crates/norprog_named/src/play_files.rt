@@ -4,8 +4,7 @@ ghost use Rattle.std.specs.Prelude.{◌≡◌, ◌<◌, ◌-◌, ◌^◌, length
 ghost use Rattle.nor_base.specs.Chip.{IsPossible};
 ghost use Rattle.norprog_files.specs.Files.{Did};
 ghost use Rattle.norprog_named.specs.Play.{EndsPlay, EndsPlaying};
-ghost use Rattle.norprog_player.specs.Expected.{expectation_of};
-ghost use Rattle.norprog_player.specs.Played.{play_of};
+ghost use Rattle.norprog_player.specs.Expected.{expectation_of, play_of};
 
 use crate::job::read_tables;
 use nor_base::ByteOut;

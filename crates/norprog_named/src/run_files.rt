@@ -8,7 +8,7 @@ ghost use Rattle.norprog_named.specs.Run.{EndsRun, OpensPlay, run_files};
 use crate::job::read_tables;
 use nor_base::Nowhere;
 use norprog_common::{FileName, Refusal, setup_inputs};
-use norprog_files::{Files, Trail};
+use norprog_files::{Files, OutKind, Trail};
 use norprog_run::{RunRequest, Verdict, play_stream};
 use std::alloc::Global;
 
@@ -27,7 +27,7 @@ pub(crate) fn run<F: Files>(
     let (tables, mut content, len, mut script) = open_play(alloc, files, trail, &request)?;
     let inputs = setup_inputs(request.setup, tables.as_slice());
     let bench = request.bench;
-    let Some(path) = request.out else {
+    let Some(file) = request.out else {
         return play_stream(
             alloc,
             &inputs,
@@ -38,7 +38,7 @@ pub(crate) fn run<F: Files>(
             &mut Nowhere,
         );
     };
-    let mut out = files.create(trail, alloc, path, FileName::Out)?;
+    let mut out = files.create(trail, alloc, file, OutKind::Content(len))?;
     let played = play_stream(
         alloc,
         &inputs,
@@ -48,7 +48,7 @@ pub(crate) fn run<F: Files>(
         len,
         &mut out,
     );
-    let closed = files.close(trail, path, out);
+    let closed = files.close(trail, file.path, out);
     let verdict = played?;
     match closed {
         Ok(()) => Ok(verdict),

@@ -13,7 +13,7 @@ ghost use Rattle.norprog_script.specs.Written.{RefusesLog, WasWritten};
 use crate::job::read_chip;
 use nor_base::ByteOut;
 use norprog_common::{Chip, FileName, Refusal, Setup, setup_inputs};
-use norprog_files::{Files, Trail};
+use norprog_files::{Files, OutKind, Trail};
 use norprog_script::{ScriptRequest, Tally, script_listing, script_log};
 use std::alloc::Global;
 
@@ -29,9 +29,9 @@ pub fn script<F: Files>(
         (λ log. EndsScript request.entry log result) }
 {
     let (tables, text) = read_log(alloc, files, trail, request)?;
-    let mut out = files.create(trail, alloc, request.out, FileName::Out)?;
+    let mut out = files.create(trail, alloc, request.out, OutKind::Script)?;
     let written = write_log(alloc, request, tables.as_slice(), text.as_slice(), &mut out);
-    let closed = files.close(trail, request.out, out);
+    let closed = files.close(trail, request.out.path, out);
     let tally = written?;
     match closed {
         Ok(()) => Ok(tally),

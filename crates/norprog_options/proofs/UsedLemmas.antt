@@ -28,9 +28,6 @@ used_by m name rows e f = paired _ _ (out-ArgMatches m).subcommand name rows e f
 first_same : (one other : Found) (name : Text) → rows_of one ≡ rows_of other → first_value one name ≡ first_value other name
 first_same one other name e = first_value-rows one name ∙ ap (first_of name) e ∙ sym (first_value-rows other name)
 
-one_same : (one other : Found) (name : Text) → rows_of one ≡ rows_of other → one_text one name ≡ one_text other name
-one_same one other name e = one_text-rows one name ∙ ap (one_of name) e ∙ sym (one_text-rows other name)
-
 texts_same : (one other : Found) (name : Text) → rows_of one ≡ rows_of other → texts_of one name ≡ texts_of other name
 texts_same one other name e =
     ap (λ o. unwrap_or o []) (raw_values-rows one name ∙ ap (all_of name) e ∙ sym (raw_values-rows other name))
@@ -49,21 +46,7 @@ line_same command one other (Some line) e is = record {
   regions = is.regions ∙ texts_same one other (codes "names") e;
 }
 
-set_same : (one other : Found) (name : Text) (flag : Bool) → rows_of one ≡ rows_of other → Sets one name flag → Sets other name flag
-set_same one other name flag e is = record {
-  used = λ h. is.used (one_same one other name e ∙ h);
-  unused = λ h. is.unused (one_same one other name e ∙ h);
-  absent = λ h. is.absent (one_same one other name e ∙ h);
-}
-
-details_same : (command : Text) (one other : Found) (details : Option TypedLine) → rows_of one ≡ rows_of other
-    → IsDetailedBy command one details → IsDetailedBy command other details
-details_same command one other details e is = record {
-  asked = set_same one other (codes "details") (is_some details) e is.asked;
-  line = line_same command one other details e is.line;
-}
-
--- ---- with --details
+-- ---- where more is to be said
 
 pub of_some : (one other : Text × List Row) → Some one ≡ Some other → one ≡ other
 of_some one other e = cc
@@ -74,7 +57,7 @@ pub detailed : (m : ArgMatches) (name : Text) (found : Found) (details : Option 
     → IsDetailedBy name found details → IsDetailed m details
 detailed m name found details named rows is command other e =
     let both = of_some (name, rows_of found) (command, rows_of other) (sym (used_by m name (rows_of found) (sym named) (sym rows)) ∙ e) in
-    subst (λ n. IsDetailedBy n other details) (ap (λ (used : Text × List Row). used.0) both) (details_same name found other details (ap (λ (used : Text × List Row). used.1) both) is)
+    subst (λ n. IsDetailedBy n other details) (ap (λ (used : Text × List Row). used.0) both) (line_same name found other details (ap (λ (used : Text × List Row). used.1) both) is)
 
 unnamed : {S : Type 0} (name : S → Text) (rows : S → List Row) (o : Option S) (n : Text) (r : List Row)
     → None ≡ option_map name o → option_map {U = Text × List Row} (λ s. (name s, rows s)) o ≡ Some (n, r) → ⊥

@@ -1,5 +1,6 @@
 -- Which option's text goes to which value (this project's).
-use Rattle.std.specs.Prelude.{◌≡◌, ℕ, Bool, true, false, List, [], Option, Some, None, option_map, unwrap_or, codes}
+use Rattle.std.specs.Prelude.{◌≡◌, ℕ, Bool, true, false, List, [], ◌∷◌, Option, Some, None, IfSome, option_map, unwrap_or, codes}
+use Rattle.std.specs.Str.{bytes_eq}
 use Rattle.clap.specs.Words.{first_value, matched_of, one_text, raw_values, rows_of, subcommand_rows_of}
 use Rattle.clap.specs.declared.parser.matches.ArgMatches.{ArgMatches}
 use Rattle.clap.specs.declared.parser.matches.Found.{Found}
@@ -11,6 +12,7 @@ use Rattle.norprog_common.specs.declared.given.DrawArgs.{DrawArgs}
 use Rattle.norprog_common.specs.declared.given.FlashArgs.{FlashArgs}
 use Rattle.norprog_common.specs.declared.given.HexArgs.{HexArgs}
 use Rattle.norprog_common.specs.declared.given.ListArgs.{ListArgs}
+use Rattle.norprog_common.specs.declared.given.OutFile.{OutFile}
 use Rattle.norprog_common.specs.declared.given.PlanArgs.{PlanArgs}
 use Rattle.norprog_common.specs.declared.given.PlayArgs.{PlayArgs}
 use Rattle.norprog_common.specs.declared.given.ReadArgs.{ReadArgs}
@@ -28,11 +30,21 @@ Has found name text = text ≡ first_value found name
 abbrev pub texts_of : Found → List ℕ → List (List ℕ)
 texts_of found name = unwrap_or (option_map raw_values (matched_of found name)) []
 
+-- `explain` is asked about `help` and another word
+abbrev pub asks_help : List (List ℕ) → Bool
+asks_help (first ∷ other ∷ []) = bytes_eq first (codes "help")
+asks_help words = false
+
 -- a flag is set where its option is used, and isn't where it isn't
 pub record Sets (found : Found) (name : List ℕ) (flag : Bool) : Type 0 where
   pub used : one_text found name ≡ Some (codes "true") → flag ≡ true
   pub unused : one_text found name ≡ Some (codes "false") → flag ≡ false
   pub absent : one_text found name ≡ None → flag ≡ false
+
+-- the file of this option is to be made; `force` says that it may be written over
+pub record IsOutIn (found : Found) (name : List ℕ) (out : Option OutFile) : Type 0 where
+  pub path : Has found name (option_map (λ o. o.path.now) out)
+  pub force : IfSome out (λ o. Sets found (codes "force") o.force)
 
 pub record IsChipIn (found : Found) (given : ChipArgs) : Type 0 where
   pub sfdp : Has found (codes "sfdp") (option_map (λ t. t.now) given.sfdp)
@@ -73,7 +85,7 @@ pub record IsRunIn (found : Found) (given : RunArgs) : Type 0 where
   pub each_busy : Has found (codes "each-busy") (option_map (λ t. t.now) given.each_busy)
   pub limit : Has found (codes "limit") (option_map (λ t. t.now) given.limit)
   pub page : Has found (codes "page") (option_map (λ t. t.now) given.page)
-  pub out : Has found (codes "out") (option_map (λ t. t.now) given.out)
+  pub out : IsOutIn found (codes "out") given.out
   pub keep : Sets found (codes "keep") given.keep
 
 pub record IsListIn (found : Found) (given : ListArgs) : Type 0 where
@@ -84,18 +96,18 @@ pub record IsDrawIn (found : Found) (given : DrawArgs) : Type 0 where
   pub script : Has found (codes "script") (option_map (λ t. t.now) given.script)
   pub from : Has found (codes "from") (option_map (λ t. t.now) given.from)
   pub steps : Has found (codes "steps") (option_map (λ t. t.now) given.steps)
-  pub out : Has found (codes "out") (option_map (λ t. t.now) given.out)
+  pub out : IsOutIn found (codes "out") given.out
 
 pub record IsHexIn (found : Found) (given : HexArgs) : Type 0 where
   pub bin : Has found (codes "bin") (option_map (λ t. t.now) given.bin)
   pub at : Has found (codes "at") (option_map (λ t. t.now) given.at)
-  pub out : Has found (codes "out") (option_map (λ t. t.now) given.out)
+  pub out : IsOutIn found (codes "out") given.out
 
 pub record IsScriptIn (found : Found) (given : ScriptArgs) : Type 0 where
   pub setup : IsSetupIn found given.setup
   pub log : Has found (codes "log") (option_map (λ t. t.now) given.log)
   pub without : Sets found (codes "without-identity") given.without_identity
-  pub out : Has found (codes "out") (option_map (λ t. t.now) given.out)
+  pub out : IsOutIn found (codes "out") given.out
 
 pub record IsPlayIn (found : Found) (given : PlayArgs) : Type 0 where
   pub setup : IsSetupIn found given.setup
@@ -133,6 +145,7 @@ pub record IsFlashIn (found : Found) (given : FlashArgs) : Type 0 where
   pub partial : Sets found (codes "partial") given.partial
   pub beyond : Sets found (codes "beyond") given.beyond
   pub dry_run : Sets found (codes "dry-run") given.dry_run
+  pub list : Sets found (codes "list") given.list
   pub raw : Sets found (codes "raw") given.raw
   pub fresh : Sets found (codes "fresh") given.fresh
   pub any_size : Sets found (codes "any-size") given.any_size
@@ -142,13 +155,13 @@ pub record IsFlashIn (found : Found) (given : FlashArgs) : Type 0 where
 
 pub record IsBuildIn (found : Found) (given : BuildArgs) : Type 0 where
   pub job : IsJobIn found given.job
-  pub out : Has found (codes "out") (option_map (λ t. t.now) given.out)
+  pub out : IsOutIn found (codes "out") given.out
 
 pub record IsPlanIn (found : Found) (given : PlanArgs) : Type 0 where
   pub job : IsJobIn found given.job
   pub times : Sets found (codes "times") given.times
   pub regions : Sets found (codes "regions") given.regions
-  pub map : Has found (codes "map") (option_map (λ t. t.now) given.map)
+  pub map : IsOutIn found (codes "map") given.map
 
 pub record IsCheckIn (found : Found) (given : CheckArgs) : Type 0 where
   pub job : IsJobIn found given.job
@@ -170,6 +183,7 @@ name_of (command.Sfdp given) = codes "sfdp"
 name_of (command.Hex given) = codes "hex"
 name_of (command.Script given) = codes "script"
 name_of (command.Explain words) = codes "explain"
+name_of (command.Help text) = codes "explain"
 
 -- each value of what is asked for is that of the option of its name
 abbrev pub IsAskedIn : Found → Asked → Type 0
@@ -186,6 +200,7 @@ IsAskedIn found (command.Sfdp given) = IsChipIn found given
 IsAskedIn found (command.Hex given) = IsHexIn found given
 IsAskedIn found (command.Script given) = IsScriptIn found given
 IsAskedIn found (command.Explain words) = words.items ≡ texts_of found (codes "words")
+IsAskedIn found (command.Help text) = asks_help (texts_of found (codes "words")) ≡ true
 
 -- what is asked for is the command that was used, each value by the option of its name
 pub record IsAsked (matches : ArgMatches) (asked : Asked) : Type 0 where

@@ -60,21 +60,21 @@ script = needed (codes "script") ∷ []
 
 -- whether a refusal has more lines
 abbrev pub details : List Rule
-details = flag (codes "details") ∷ []
+details = flag (codes "details") ∷ flag (codes "plain") ∷ []
 
 -- the commands, each by its name with its options
 abbrev pub commands : List (Text × List Rule)
 commands =
-    (codes "build", image ++ chip ++ content ++ start ++ verify ++ flag (codes "strict") ∷ flag (codes "whole") ∷ needed (codes "out") ∷ details)
+    (codes "build", image ++ chip ++ content ++ start ++ verify ++ flag (codes "strict") ∷ flag (codes "whole") ∷ needed (codes "out") ∷ flag (codes "force") ∷ details)
     ∷ (
       codes "plan",
       image ++ chip ++ content ++ start ++ verify ++ flag (codes "strict") ∷ flag (codes "whole") ∷ flag (codes "times") ∷ flag (codes "regions")
-          ∷ optional (codes "map") ∷ details,
+          ∷ optional (codes "map") ∷ flag (codes "force") ∷ details,
     )
     ∷ (codes "check", image ++ chip ++ content ++ start ++ script ++ flag (codes "strict") ∷ flag (codes "whole") ∷ flag (codes "witness") ∷ details)
-    ∷ (codes "run", chip ++ content ++ start ++ script ++ behaviour ++ optional (codes "out") ∷ details)
+    ∷ (codes "run", chip ++ content ++ start ++ script ++ behaviour ++ optional (codes "out") ∷ flag (codes "force") ∷ details)
     ∷ (codes "list", chip ++ start ++ script ++ details)
-    ∷ (codes "draw", script ++ optional (codes "from") ∷ optional (codes "steps") ∷ needed (codes "out") ∷ details)
+    ∷ (codes "draw", script ++ optional (codes "from") ∷ optional (codes "steps") ∷ needed (codes "out") ∷ flag (codes "force") ∷ details)
     ∷ (codes "play", chip ++ content ++ start ++ script ++ needed (codes "device") ∷ optional (codes "limit") ∷ flag (codes "trust") ∷ details)
     ∷ (
       codes "read",
@@ -85,11 +85,11 @@ commands =
       codes "flash",
       image ++ chip ++ flag (codes "mode4") ∷ flag (codes "erased-only") ∷ flag (codes "strict") ∷ flag (codes "partial") ∷ flag (codes "beyond") ∷ needed (codes "device")
           ∷ optional (codes "limit") ∷ flag (codes "raw") ∷ flag (codes "fresh") ∷ flag (codes "any-size") ∷ flag (codes "repeats")
-          ∷ optional (codes "expect-id") ∷ needed (codes "before") ∷ optional (codes "resume") ∷ flag (codes "dry-run") ∷ details,
+          ∷ optional (codes "expect-id") ∷ needed (codes "before") ∷ optional (codes "resume") ∷ flag (codes "dry-run") ∷ flag (codes "list") ∷ details,
     )
     ∷ (codes "sfdp", chip ++ details)
-    ∷ (codes "hex", needed (codes "bin") ∷ needed (codes "at") ∷ needed (codes "out") ∷ details)
-    ∷ (codes "script", chip ++ start ++ needed (codes "log") ∷ flag (codes "without-identity") ∷ needed (codes "out") ∷ details)
+    ∷ (codes "hex", needed (codes "bin") ∷ needed (codes "at") ∷ needed (codes "out") ∷ flag (codes "force") ∷ details)
+    ∷ (codes "script", chip ++ start ++ needed (codes "log") ∷ flag (codes "without-identity") ∷ needed (codes "out") ∷ flag (codes "force") ∷ details)
     ∷ (codes "explain", words (codes "words") ∷ [])
     ∷ []
 

@@ -1,12 +1,12 @@
 -- The options with values as they stand on a command line (this project's).
-use Rattle.std.specs.Prelude.{◌≡◌, ℕ, List, [], ◌∷◌, flat_map, map, codes, Option, Some, None, is_some, IfSome}
+use Rattle.std.specs.Prelude.{◌≡◌, ℕ, List, [], ◌∷◌, flat_map, map, codes, Option, Some, None, IfSome}
 use Rattle.clap.specs.Words.{first_value, rows_of, subcommand_rows_of}
 use Rattle.clap.specs.declared.parser.matches.ArgMatches.{ArgMatches}
 use Rattle.clap.specs.declared.parser.matches.Found.{Found}
 use Rattle.norprog_details.specs.declared.typed.CommandLine.{CommandLine}
 use Rattle.norprog_options.specs.declared.typed.TypedLine.{TypedLine}
 use Rattle.norprog_options.specs.declared.typed.TheConstants.{NAMES}
-use Rattle.norprog_options.specs.Options.{Sets, texts_of}
+use Rattle.norprog_options.specs.Options.{texts_of}
 
 -- an option by its name with its value, if it has one
 abbrev pub with_value : List ℕ → Option (List ℕ) → List (List ℕ × List ℕ)
@@ -37,10 +37,9 @@ pub record IsLineOf (line : TypedLine) (handed : CommandLine) : Type 0 where
   pub typed : handed.typed.now ≡ line.typed.items
   pub regions : handed.regions.now ≡ line.regions.items
 
--- it is there where the option --details is used, and then is what stands on the command line
-pub record IsDetailedBy (command : List ℕ) (found : Found) (details : Option TypedLine) : Type 0 where
-  pub asked : Sets found (codes "details") (is_some details)
-  pub line : IfSome details (IsLineIn command found)
+-- where more is to be said, this is what stands on the command line
+abbrev pub IsDetailedBy : List ℕ → Found → Option TypedLine → Type 0
+IsDetailedBy command found details = IfSome details (IsLineIn command found)
 
 -- of the command that was used
 abbrev pub IsDetailed : ArgMatches → Option TypedLine → Type 0

@@ -391,7 +391,14 @@ const DRY_RUN: Choice = Choice {
     name: "dry-run",
     takes: Takes::Nothing,
     required: false,
-    help: "Stop after the plan: the chip isn't changed [default: no]",
+    help: "Print the whole plan and stop: no chip is changed, and no file made [default: no]",
+};
+
+const LIST: Choice = Choice {
+    name: "list",
+    takes: Takes::Nothing,
+    required: false,
+    help: "Print the whole plan, as --dry-run does [default: how many lines it has]",
 };
 
 const RAW: Choice = Choice {
@@ -451,11 +458,25 @@ const DETAILS: Choice = Choice {
     takes: Takes::Nothing,
     required: false,
     help: "After a refusal say more: which value, file or line it is about, and what to do \
-        [default: no]",
+        [default: at a terminal]",
+};
+
+const PLAIN: Choice = Choice {
+    name: "plain",
+    takes: Takes::Nothing,
+    required: false,
+    help: "Say no more than the line of a refusal, also at a terminal [default: no]",
+};
+
+const FORCE: Choice = Choice {
+    name: "force",
+    takes: Takes::Nothing,
+    required: false,
+    help: "Replace the file that is there, whatever it holds [default: only one of the same kind]",
 };
 
 /// The options of every command but explain, which takes words only.
-const EACH: &[Choice] = &[DETAILS];
+const EACH: &[Choice] = &[DETAILS, PLAIN];
 
 const IMAGE: &[Choice] = &[HEX, LAYOUT, BASE, REGIONS];
 
@@ -485,7 +506,7 @@ static FORMS: [Form; 13] = [
             Group::Start,
             Group::Verify,
         ],
-        choices: &[STRICT, WHOLE, SCRIPT_OUT],
+        choices: &[STRICT, WHOLE, SCRIPT_OUT, FORCE],
     },
     Form {
         name: "plan",
@@ -499,7 +520,7 @@ static FORMS: [Form; 13] = [
             Group::Start,
             Group::Verify,
         ],
-        choices: &[STRICT, WHOLE, TIMES, SHARES, MAP],
+        choices: &[STRICT, WHOLE, TIMES, SHARES, MAP, FORCE],
     },
     Form {
         name: "check",
@@ -528,7 +549,7 @@ static FORMS: [Form; 13] = [
             Group::Script,
             Group::ChipBehaviour,
         ],
-        choices: &[CONTENT_OUT],
+        choices: &[CONTENT_OUT, FORCE],
     },
     Form {
         name: "list",
@@ -542,7 +563,7 @@ static FORMS: [Form; 13] = [
         about: "Draws a script as a waveform, a Value Change Dump",
         example: "Example: norprog draw --script app.script --out app.vcd",
         groups: &[Group::Script],
-        choices: &[FROM, STEPS, WAVEFORM_OUT],
+        choices: &[FROM, STEPS, WAVEFORM_OUT, FORCE],
     },
     Form {
         name: "play",
@@ -584,6 +605,7 @@ static FORMS: [Form; 13] = [
             BEFORE,
             RESUME,
             DRY_RUN,
+            LIST,
         ],
     },
     Form {
@@ -598,7 +620,7 @@ static FORMS: [Form; 13] = [
         about: "Writes a raw image as Intel HEX, which build reads",
         example: "Example: norprog hex --bin app.bin --at 8000000 --out app.hex",
         groups: &[],
-        choices: &[BIN, AT, HEX_OUT],
+        choices: &[BIN, AT, HEX_OUT, FORCE],
     },
     Form {
         name: "script",
@@ -606,7 +628,7 @@ static FORMS: [Form; 13] = [
             list printed",
         example: "Example: norprog script --log log.txt --out app.script",
         groups: &[Group::Chip, Group::Start],
-        choices: &[LOG, WITHOUT_IDENTITY, LOG_OUT],
+        choices: &[LOG, WITHOUT_IDENTITY, LOG_OUT, FORCE],
     },
     Form {
         name: "explain",

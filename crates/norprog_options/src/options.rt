@@ -1,11 +1,11 @@
 //! What stands on a command line, read by the command line library.
 
-ghost use Rattle.std.specs.Prelude.{◌≡◌, drop, map, string_bytes, IfErr, IfOk};
+ghost use Rattle.std.specs.Prelude.{◌≡◌, codes, drop, map, string_bytes, true, IfErr, IfOk, IfSome};
 ghost use Rattle.clap.specs.Words.{found_of, kind_of};
 ghost use Rattle.norprog_options.specs.Options.{texts_of, IsBuildIn, IsCheckIn, IsJobIn, IsChipIn};
 ghost use Rattle.norprog_options.specs.Options.{IsDrawIn, IsFlashIn, IsHexIn, IsListIn, IsPlanIn};
 ghost use Rattle.norprog_options.specs.Options.{IsPlayIn, IsReadIn, IsRunIn, IsSetupIn, IsAsked};
-ghost use Rattle.norprog_options.specs.Options.{IsScriptIn};
+ghost use Rattle.norprog_options.specs.Options.{IsOutIn, IsScriptIn, asks_help};
 ghost use Rattle.norprog_options.specs.Spelled.{IsRefusalOf, IsUnasked, Refuses, Spells};
 ghost use Rattle.norprog_options.specs.Spelled.{command_names, memory};
 ghost use Rattle.norprog_options.specs.Typed.{IsDetailed, IsDetailedBy};
@@ -16,8 +16,8 @@ use clap::error::ErrorKind;
 use clap::{ArgMatches, Error};
 use nor_base::Bytes;
 use norprog_common::{
-    BuildArgs, CheckArgs, ChipArgs, DrawArgs, FlashArgs, Given, HexArgs, ListArgs, PlanArgs,
-    PlayArgs, ReadArgs, Refusal, RunArgs, ScriptArgs, SetupArgs,
+    BuildArgs, CheckArgs, ChipArgs, DrawArgs, FlashArgs, Given, HexArgs, ListArgs, OutFile,
+    PlanArgs, PlayArgs, ReadArgs, Refusal, RunArgs, ScriptArgs, SetupArgs,
 };
 use std::alloc::Global;
 
@@ -38,6 +38,8 @@ pub enum Asked<'a> {
     Script(ScriptArgs<'a>),
     /// The words that are asked about.
     Explain(Vec<Bytes>),
+    /// The help of the command that is asked about.
+    Help(String),
 }
 
 /// A command line.
@@ -45,16 +47,17 @@ pub enum Asked<'a> {
 pub struct Line<'a> {
     /// What it asks for.
     pub asked: Asked<'a>,
-    /// With `--details` what stands on it.
+    /// What stands on it, where more is to be said of a refusal.
     pub details: Option<TypedLine<'a>>,
 }
 
 /// Reads the words after the program's name: a command and its options, by the rules of the command
-/// line library.
+/// line library. More is to be said of a refusal with `--details` or at a terminal, unless with
+/// `--plain`.
 ///
-/// Words with a fault, and a request for help, are refused with `Text`, which that library wrote;
-/// else only `Memory` is, where a growth is refused.
-pub fn asked_by<'a>(alloc: Global, words: &'a [String]) -> Result<Line<'a>, Refusal>
+/// Words with a fault and requests for help are refused with that library's `Text`; else only
+/// `Memory` is, where a growth is refused.
+pub fn asked_by<'a>(alloc: Global, words: &'a [String], terminal: bool) -> Result<Line<'a>, Refusal>
     ensures line { IfOk result (Spells (map string_bytes words.entry.now)) }
     ensures refused { IfErr result (Refuses (map string_bytes words.entry.now)) }
 {
@@ -62,36 +65,42 @@ pub fn asked_by<'a>(alloc: Global, words: &'a [String]) -> Result<Line<'a>, Refu
     match command.try_get_matches_from(words) {
         Ok(matches) => Ok(Line {
             asked: asked_in(alloc, &matches)?,
-            details: details_in(alloc, &matches)?,
+            details: details_in(alloc, &matches, terminal)?,
         }),
         Err(error) => Err(refusal_of(alloc, &error)),
     }
 }
 
-/// With `--details`, what stands on a command line.
-fn details_in<'a>(alloc: Global, matches: &ArgMatches<'a>) -> Result<Option<TypedLine<'a>>, Refusal>
+/// What stands on a command line, where more is to be said of a refusal.
+fn details_in<'a>(
+    alloc: Global,
+    matches: &ArgMatches<'a>,
+    terminal: bool,
+) -> Result<Option<TypedLine<'a>>, Refusal>
     ensures done { IfOk result (IsDetailed matches.now) }
     ensures memory { IfErr result (λ why. why ≡ memory) }
 {
     match matches.subcommand() {
-        Some((command, used)) => details_of(alloc, command, used),
+        Some((command, used)) => details_of(alloc, command, used, terminal),
         None => Ok(None),
     }
 }
 
-/// With `--details`, what stands after the name of a command.
+/// What stands after the name of a command, where more is to be said of a refusal.
 fn details_of<'a>(
     alloc: Global,
     command: &'a str,
     used: &ArgMatches<'a>,
+    terminal: bool,
 ) -> Result<Option<TypedLine<'a>>, Refusal>
     ensures done { IfOk result (IsDetailedBy command.entry.now (found_of used.now)) }
     ensures memory { IfErr result (λ why. why ≡ memory) }
 {
-    if !used.get_flag("details") {
-        return Ok(None);
+    if (terminal || used.get_flag("details")) && !used.get_flag("plain") {
+        Ok(Some(line_in(alloc, command, used)?))
+    } else {
+        Ok(None)
     }
-    Ok(Some(line_in(alloc, command, used)?))
 }
 
 /// What the matches of a command line ask for.
@@ -151,9 +160,57 @@ fn meaning_asked<'a>(alloc: Global, matches: &ArgMatches<'a>) -> Result<Asked<'a
     if let Some(script) = matches.subcommand_matches("script") {
         return Ok(Asked::Script(script_in(script)));
     }
-    match matches.subcommand_matches("explain") {
-        Some(explain) => Ok(Asked::Explain(texts_in(alloc, explain, "words")?)),
-        None => Err(Refusal::Usage),
+    if let Some(explain) = matches.subcommand_matches("explain") {
+        if let Some(text) = help_in(alloc, explain)? {
+            return Ok(Asked::Help(text));
+        }
+        return Ok(Asked::Explain(texts_in(alloc, explain, "words")?));
+    }
+    Err(Refusal::Usage)
+}
+
+/// The help of a command, as the library has it, where the words that are asked about are `help`
+/// and its name.
+fn help_in(alloc: Global, explain: &ArgMatches<'_>) -> Result<Option<String>, Refusal>
+    ensures help { IfOk result (λ text. IfSome text
+        (λ _. asks_help (texts_of (found_of explain.now) (codes "words")) ≡ true)) }
+    ensures memory { IfErr result (λ why. why ≡ memory) }
+{
+    match explain.get_strs("words") {
+        Some(words) if asks_help(words) => help_of(alloc, words[1]),
+        _ => Ok(None),
+    }
+}
+
+/// Whether words are `help` and another.
+fn asks_help(words: &[&str]) -> bool
+    ensures { result ≡ asks_help (map (λ word. word.now) words.now) }
+{
+    words.len() == 2 && words[0] == "help"
+}
+
+/// The help of a command of this name, if there is one.
+fn help_of<'a>(alloc: Global, name: &'a str) -> Result<Option<String>, Refusal>
+    ensures memory { IfErr result (λ why. why ≡ memory) }
+{
+    let words: [&'a str; 2] = [name, "--help"];
+    let command = norprog(alloc)?;
+    match command.try_get_matches_from(&words) {
+        Ok(_matches) => Ok(None),
+        Err(error) => help_text(alloc, &error),
+    }
+}
+
+/// The library's text, if it is a help.
+fn help_text(alloc: Global, error: &Error) -> Result<Option<String>, Refusal>
+    ensures memory { IfErr result (λ why. why ≡ memory) }
+{
+    if error.kind() != ErrorKind::DisplayHelp {
+        return Ok(None);
+    }
+    match format!(in alloc; "{error}") {
+        Ok(text) => Ok(Some(text)),
+        Err(_) => Err(Refusal::MEMORY),
     }
 }
 
@@ -195,6 +252,16 @@ fn given_in<'a>(alloc: Global, job: &ArgMatches<'a>) -> Result<Given<'a>, Refusa
     })
 }
 
+/// The file of this option that is to be made, if it is given.
+fn out_in<'a>(matches: &ArgMatches<'a>, name: &str) -> Option<OutFile<'a>>
+    ensures { IsOutIn (found_of matches.now) name.now result }
+{
+    Some(OutFile {
+        path: matches.get_str(name)?,
+        force: matches.get_flag("force"),
+    })
+}
+
 /// The build.
 fn build_in<'a>(alloc: Global, build: &ArgMatches<'a>) -> Result<BuildArgs<'a>, Refusal>
     ensures done { IfOk result (IsBuildIn (found_of build.now)) }
@@ -202,7 +269,7 @@ fn build_in<'a>(alloc: Global, build: &ArgMatches<'a>) -> Result<BuildArgs<'a>, 
 {
     Ok(BuildArgs {
         job: given_in(alloc, build)?,
-        out: build.get_str("out"),
+        out: out_in(build, "out"),
     })
 }
 
@@ -227,7 +294,7 @@ fn plan_in<'a>(alloc: Global, plan: &ArgMatches<'a>) -> Result<PlanArgs<'a>, Ref
         job: given_in(alloc, plan)?,
         times: plan.get_flag("times"),
         regions: plan.get_flag("regions"),
-        map: plan.get_str("map"),
+        map: out_in(plan, "map"),
     })
 }
 
@@ -269,7 +336,7 @@ fn run_in<'a>(run: &ArgMatches<'a>) -> RunArgs<'a>
         keep: run.get_flag("keep"),
         limit: run.get_str("limit"),
         page: run.get_str("page"),
-        out: run.get_str("out"),
+        out: out_in(run, "out"),
     }
 }
 
@@ -291,7 +358,7 @@ fn draw_in<'a>(draw: &ArgMatches<'a>) -> DrawArgs<'a>
         script: draw.get_str("script"),
         from: draw.get_str("from"),
         steps: draw.get_str("steps"),
-        out: draw.get_str("out"),
+        out: out_in(draw, "out"),
     }
 }
 
@@ -302,7 +369,7 @@ fn hex_in<'a>(hex: &ArgMatches<'a>) -> HexArgs<'a>
     HexArgs {
         bin: hex.get_str("bin"),
         at: hex.get_str("at"),
-        out: hex.get_str("out"),
+        out: out_in(hex, "out"),
     }
 }
 
@@ -314,7 +381,7 @@ fn script_in<'a>(script: &ArgMatches<'a>) -> ScriptArgs<'a>
         setup: setup_in(script),
         log: script.get_str("log"),
         without_identity: script.get_flag("without-identity"),
-        out: script.get_str("out"),
+        out: out_in(script, "out"),
     }
 }
 
@@ -357,6 +424,7 @@ fn flash_in<'a>(alloc: Global, flash: &ArgMatches<'a>) -> Result<FlashArgs<'a>, 
         partial: flash.get_flag("partial"),
         beyond: flash.get_flag("beyond"),
         dry_run: flash.get_flag("dry-run"),
+        list: flash.get_flag("list"),
         raw: flash.get_flag("raw"),
         fresh: flash.get_flag("fresh"),
         any_size: flash.get_flag("any-size"),

@@ -37,6 +37,7 @@ const NAMES: &[&str] = &[
     "device",
     "before",
     "resume",
+    "expect-id",
 ];
 
 /// What stands on a command line, except flags.

@@ -1,26 +1,27 @@
--- The picture of what is chosen, in whatever form that is held.
-use Rattle.std.proofs.Common.{◌≡◌, ℕ, Bool, Global, List, Result, Ok, Err, IfOk, Vec, subst}
-use Rattle.nor_base.specs.Parameters.{Parameters}
-use Rattle.nor_job.specs.Causes.{LayoutSays}
+-- The picture of a job's plan is that of its inputs.
+use Rattle.std.proofs.Common.{◌≡◌, ℕ, List, Option, Some, None, IfSome, is_some, ap, ◌∙◌, subst}
+use Rattle.nor_job.specs.Job.{IsJob}
 use Rattle.nor_job.specs.Task.{Task}
-use Rattle.nor_job.specs.declared.fault.BuildFault.{BuildFault}
-use Rattle.nor_layout.specs.Chosen.{is_chosen}
-use Rattle.nor_layout.specs.Region.{Region}
-use Rattle.nor_map.specs.Rows.{grid_of}
-use Rattle.nor_map.specs.Map.{map_text}
+use Rattle.nor_job.specs.declared.job.Job.{Job}
+use Rattle.nor_map.specs.Cells.{Wanted}
+use Rattle.nor_map.specs.Marks.{Marks, marks_of}
+use Rattle.nor_map.specs.Totals.{Prints, totals_text}
 use Rattle.nor_plan_read.specs.declared.line.PlanLine.{PlanLine}
-use Rattle.norprog_plan.specs.Outline.{IsMap}
+use Rattle.norprog_plan.specs.Outline.{IsDrawn, IsPicture}
+use Rattle.norprog_plan.specs.Sums.{wanted_of}
 
--- a set of addresses that has just what is chosen gives the same picture
-pub draws : (t : Task) (m : Parameters) (lines : List PlanLine) (rest : List ℕ) (regions : List Region) (has : ℕ → Bool)
-    (r : Result (Vec ℕ Global) BuildFault) → LayoutSays t.layout regions → ((a : ℕ) → has a ≡ is_chosen regions t.regions a)
-    → IfOk r (λ picture. picture.items ≡ map_text (grid_of m.size m.page lines has) lines regions rest)
-    → IfOk r (λ picture. IsMap t m lines rest picture.items)
-draws t m lines rest regions has (Err why) says same is = tt
-draws t m lines rest regions has (Ok picture) says same is =
-    let pointwise : has ≡ is_chosen regions t.regions = λ i a. same a i in
+pub pictured : (t : Task) (len : ℕ) (job : Job) (lines : List PlanLine) (picture : List ℕ) (o : Option Marks) → IsJob t len job
+    → IfSome o (λ marks. marks ≡ marks_of job.meaning.size job.meaning.page (wanted_of job) lines) → IsDrawn o picture
+    → IsPicture (is_some o) t job.meaning lines picture
+pictured t len job lines picture None is are drawn = drawn
+pictured t len job lines picture (Some marks) is are drawn =
+    let wanted : ℕ → Wanted = λ base. record { image = job.image; base = base; chosen = job.chosen } in
     record {
-      regions = regions;
-      says = says;
-      drawn = subst (λ f. picture.items ≡ map_text (grid_of m.size m.page lines f) lines regions rest) pointwise is;
+      image = job.image;
+      regions = is.regions;
+      chosen = job.chosen;
+      named = is.accepted.named;
+      chooses = is.chosen;
+      drawn = subst (λ (m : Marks). Prints picture (totals_text m))
+          (are ∙ ap (λ base. marks_of job.meaning.size job.meaning.page (wanted base) lines) is.base) drawn;
     }

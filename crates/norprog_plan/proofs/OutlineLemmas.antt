@@ -26,7 +26,7 @@ same_chip (Err why) m n one other = cc
 pub tells : (shows : Shows) (t : Task) (len : ℕ) (a b : Ahead) (x y : Option (List ℕ)) (job : Job) (begun done : Sums) (report : Report) (drawn : Bool)
     (r : Result Told BuildFault) → (all : PrintsLines job begun done t len a b x y report) → IsJob t len job → drawn ≡ shows.picture
     → IfOk r (λ told. EndsWith shows.regions t len (behind_lines shows.times report t job.meaning all.lines) told.rest.items)
-    → IfOk r (λ told. IsPicture drawn t job.meaning all.lines (behind_lines shows.times report t job.meaning all.lines) told.picture.items)
+    → IfOk r (λ told. IsPicture drawn t job.meaning all.lines told.picture.items)
     → IfOk r (λ told. (lines : List ℕ) × IsOutline shows t len a (outline lines told) × Appends x y lines)
 tells shows t len a b x y job begun done report drawn (Err why) all is asked ends picture = tt
 tells shows t len a b x y job begun done report drawn (Ok told) all is asked ends picture =
@@ -39,8 +39,8 @@ tells shows t len a b x y job begun done report drawn (Ok told) all is asked end
         planned = all.planned;
         text = refl;
         ends = subst (λ (m : Parameters). EndsWith shows.regions t len (behind_lines shows.times report t m all.lines) told.rest.items) same ends;
-        picture = subst (λ (m : Parameters). IsPicture shows.picture t m all.lines (behind_lines shows.times report t m all.lines) told.picture.items) same
-            (subst (λ (b : Bool). IsPicture b t job.meaning all.lines (behind_lines shows.times report t job.meaning all.lines) told.picture.items) asked picture);
+        picture = subst (λ (m : Parameters). IsPicture shows.picture t m all.lines told.picture.items) same
+            (subst (λ (b : Bool). IsPicture b t job.meaning all.lines told.picture.items) asked picture);
       },
       all.put,
     )

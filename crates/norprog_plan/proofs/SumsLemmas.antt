@@ -13,8 +13,8 @@ use Rattle.nor_job.specs.declared.fault.BuildFault.TheVariants as fault
 use Rattle.nor_job.specs.declared.job.Job.{Job}
 use Rattle.nor_job.specs.Job.{IsJob}
 use Rattle.nor_job.specs.Task.{Task}
-use Rattle.nor_map.specs.Marks.{Marks, marks_of}
-use Rattle.nor_map.specs.Said.{erases, programs}
+use Rattle.nor_map.specs.Cells.{Wanted}
+use Rattle.nor_map.specs.Marks.{Marks, erases, marks_of, programs}
 use Rattle.nor_plan_read.specs.Lines.{line_words, lines_text}
 use Rattle.nor_plan_read.specs.declared.line.PlanLine.{PlanLine}
 use Rattle.nor_plan_read.specs.declared.line.PlanLine.TheVariants.{Because}
@@ -23,7 +23,7 @@ use Rattle.nor_times.specs.declared.times.Times.{Times}
 use Rattle.norprog.specs.Planner.{Planning, IsReady, HasTold, GoesOn, EndsPlan, AreFew, CutsAnywhere, CutsPlan as StopsLines}
 use Rattle.norprog.specs.Windows.{IsCutPlan}
 use Rattle.norprog.specs.declared.report.Report.{Report}
-use Rattle.norprog_plan.specs.Sums.{AreSums, GrewBy, HasPrinted, HasRoom, PrintsAll, PrintsLines}
+use Rattle.norprog_plan.specs.Sums.{AreSums, GrewBy, HasPrinted, HasRoom, PrintsAll, PrintsLines, wanted_of}
 use Rattle.norprog_plan.specs.declared.sums.Sums.{Sums}
 
 -- so many lines that tell an instruction can be counted
@@ -32,12 +32,12 @@ count_fits : AreFew → (q : Planning) (first now : Ahead) (lines more : List Pl
 count_fits few q first now lines more tells n ready its none is =
     omega (arith, is, sum_by-append (λ l. cond (tells l) 1 0) lines more, few q first now (lines ++ more) tells none ready its, ready.within, ready.accepted.size_high)
 
-marks_fit : AreFew → (q : Planning) (first now : Ahead) (lines more : List PlanLine) (size page : ℕ) (o : Option Marks) → IsReady q → HasTold q first now (lines ++ more)
-    → IfSome o (λ marks. marks ≡ marks_of size page lines)
+marks_fit : AreFew → (q : Planning) (first now : Ahead) (lines more : List PlanLine) (size page : ℕ) (w : Wanted) (o : Option Marks) → IsReady q → HasTold q first now (lines ++ more)
+    → IfSome o (λ marks. marks ≡ marks_of size page w lines)
     → IfSome o (λ marks. (marks.blocks + count_by erases more < 2 ^ 64) × (marks.programs + count_by programs more < 2 ^ 64))
 unfolding marks_of
-marks_fit few q first now lines more size page None ready its are = tt
-marks_fit few q first now lines more size page (Some marks) ready its are = (
+marks_fit few q first now lines more size page w None ready its are = tt
+marks_fit few q first now lines more size page w (Some marks) ready its are = (
   count_fits few q first now lines more erases marks.blocks ready its (λ start cause. refl) (ap (λ (m : Marks). m.blocks) are),
   count_fits few q first now lines more programs marks.programs ready its (λ start cause. refl) (ap (λ (m : Marks). m.programs) are),
 )
@@ -46,7 +46,7 @@ pub room_of : AreFew → (q : Planning) (first now : Ahead) (lines more : List P
     → HasTold q first now (lines ++ more) → AreSums job times sums lines → HasRoom sums more
 room_of few q first now lines more job times sums ready its are = record {
   times = count_fits few q first now lines more is_work sums.times.works ready its (λ start cause. refl) (ap (λ t. t.works) are.times);
-  marks = marks_fit few q first now lines more job.meaning.size job.meaning.page sums.marks ready its are.marks;
+  marks = marks_fit few q first now lines more job.meaning.size job.meaning.page (wanted_of job) sums.marks ready its are.marks;
 }
 
 -- all windows were, and the report is that of the plan

@@ -4,8 +4,8 @@ use Rattle.std.specs.Io.KnownBytes.{Appends}
 use Rattle.nor_base.specs.Device.{Ahead}
 use Rattle.nor_job.specs.declared.job.Job.{Job}
 use Rattle.nor_job.specs.Task.{Task}
-use Rattle.nor_map.specs.Marks.{marks_of}
-use Rattle.nor_map.specs.Said.{erases, programs}
+use Rattle.nor_map.specs.Cells.{Wanted}
+use Rattle.nor_map.specs.Marks.{erases, marks_of, programs}
 use Rattle.nor_plan_read.specs.Lines.{lines_text}
 use Rattle.nor_plan_read.specs.declared.line.PlanLine.{PlanLine}
 use Rattle.nor_times.specs.Bus.{is_work}
@@ -15,10 +15,14 @@ use Rattle.norprog.specs.Planner.{Planning, IsReady, HasTold, IsPlanned}
 use Rattle.norprog.specs.declared.report.Report.{Report}
 use Rattle.norprog_plan.specs.declared.sums.Sums.{Sums}
 
+-- what a chip is to hold by a job
+abbrev pub wanted_of : Job → Wanted
+wanted_of job = record { image = job.image; base = job.base; chosen = job.chosen }
+
 -- they are those of the lines of a job's plan, on a chip whose tables tell these times
 pub record AreSums (job : Job) (known : Option Times) (sums : Sums) (lines : List PlanLine) : Type 0 where
   pub times : sums.times ≡ timing_of job.meaning job.start job.verify known lines
-  pub marks : IfSome sums.marks (λ marks. marks ≡ marks_of job.meaning.size job.meaning.page lines)
+  pub marks : IfSome sums.marks (λ marks. marks ≡ marks_of job.meaning.size job.meaning.page (wanted_of job) lines)
 
 -- so many lines more can be counted
 pub record HasRoom (sums : Sums) (lines : List PlanLine) : Type 0 where

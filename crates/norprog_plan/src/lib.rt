@@ -8,4 +8,5 @@ mod outline;
 mod regions;
 mod sums;
 
+pub use nor_map::Title;
 pub use outline::{Shows, Told, tell};

@@ -28,6 +28,7 @@ use crate::regions::with_regions;
 use crate::sums::Sums;
 use nor_base::{ByteIn, ByteOut, Failed, IntoWrite};
 use nor_job::{BuildFault, Inputs, Job, job_of};
+use nor_map::Title;
 use nor_plan_read::write_lines;
 use nor_times::PlanTimes;
 use norprog::{Planner, Report, planned_lines, write_report};
@@ -53,7 +54,8 @@ pub struct Told {
     pub picture: Vec<u8>,
 }
 
-/// Prints the lines of a plan as [`norprog::plan`] does, and returns what comes after them. Memory
+/// Prints the lines of a plan as [`norprog::plan`] does, and returns what comes after them; its
+/// picture has this title. Memory
 /// is taken for a window, for the picture, and for the lines of the chosen regions.
 ///
 /// Faults come as from there; `Memory` also after all lines were printed.
@@ -63,6 +65,7 @@ pub fn tell<R: ByteIn, O: ByteOut>(
     content: &mut R,
     len: u64,
     shows: Shows,
+    title: &Title<'_>,
     out: &mut O,
 ) -> Result<Told, BuildFault>
     requires room { HaveRoom (R.count content.old) (O.count out.old) }
@@ -82,7 +85,7 @@ pub fn tell<R: ByteIn, O: ByteOut>(
     job.meaning.acceptance();
     let mut sums = Sums::new(alloc, inputs, &job, shows.picture)?;
     let report = print_lines(alloc, &job, content, &mut sums, out)?;
-    behind(alloc, inputs, &job, &report, shows, &sums)
+    behind(alloc, inputs, &job, &report, shows, title, &sums)
 }
 
 /// Prints the lines of a job's plan, and adds them up.
@@ -154,6 +157,7 @@ fn behind(
     job: &Job,
     report: &Report,
     shows: Shows,
+    title: &Title<'_>,
     sums: &Sums<'_>,
 ) -> Result<Told, BuildFault>
     ensures rest { (len : ℕ) (lines : List Line) → IsJob inputs.now len job.now
@@ -164,12 +168,11 @@ fn behind(
     ensures picture { (len : ℕ) (lines : List Line) → IsJob inputs.now len job.now
         → AreSums job.now (tables_times inputs.now.chip) sums.now lines
         → IfOk result (λ told. IsPicture (is_some sums.now.marks) inputs.now job.now.meaning
-        lines (behind_lines shows.times report.now inputs.now job.now.meaning lines)
-        told.picture.items) }
+        lines told.picture.items) }
     ensures refused { IfErr result (λ why. why ≡ Memory) }
 {
     let shown = report_in_memory(alloc, report, shows.times, &sums.times)?;
-    let picture = draw_where_asked(alloc, inputs, &job.meaning, &sums.marks, shown.as_slice())?;
+    let picture = draw_where_asked(alloc, inputs, &sums.marks, title, &shown)?;
     let rest = with_regions(alloc, inputs, job, shows.regions, shown)?;
     Ok(Told { rest, picture })
 }

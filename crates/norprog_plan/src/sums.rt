@@ -8,7 +8,7 @@ ghost use Rattle.norprog_plan.specs.Outline.{tables_times};
 ghost use Rattle.norprog_plan.specs.Sums.{AreSums, HasRoom};
 
 use nor_job::{Inputs, Job, Source};
-use nor_map::PlanMarks;
+use nor_map::{PlanMarks, Wanted};
 use nor_plan_read::PlanLine;
 use nor_times::{PlanTimes, Times, read_times};
 use std::alloc::{AllocError, Global};
@@ -19,7 +19,7 @@ pub(crate) struct Sums<'m> {
     /// How long it takes.
     pub times: PlanTimes<'m>,
     /// What its picture shows, where one is asked for.
-    pub marks: Option<PlanMarks>,
+    pub marks: Option<PlanMarks<'m>>,
 }
 
 impl<'m> Sums<'m> {
@@ -36,7 +36,8 @@ impl<'m> Sums<'m> {
     {
         let times = PlanTimes::new(&job.meaning, &job.start, job.verify, known_times(inputs));
         let marks = if drawn {
-            Some(PlanMarks::new(alloc, job.meaning.size, job.meaning.page)?)
+            let wanted = Wanted::new(&job.image, job.base, &job.chosen);
+            Some(PlanMarks::new(alloc, job.meaning.size, job.meaning.page, wanted)?)
         } else {
             None
         };

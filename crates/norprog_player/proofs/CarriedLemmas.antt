@@ -13,7 +13,6 @@ use Rattle.nor_serprog.specs.Follow.{Follows}
 use Rattle.nor_probe.specs.declared.difference.Mismatch.{Mismatch}
 use Rattle.nor_probe.specs.declared.difference.Mismatch.TheVariants as mismatch
 use Rattle.nor_base.specs.Parameters.{Parameters}
-use Rattle.norprog_player.specs.declared.access.Access.{Access}
 use Rattle.norprog_player.specs.declared.ending.Ending.TheVariants.{Failed}
 use Rattle.norprog_failure.specs.declared.failure.Failure.{Failure}
 use Rattle.norprog_failure.specs.declared.failure.Failure.TheVariants as failure
@@ -21,10 +20,11 @@ use Rattle.nor_base.specs.Sample.{sampled_count}
 use Rattle.nor_base.specs.Step.{step_clocks}
 use Rattle.norprog_player.specs.Carried.{IsCarried, AreCarried, IsFirstNotCarried}
 use Rattle.norprog_player.specs.Asked.{Begins}
-use Rattle.norprog_player.specs.Expected.{Expectation}
 use Rattle.norprog_failure.specs.Reported.{FailsAs, read_address, other_byte, failure_by}
-use Rattle.norprog_player.specs.Ending.{EndsComparing, IsUnlikeAfter, MayBegin}
-use Rattle.norprog_player.specs.Moment.{Moment, DoesAll, StopsAt, StopsStep}
+use Rattle.norprog_player.specs.Ending.{asks, first, Course, EndsComparing, IsUnlikeAfter, MayBegin}
+use Rattle.norprog_device.specs.Wire.{wire, Wire}
+use Rattle.norprog_player.specs.declared.follow.Halt.{Halt}
+use Rattle.norprog_player.specs.Moment.{halt_at, rules_of, DoesAll, Moment, Rules, StopsAt}
 use Rattle.norprog_player.proofs.TogetherLemmas.{head_of, all_right}
 
 -- all of the steps so far, and one more
@@ -40,57 +40,56 @@ pub one_of : (P : Step → Type 0) (steps : List Step) (at : ℕ) (x : Step) →
 one_of P steps at x within is all = subst P (sym is) (All-get_or P steps at x within all)
 
 -- clocks that are an operation are never refused as none
-never_none : (limits : Limits) (turns : ℕ) (b c : Moment) (x : Step) (given : List ℕ) → IsCarried limits x
-    → Follows b.held c.held b.ahead c.ahead (Err reason.Carried) limits turns (step_clocks x) given → ⊥
-never_none limits turns b c x given can follows = (follows.other (λ is. follows.poll is)).none can.0 can.1 can.2
+never_none : (limits : Limits) (turns : ℕ) (u v : Wire) (x : Step) (given : List ℕ) → IsCarried limits x
+    → Follows u.held v.held u.ahead v.ahead (Err reason.Carried) limits turns (step_clocks x) given → ⊥
+never_none limits turns u v x given can follows = (follows.other (λ is. follows.poll is)).none can.0 can.1 can.2
 
 -- a step that may be sent never fails as none
-not_none : (m : Parameters) (limits : Limits) (turns : ℕ) (b c : Moment) (x : Step) (given : List ℕ) (why : Reason) → IsCarried limits x
-    → Follows b.held c.held b.ahead c.ahead (Err why) limits turns (step_clocks x) given → FailsAs m (step_clocks x) given why failure.Carried → ⊥
-not_none m limits turns b c x given (reason.Exchange why) can follows fails = cc
-not_none m limits turns b c x given reason.Busy can follows fails = cc
-not_none m limits turns b c x given reason.Carried can follows fails = never_none limits turns b c x given can follows
-not_none m limits turns b c x given (reason.Differs place byte) can follows fails =
-    by_address (read_address m (step_clocks x)) fails
+not_none : (r : Rules) (u v : Wire) (x : Step) (given : List ℕ) (why : Reason) → IsCarried r.limits x
+    → Follows u.held v.held u.ahead v.ahead (Err why) r.limits r.turns (step_clocks x) given → FailsAs r.m (step_clocks x) given why failure.Carried → ⊥
+not_none r u v x given (reason.Exchange why) can follows fails = cc
+not_none r u v x given reason.Busy can follows fails = cc
+not_none r u v x given reason.Carried can follows fails = never_none r.limits r.turns u v x given can follows
+not_none r u v x given (reason.Differs place byte) can follows fails = by_address (read_address r.m (step_clocks x)) fails
   where
     by_address : (o : Option ℕ) → failure.Carried ≡ other_byte o place byte (get_or given place 0) → ⊥
     by_address (Some start) h = cc
     by_address None h = cc
 
 -- of steps that may be sent none fails as none
-pub never_stops : (limits : Limits) (turns : ℕ) (m : Parameters) (after : Moment) (steps done beyond rest : List Step) (reached : Moment) (x : Step) (given : List ℕ)
-    (why : Reason) → steps ≡ done ++ (x ∷ (beyond ++ rest)) → AreCarried limits steps → StopsStep limits turns reached x given why beyond after
-    → FailsAs m (step_clocks x) given why failure.Carried → ⊥
-never_stops limits turns m after steps done beyond rest reached x given why those carried (inl stop) fails =
-    let can : IsCarried limits x = head_of (IsCarried limits) x (beyond ++ rest) (all_right (IsCarried limits) done (x ∷ (beyond ++ rest)) (subst (AreCarried limits) those carried)) in
-    not_none m limits turns reached (record { shown = after.shown; held = stop.held; ahead = after.ahead }) x given why can stop.device fails
-never_stops limits turns m after steps done beyond rest reached x given why those carried (inr cut) fails =
-    let bad : failure.Carried ≡ failure.Exchange fault.Write = subst (λ (r : Reason). FailsAs m (step_clocks x) given r failure.Carried) cut.writer fails in cc
+pub never_stops : (r : Rules) (before after : Moment) (steps : List Step) (at : ℕ) → AreCarried r.limits steps
+    → StopsAt r before steps (halt_at at failure.Carried) after → ⊥
+never_stops r before after steps at carried stop = elim stop.stops [
+  | inl p ↦
+      let back = stop.stop.beyond ++ stop.rest in
+      let can = head_of (IsCarried r.limits) stop.last back (all_right (IsCarried r.limits) stop.done (stop.last ∷ back) (subst (AreCarried r.limits) stop.those carried)) in
+      not_none r stop.reached.wire (wire p.held after.wire.ahead) stop.last stop.stop.given stop.stop.reason can p.device stop.failure
+  | inr cut ↦
+      let bad : failure.Carried ≡ failure.Exchange fault.Write =
+      subst (λ (y : Reason). FailsAs r.m (step_clocks stop.last) stop.stop.given y failure.Carried) cut.writer stop.failure in cc
+]
 
 -- where a play that began stops
-pub stops : (limits : Limits) (turns : ℕ) (x : Expectation) (m : Parameters) (access : Access) (Wanted : ℕ → Type 0) (Again : List ℕ → ℕ → Type 0) (before between after : Moment) (steps : List Step) (at : ℕ)
-    (failed : Failure) → MayBegin limits before steps → Begins x limits turns access Wanted before between → StopsAt m limits turns between steps at failed after
-    → EndsComparing limits turns x m access Wanted Again before steps (Failed at failed) after
-stops limits turns x m access Wanted Again before between after steps at failure.Busy may begins stop = inl (record { may = may; between = between; begins = begins; stops = stop })
-stops limits turns x m access Wanted Again before between after steps at (failure.Exchange why) may begins stop =
+pub stops : (c : Course) (before between after : Moment) (steps : List Step) (at : ℕ) (failed : Failure) → MayBegin c.rules.limits before steps
+    → Begins (asks c) (first c) before between → StopsAt c.rules between steps (halt_at at failed) after → EndsComparing c before steps (Failed at failed) after
+stops c before between after steps at failure.Busy may begins stop = inl (record { may = may; between = between; begins = begins; stops = stop })
+stops c before between after steps at (failure.Exchange why) may begins stop =
     inl (record { may = may; between = between; begins = begins; stops = stop })
-stops limits turns x m access Wanted Again before between after steps at (failure.Differs d) may begins stop =
+stops c before between after steps at (failure.Differs d) may begins stop =
     inl (record { may = may; between = between; begins = begins; stops = stop })
-stops limits turns x m access Wanted Again before between after steps at (failure.Gives chip want) may begins stop =
+stops c before between after steps at (failure.Gives chip want) may begins stop =
     inl (record { may = may; between = between; begins = begins; stops = stop })
-stops limits turns x m access Wanted Again before between after steps at failure.Carried may begins stop =
-    absurd (never_stops limits turns m after steps stop.done stop.beyond stop.rest stop.reached stop.last stop.given stop.reason stop.those may.carried stop.stop stop.failure)
+stops c before between after steps at failure.Carried may begins stop = absurd (never_stops c.rules between after steps at may.carried stop)
 
 -- and where the last comparison does
-pub stops_after : (limits : Limits) (turns : ℕ) (x : Expectation) (m : Parameters) (access : Access) (Wanted : ℕ → Type 0) (Again : List ℕ → ℕ → Type 0) (before after : Moment) (steps : List Step) (at : ℕ)
-    (why : Mismatch) (failed : Failure) → failed ≡ failure_by why → IsUnlikeAfter limits turns x access Wanted Again before steps at failed after
-    → EndsComparing limits turns x m access Wanted Again before steps (Failed at failed) after
-stops_after limits turns x m access Wanted Again before after steps at (mismatch.Exchange why) failed is stop =
-    subst (λ (f : Failure). EndsComparing limits turns x m access Wanted Again before steps (Failed at f) after) (sym is)
-    (inr (subst (λ (f : Failure). IsUnlikeAfter limits turns x access Wanted Again before steps at f after) is stop))
-stops_after limits turns x m access Wanted Again before after steps at (mismatch.Differs d) failed is stop =
-    subst (λ (f : Failure). EndsComparing limits turns x m access Wanted Again before steps (Failed at f) after) (sym is)
-    (inr (subst (λ (f : Failure). IsUnlikeAfter limits turns x access Wanted Again before steps at f after) is stop))
+pub stops_after : (c : Course) (before after : Moment) (steps : List Step) (at : ℕ) (why : Mismatch) (failed : Failure) → failed ≡ failure_by why
+    → IsUnlikeAfter c before steps (halt_at at failed) after → EndsComparing c before steps (Failed at failed) after
+stops_after c before after steps at (mismatch.Exchange why) failed is stop =
+    subst (λ (f : Failure). EndsComparing c before steps (Failed at f) after) (sym is)
+    (inr (subst (λ (f : Failure). IsUnlikeAfter c before steps (halt_at at f) after) is stop))
+stops_after c before after steps at (mismatch.Differs d) failed is stop =
+    subst (λ (f : Failure). EndsComparing c before steps (Failed at f) after) (sym is)
+    (inr (subst (λ (f : Failure). IsUnlikeAfter c before steps (halt_at at f) after) is stop))
 
 -- the first that isn't
 pub not_carried : (limits : Limits) (steps : List Step) (at number : ℕ) (x : Step) → at < length steps → x ≡ get_or steps at x → number ≡ at
@@ -114,10 +113,11 @@ told_not limits x clocks r is tells failed can =
     let both : true ≡ false = sym passed ∙ failed in cc
 
 -- of limits and turns that stayed
-pub same_bounds : (m : Parameters) (limits limits' : Limits) (turns turns' : ℕ) (before after : Moment) (steps : List Step) (at : ℕ) (failed : Failure) → limits' ≡ limits → turns' ≡ turns
-    → StopsAt m limits' turns' before steps at failed after → StopsAt m limits turns before steps at failed after
-same_bounds m limits limits' turns turns' before after steps at failed same as_many stop =
-    subst (λ (l : Limits). StopsAt m l turns before steps at failed after) same (subst (λ n. StopsAt m limits' n before steps at failed after) as_many stop)
+pub same_bounds : (m : Parameters) (limits limits' : Limits) (turns turns' : ℕ) (before after : Moment) (steps : List Step) (halt : Halt) → limits' ≡ limits
+    → turns' ≡ turns → StopsAt (rules_of limits' turns' m) before steps halt after → StopsAt (rules_of limits turns m) before steps halt after
+same_bounds m limits limits' turns turns' before after steps halt same as_many stop =
+    subst (λ (l : Limits). StopsAt (rules_of l turns m) before steps halt after) same
+    (subst (λ n. StopsAt (rules_of limits' n m) before steps halt after) as_many stop)
 
 pub done_bounds : (limits limits' : Limits) (turns turns' : ℕ) (before after : Moment) (steps : List Step) → limits' ≡ limits → turns' ≡ turns
     → DoesAll limits' turns' before steps after → DoesAll limits turns before steps after

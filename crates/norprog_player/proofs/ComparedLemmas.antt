@@ -1,17 +1,16 @@
 -- Ranges read one after the other.
-use Rattle.std.proofs.Common.{◌≡◌, Bool, ℕ, ◌+◌, ◌<◌, ◌≤◌, ◌⊎◌, inl, inr, List, [], ◌∷◌, ◌++◌, length, Option, Err, sym, ◌∙◌, ap, subst, arith, append-nil}
+use Rattle.std.proofs.Common.{◌≡◌, Bool, ℕ, ◌+◌, ◌<◌, ◌≤◌, ◌⊎◌, inl, inr, List, [], ◌∷◌, ◌++◌, length, Err, sym, ◌∙◌, ap, subst, arith, append-nil}
 use Rattle.std.specs.Prelude.{flat_map, ◌↔◌}
 use Rattle.std.specs.List.{slice_range}
 use Rattle.std.proofs.lemmas.Bool.{cases_lt}
 use Rattle.std.proofs.lemmas.Grind.{flat_map-append}
-use Rattle.nor_base.specs.Device.{Ahead}
 use Rattle.nor_probe.specs.declared.difference.Mismatch.{Mismatch}
 use Rattle.nor_serprog.specs.declared.limits.Limits.{Limits}
-use Rattle.nor_loop.specs.Log.{HasLogged}
 use Rattle.nor_loop.proofs.DeviceLemmas.{logged_none, logged_both}
+use Rattle.norprog_device.specs.Wire.{Wire}
 use Rattle.norprog_player.specs.declared.access.Access.{Access}
 use Rattle.norprog_player.specs.Access.{read_ops}
-use Rattle.norprog_player.specs.Compared.{Range, LiesIn, LiesInOne, AreInOrder, IsOneSided, IsOneSidedPiece, range_ops, HasComparedTo, HasCompared, ReadsRange, StopsComparing}
+use Rattle.norprog_player.specs.Compared.{comparison, piece_at, range_ops, AreInOrder, Comparison, HasCompared, HasComparedTo, HasDone, IsOneSided, IsOneSidedPiece, LiesIn, LiesInOne, Range, ReadsRange, StopsComparing}
 use Rattle.nor_cells.specs.Marks.{IsMarked, IsNextMarked, AreMarkedFrom}
 
 -- one range more
@@ -41,20 +40,20 @@ in_order_more most low high higher (x ∷ xs) r order past some few sided upto =
     (order.0, order.1, order.2, order.3, in_order_more most (x.start + x.len) high higher xs r order.4 past some few sided upto)
 
 -- nothing was read yet
-pub none_read : (held : Option (List ℕ)) (a : Ahead) (limits : Limits) (access : Access) (content : List ℕ) (Wanted : ℕ → Type 0) → HasComparedTo held held a a limits access content Wanted 0
-none_read held a limits access content Wanted = record {
+pub none_read : (u : Wire) (c : Comparison) (content : List ℕ) → HasComparedTo u u c content 0
+none_read u c content = record {
   ranges = [];
   in_order = omega arith;
   just = λ k. ((λ h. absurd h), (λ h. absurd (omega (arith, h.0))));
-  read = logged_none held a;
+  read = logged_none u.held u.ahead;
 }
 
 -- where no address up to a higher one is wanted
-pub reaches : (held held' : Option (List ℕ)) (a b : Ahead) (limits : Limits) (access : Access) (content : List ℕ) (Wanted : ℕ → Type 0) (high higher : ℕ) → high ≤ higher
-    → ((k : ℕ) → high ≤ k → k < higher → Wanted k → ⊥) → HasComparedTo held held' a b limits access content Wanted high → HasComparedTo held held' a b limits access content Wanted higher
-reaches held held' a b limits access content Wanted high higher more none so_far = record {
+pub reaches : (u v : Wire) (c : Comparison) (content : List ℕ) (high higher : ℕ) → high ≤ higher → ((k : ℕ) → high ≤ k → k < higher → c.Wanted k → ⊥)
+    → HasComparedTo u v c content high → HasComparedTo u v c content higher
+reaches u v c content high higher more none so_far = record {
   ranges = so_far.ranges;
-  in_order = in_order_higher limits.asked 0 high higher so_far.ranges more so_far.in_order;
+  in_order = in_order_higher c.limits.asked 0 high higher so_far.ranges more so_far.in_order;
   just = λ k. (
     (λ h. let both = (so_far.just k).0 h in (omega (arith, both.0), both.1)),
     (λ h. elim (cases_lt k high) [
@@ -66,16 +65,16 @@ reaches held held' a b limits access content Wanted high higher more none so_far
 }
 
 -- one range more, of addresses that are all wanted
-pub reads_more : (held held' held'' : Option (List ℕ)) (a b c : Ahead) (limits : Limits) (access : Access) (content : List ℕ) (Wanted : ℕ → Type 0) (r : Range) → 0 < r.len → r.len ≤ limits.asked
-    → IsOneSided r
-    → ((k : ℕ) → r.start ≤ k → k < r.start + r.len → Wanted k) → HasComparedTo held held' a b limits access content Wanted r.start
-    → HasLogged held' held'' b c (range_ops access content r) → HasComparedTo held held'' a c limits access content Wanted (r.start + r.len)
-reads_more held held' held'' a b c limits access content Wanted r some few sided wanted so_far read =
-    let ops : flat_map (range_ops access content) (so_far.ranges ++ r ∷ []) ≡ flat_map (range_ops access content) so_far.ranges ++ range_ops access content r =
-    flat_map-append (range_ops access content) so_far.ranges (r ∷ []) ∙ ap (λ l. flat_map (range_ops access content) so_far.ranges ++ l) (append-nil (range_ops access content r)) in
+pub reads_more : (u v w : Wire) (c : Comparison) (content : List ℕ) (r : Range) → 0 < r.len → r.len ≤ c.limits.asked → IsOneSided r
+    → ((k : ℕ) → r.start ≤ k → k < r.start + r.len → c.Wanted k) → HasComparedTo u v c content r.start → HasDone v w (range_ops c.access content r)
+    → HasComparedTo u w c content (r.start + r.len)
+reads_more u v w c content r some few sided wanted so_far read =
+    let each = range_ops c.access content in
+    let ops : flat_map each (so_far.ranges ++ r ∷ []) ≡ flat_map each so_far.ranges ++ each r =
+    flat_map-append each so_far.ranges (r ∷ []) ∙ ap (λ l. flat_map each so_far.ranges ++ l) (append-nil (each r)) in
     record {
       ranges = so_far.ranges ++ r ∷ [];
-      in_order = in_order_more limits.asked 0 r.start (r.start + r.len) so_far.ranges r so_far.in_order (omega arith) some few sided (omega arith);
+      in_order = in_order_more c.limits.asked 0 r.start (r.start + r.len) so_far.ranges r so_far.in_order (omega arith) some few sided (omega arith);
       just = λ k. (
         (λ h. elim (in_one_more so_far.ranges r k h) [
           | inl before ↦ let both = (so_far.just k).0 before in (omega (arith, both.0), both.1)
@@ -86,51 +85,50 @@ reads_more held held' held'' a b c limits access content Wanted r some few sided
           | inr past ↦ in_one_last so_far.ranges r k (past, h.0)
         ]),
       );
-      read = subst (HasLogged held held'' a c) (sym ops) (logged_both held held' held'' a b c _ _ so_far.read read);
+      read = subst (HasDone u w) (sym ops) (logged_both u.held v.held w.held u.ahead v.ahead w.ahead _ _ so_far.read read);
     }
 
 abbrev piece_of : ℕ → ℕ → Range
 piece_of start len = record { start = start; len = len }
 
--- the next piece of marked addresses
-pub piece_more : (held held' held'' : Option (List ℕ)) (a b c : Ahead) (limits : Limits) (access : Access) (content piece : List ℕ) (marks : List Bool) (done start upto len : ℕ)
-    → start + len ≤ length content → piece ≡ slice_range content start (start + len) → IsNextMarked marks done start → AreMarkedFrom marks start limits.asked upto → 0 < len → len ≤ upto
-    → IsOneSidedPiece start len → HasComparedTo held held' a b limits access content (IsMarked marks) done → HasLogged held' held'' b c (read_ops access start piece)
-    → HasComparedTo held held'' a c limits access content (IsMarked marks) (start + len)
-piece_more held held' held'' a b c limits access content piece marks done start upto len within is next from some few sided so_far read =
-    reads_more held held' held'' a b c limits access content (IsMarked marks) (piece_of start len) some (omega (arith, few, from.few)) sided
-    (λ k past below. from.each k past (omega (arith, below, few)))
-    (reaches held held' a b limits access content (IsMarked marks) done start next.past next.none_before so_far)
-    (subst (λ (l : List ℕ). HasLogged held' held'' b c (read_ops access start l)) is read)
+module _ (limits : Limits) (access : Access) (content : List ℕ) (marks : List Bool) where
+  abbrev marked : Comparison
+  marked = comparison limits access (IsMarked marks)
 
--- its read ended so
-pub piece_stopped : (held held' held'' : Option (List ℕ)) (a b c : Ahead) (limits : Limits) (access : Access) (content piece : List ℕ) (marks : List Bool) (done start upto len : ℕ) (why : Mismatch)
-    → start + len ≤ length content → piece ≡ slice_range content start (start + len) → IsNextMarked marks done start → AreMarkedFrom marks start limits.asked upto → 0 < len → len ≤ upto
-    → IsOneSidedPiece start len → HasComparedTo held held' a b limits access content (IsMarked marks) done → ReadsRange held' held'' b c (Err why) access start piece
-    → StopsComparing held held'' a c limits access content (IsMarked marks) why
-piece_stopped held held' held'' a b c limits access content piece marks done start upto len why within is next from some few sided so_far stop = record {
-  last = piece_of start len;
-  some = some;
-  few = omega (arith, few, from.few);
-  within = within;
-  sided = sided;
-  wanted = λ k h. from.each k h.0 (omega (arith, h.1, few));
-  held = held';
-  ahead = b;
-  before = reaches held held' a b limits access content (IsMarked marks) done start next.past next.none_before so_far;
-  stop = subst (λ (l : List ℕ). ReadsRange held' held'' b c (Err why) access start l) is stop;
-}
+  -- the next piece of marked addresses
+  pub piece_more : (u v w : Wire) (done start upto len : ℕ) → IsNextMarked marks done start → AreMarkedFrom marks start limits.asked upto → 0 < len
+      → len ≤ upto → IsOneSidedPiece start len → HasComparedTo u v marked content done
+      → HasDone v w (read_ops access start (slice_range content start (start + len))) → HasComparedTo u w marked content (start + len)
+  piece_more u v w done start upto len next from some few sided so_far read =
+      reads_more u v w marked content (piece_of start len) some (omega (arith, few, from.few)) sided
+      (λ k past below. from.each k past (omega (arith, below, few)))
+      (reaches u v marked content done start next.past next.none_before so_far) read
 
--- there are no more
-pub all_read : (held held' : Option (List ℕ)) (a b : Ahead) (limits : Limits) (access : Access) (content : List ℕ) (marks : List Bool) (done : ℕ) → done ≤ length content
-    → ((k : ℕ) → done ≤ k → IsMarked marks k → ⊥) → HasComparedTo held held' a b limits access content (IsMarked marks) done → HasCompared held held' a b limits access content (IsMarked marks)
-all_read held held' a b limits access content marks done within none so_far =
-    reaches held held' a b limits access content (IsMarked marks) done (length content) within (λ k past below is. none k past is) so_far
+  -- its read ended so
+  pub piece_stopped : (u v w : Wire) (done start upto len : ℕ) (why : Mismatch) → start + len ≤ length content → IsNextMarked marks done start
+      → AreMarkedFrom marks start limits.asked upto → 0 < len → len ≤ upto → IsOneSidedPiece start len → HasComparedTo u v marked content done
+      → ReadsRange v w (Err why) access (piece_at start (slice_range content start (start + len))) → StopsComparing u w marked content why
+  piece_stopped u v w done start upto len why within next from some few sided so_far stop = record {
+    last = piece_of start len;
+    some = some;
+    few = omega (arith, few, from.few);
+    within = within;
+    sided = sided;
+    wanted = λ k h. from.each k h.0 (omega (arith, h.1, few));
+    between = v;
+    compared = reaches u v marked content done start next.past next.none_before so_far;
+    stop = stop;
+  }
+
+  -- there are no more
+  pub all_read : (u v : Wire) (done : ℕ) → done ≤ length content → ((k : ℕ) → done ≤ k → IsMarked marks k → ⊥) → HasComparedTo u v marked content done
+      → HasCompared u v marked content
+  all_read u v done within none so_far = reaches u v marked content done (length content) within (λ k past below is. none k past is) so_far
 
 -- of addresses that are wanted just where others are
-pub wanted_alike : (held held' : Option (List ℕ)) (a b : Ahead) (limits : Limits) (access : Access) (content : List ℕ) (P Q : ℕ → Type 0) (high : ℕ) → ((k : ℕ) → k < high → (P k ↔ Q k))
-    → HasComparedTo held held' a b limits access content P high → HasComparedTo held held' a b limits access content Q high
-wanted_alike held held' a b limits access content P Q high alike so_far = record {
+pub wanted_alike : (u v : Wire) (limits : Limits) (access : Access) (content : List ℕ) (P Q : ℕ → Type 0) (high : ℕ) → ((k : ℕ) → k < high → (P k ↔ Q k))
+    → HasComparedTo u v (comparison limits access P) content high → HasComparedTo u v (comparison limits access Q) content high
+wanted_alike u v limits access content P Q high alike so_far = record {
   ranges = so_far.ranges;
   in_order = so_far.in_order;
   just = λ k. (

@@ -1,26 +1,14 @@
 -- Steps done one after the other.
-use Rattle.std.proofs.Common.{◌≡◌, ℕ, ◌+◌, ◌<◌, ◌≤◌, List, [], ◌∷◌, ◌++◌, drop, length, get_or, Ok, refl, sym, ◌∙◌, ap, subst}
+use Rattle.std.proofs.Common.{◌≡◌, ℕ, ◌+◌, ◌<◌, ◌≤◌, List, drop, length, get_or, Ok, sym, ◌∙◌, ap, subst}
 use Rattle.std.proofs.lemmas.List.{drop_all}
 use Rattle.nor_base.specs.declared.step.Step.{Step}
 use Rattle.nor_base.specs.Chip.{Chip}
 use Rattle.nor_base.specs.Port.{Shown}
 use Rattle.nor_base.specs.Run.{played}
-use Rattle.nor_serprog.specs.declared.limits.Limits.{Limits}
-use Rattle.norprog_player.specs.Moment.{Moment, IsTaken, Does, DoesAll}
+use Rattle.norprog_player.specs.Moment.{IsTaken}
 use Rattle.norprog_player.proofs.TakenLemmas.{goes_on, nothing_more}
 use Rattle.nor_base.proofs.ListLaws.{first_left}
 use Rattle.nor_base.specs.Step.{step_clocks}
-
--- one step more
-pub does_more : (limits : Limits) (turns : ℕ) (a b c : Moment) (xs : List Step) (x : Step) → DoesAll limits turns a xs b → Does limits turns b (step_clocks x) c
-    → DoesAll limits turns a (xs ++ x ∷ []) c
-does_more limits turns a b c [] x all one = (c, subst (λ (m : Moment). Does limits turns m (step_clocks x) c) all one, refl)
-does_more limits turns a b c (y ∷ ys) x all one = (all.0, all.1, does_more limits turns all.0 b c ys x all.2 one)
-
--- of limits and turns that stayed
-pub bounded : (limits limits' : Limits) (turns turns' : ℕ) (b c : Moment) (clocks : List ℕ) → limits' ≡ limits → turns' ≡ turns → Does limits' turns' b clocks c → Does limits turns b clocks c
-bounded limits limits' turns turns' b c clocks same as_many one =
-    subst (λ (l : Limits). Does l turns b clocks c) same (subst (λ n. Does limits' n b clocks c) as_many one)
 
 -- what is left of a run that goes well goes well from here
 abbrev pub GoesOn : Shown → List Step → Shown → List Step → Type 0

@@ -1,10 +1,8 @@
 -- Where memory is refused after the handshake.
 use Rattle.std.proofs.Common.{◌≡◌, ◌∙◌, ap, Bool, true, false, not, ◌&&◌, ℕ, List, Option, Ok, Err, Result, sym, subst}
 use Rattle.std.specs.Prelude.{MatchResult, IsErrAnd}
-use Rattle.nor_base.specs.declared.step.Step.{Step}
 use Rattle.nor_base.specs.Port.{Shown}
 use Rattle.nor_base.specs.Device.{Ahead}
-use Rattle.nor_base.specs.Parameters.{Parameters}
 use Rattle.nor_serprog.specs.Greeting.{Greeted}
 use Rattle.nor_serprog.specs.Line.{TestsLine}
 use Rattle.nor_job.specs.declared.fault.BuildFault.TheVariants.{Memory}
@@ -19,11 +17,12 @@ use Rattle.norprog_device.specs.Blame.{is_cut}
 use Rattle.norprog_player.specs.Blame.{fault_in}
 use Rattle.norprog_player.specs.Early.{MayPlay}
 use Rattle.norprog_player.specs.Ending.{EndsSo}
-use Rattle.norprog_player.specs.Expected.{Expectation}
+use Rattle.norprog_player.specs.Expected.{play_of, Play}
 use Rattle.norprog_player.specs.Moment.{Moment, moment}
 use Rattle.norprog_device.specs.Opened.{Opens}
+use Rattle.norprog_device.specs.Wire.{Wire}
 use Rattle.norprog_player.specs.Opened.{FailsTest, GreetsSo, HasPlayed, Releases, StopsBefore, StopsOpening}
-use Rattle.norprog_player.specs.Played.{AtGreeting, AtLine, AtMemory, EndsOnDevice, Play, StopsOnDevice, shown_in}
+use Rattle.norprog_player.specs.Played.{AtGreeting, AtLine, AtMemory, EndsOnDevice, StopsOnDevice, shown_in}
 
 pub for_memory : {T : Type 0} (P : T → Type 0) (first limits : Limits) (before after : Moment) (r : Result T Unplayed) → IsErrAnd r (λ why. why ≡ Refused (Build Memory))
     → GreetsSo before after (Ok limits) → MatchResult r P (StopsBefore first limits before after)
@@ -31,24 +30,24 @@ for_memory P first limits before after (Ok x) is greets = absurd is
 for_memory P first limits before after (Err why) is greets = subst (StopsBefore first limits before after) (sym is) greets
 
 -- a test of the line after a handshake
-pub opens_so : (held held' held'' : Option (List ℕ)) (ahead ahead' ahead'' : Ahead) (first limits limits' : Limits) → limits' ≡ limits → Greeted held held' ahead ahead' (Ok limits)
-    → (r : Result (Unit {0}) DeviceFault) → MatchResult r (λ _. TestsLine held' held'' ahead' ahead'' (Ok tt) limits) (FailsTest held' held'' ahead' ahead'' limits)
-    → MatchResult r (λ _. Opens held held'' ahead ahead'' (Ok limits')) (StopsOpening held held'' ahead ahead'' first limits')
-opens_so held held' held'' ahead ahead' ahead'' first limits limits' same greeted (Ok u) tested =
-    subst (λ (l : Limits). Opens held held'' ahead ahead'' (Ok l)) (sym same) (record { held = held'; ahead = ahead'; greeted = greeted; tested = tested })
-opens_so held held' held'' ahead ahead' ahead'' first limits limits' same greeted (Err (Line why)) tested =
-    subst (λ (l : Limits). StopsOpening held held'' ahead ahead'' first l (Line why)) (sym same) (record { held = held'; ahead = ahead'; greeted = greeted; tested = tested })
-opens_so held held' held'' ahead ahead' ahead'' first limits limits' same greeted (Err (Greet why)) tested = absurd tested
+pub opens_so : (u v w : Wire) (first limits limits' : Limits) → limits' ≡ limits → Greeted u.held v.held u.ahead v.ahead (Ok limits) → (r : Result (Unit {0}) DeviceFault)
+    → MatchResult r (λ _. TestsLine v.held w.held v.ahead w.ahead (Ok tt) limits) (FailsTest v w limits)
+    → MatchResult r (λ _. Opens u.held w.held u.ahead w.ahead (Ok limits')) (StopsOpening u w first limits')
+opens_so u v w first limits limits' same greeted (Ok u') tested =
+    subst (λ (l : Limits). Opens u.held w.held u.ahead w.ahead (Ok l)) (sym same)
+    (record { held = v.held; ahead = v.ahead; greeted = greeted; tested = tested })
+opens_so u v w first limits limits' same greeted (Err (Line why)) tested =
+    subst (λ (l : Limits). StopsOpening u w first l (Line why)) (sym same)
+    (record { held = v.held; ahead = v.ahead; greeted = greeted; tested = tested })
+opens_so u v w first limits limits' same greeted (Err (Greet why)) tested = absurd tested
 
--- steps that ended after a handshake, by what the code says of the limits and the turns
-pub has_played : (limits limits' : Limits) (turns turns' : ℕ) (x : Expectation) (m : Parameters) (before between after : Moment) (steps : List Step) (ending : Ending)
-    → limits' ≡ limits → turns ≡ turns' → GreetsSo before between (Ok limits) → EndsSo limits turns x m between steps ending after
-    → HasPlayed limits' turns' x m before steps ending after
-has_played limits limits' turns turns' x m before between after steps ending same as_many greets ends = record {
+-- steps that ended after a handshake, by what the code says of the limits and the play
+pub has_played : (limits limits' : Limits) (p q : Play) (before between after : Moment) (ending : Ending) → limits' ≡ limits → p ≡ q
+    → GreetsSo before between (Ok limits) → EndsSo limits p between ending after → HasPlayed limits' q before ending after
+has_played limits limits' p q before between after ending same alike greets ends = record {
   between = between;
   greets = subst (λ (l : Limits). GreetsSo before between (Ok l)) (sym same) greets;
-  ends = subst (λ (l : Limits). EndsSo l turns' x m between steps ending after) (sym same)
-      (subst (λ n. EndsSo limits n x m between steps ending after) as_many ends);
+  ends = subst (λ (l : Limits). EndsSo l q between ending after) (sym same) (subst (λ (x : Play). EndsSo limits x between ending after) alike ends);
 }
 
 -- the pins, by what the code says of a request that was cut
@@ -60,17 +59,21 @@ uncut : (pins : Bool) (reached after : Moment) → Releases (pins && true) reach
 uncut true reached after released = released
 uncut false reached after released = released
 
+-- a play whose polls make so many status reads at most
+abbrev of_turns : Play → ℕ → Play
+of_turns p turns = play_of p.steps p.expected p.meaning p.content turns
+
 -- a play on that device of steps that may be played
 module _ (p : Play) (first limits : Limits) (before reached after : Moment) (cut : Bool) (may : MayPlay (shown_in p) p.steps) (none : first.pins ≡ false)
     (released : Releases (limits.pins && not cut) reached after) where
   pub known_ends : (turns : ℕ) (r : Result Ending Unplayed) → turns ≡ p.limit → cut ≡ is_cut (fault_in r)
-      → MatchResult r (λ ending. HasPlayed limits turns p.expected p.meaning before p.steps ending reached) (StopsBefore first limits before reached)
+      → MatchResult r (λ ending. HasPlayed limits (of_turns p turns) before ending reached) (StopsBefore first limits before reached)
       → MatchResult r (EndsOnDevice p before after) (StopsOnDevice p before after)
   known_ends turns (Ok ending) same so is = record {
     may = may;
     reached = reached;
     limits = limits;
-    played = subst (λ n. HasPlayed limits n p.expected p.meaning before p.steps ending reached) same is;
+    played = subst (λ n. HasPlayed limits (of_turns p n) before ending reached) same is;
     released = released_so limits.pins cut (is_cut (fault_in (Ok ending))) reached after so released;
   }
   known_ends turns (Err (Device (Greet why))) same so is =
@@ -102,7 +105,11 @@ begun_so now begun held held' ahead ahead' is taken given =
 
 -- a play that began so began as it is said
 pub begun_by : (limits first : Limits) (turns : ℕ) (p : Play) (now begun reached : Moment) (r : Result Ending Unplayed) → now ≡ begun
-    → MatchResult r (λ ending. HasPlayed limits turns p.expected p.meaning now p.steps ending reached) (StopsBefore first limits now reached)
-    → MatchResult r (λ ending. HasPlayed limits turns p.expected p.meaning begun p.steps ending reached) (StopsBefore first limits begun reached)
-begun_by limits first turns p now begun reached r is ends =
-    subst (λ (b : Moment). MatchResult r (λ ending. HasPlayed limits turns p.expected p.meaning b p.steps ending reached) (StopsBefore first limits b reached)) is ends
+    → begun.shown.chip.array ≡ p.content
+    → MatchResult r (λ ending. HasPlayed limits (play_of p.steps p.expected p.meaning now.shown.chip.array turns) now ending reached) (StopsBefore first limits now reached)
+    → MatchResult r (λ ending. HasPlayed limits (of_turns p turns) begun ending reached) (StopsBefore first limits begun reached)
+begun_by limits first turns p now begun reached r is whole ends =
+    subst (λ (content : List ℕ). MatchResult r (λ ending. HasPlayed limits (play_of p.steps p.expected p.meaning content turns) begun ending reached)
+    (StopsBefore first limits begun reached)) whole
+    (subst (λ (b : Moment). MatchResult r (λ ending. HasPlayed limits (play_of p.steps p.expected p.meaning b.shown.chip.array turns) b ending reached)
+    (StopsBefore first limits b reached)) is ends)

@@ -32,7 +32,9 @@ use Rattle.nor_serprog.specs.Follow.{Follows, Operates}
 use Rattle.nor_serprog.specs.Row.{CutsRow, HasHalted, IsRow, StopsWithin}
 use Rattle.norprog_failure.specs.declared.failure.Failure.{Failure}
 use Rattle.norprog_failure.specs.Reported.{FailsAs}
-use Rattle.norprog_player.specs.Moment.{Moment, IsTaken, Does, DoesAll, StopsAt, StopsStep}
+use Rattle.norprog_device.specs.Wire.{wire, Wire}
+use Rattle.norprog_player.specs.declared.follow.Halt.{Halt as Halted}
+use Rattle.norprog_player.specs.Moment.{halt_at, moment, stop_of, Does, DoesAll, IsTaken, Moment, Rules, Stop, StopsAt, StopsStep}
 use Rattle.norprog_player.specs.Together.{AreTaken, GivesExpected, IsPlain, MayGoTogether, StopsAlone}
 use Rattle.norprog_player.proofs.FollowedLemmas.{Goes, GoesOn}
 use Rattle.norprog_player.proofs.TakenLemmas.{goes_on}
@@ -114,9 +116,6 @@ ends h i m n limits turns why (Verify symbols expect) given plain gave stopped =
   other = λ no. subst (λ (l : List ℕ). Operates h i m n (Err why) limits symbols l) (sym gave) stopped;
 }
 
-abbrev at_moment : Shown → Option (List ℕ) → Ahead → Moment
-at_moment shown held ahead = record { shown = shown; held = held; ahead = ahead }
-
 pub head_of : (P : Step → Type 0) (x : Step) (xs : List Step) → All P (x ∷ xs) → P x
 head_of P x xs all = all 0 x (omega arith)
 
@@ -124,11 +123,11 @@ tail_of : (P : Step → Type 0) (x : Step) (xs : List Step) → All P (x ∷ xs)
 tail_of P x xs all = λ k d lt. all (suc k) d (omega (arith, lt))
 
 pub both_do : (a b : Shown) (h i : Option (List ℕ)) (m n : Ahead) (limits : Limits) (turns : ℕ) (row : List Step) → AreTaken a row b → All IsPlain row
-    → HasDoneAll h i m n limits turns row → DoesAll limits turns (at_moment a h m) row (at_moment b i n)
+    → HasDoneAll h i m n limits turns row → DoesAll limits turns (moment a h m) row (moment b i n)
 both_do a b h i m n limits turns [] taken plain done =
     let shown : b ≡ a = taken in let held : i ≡ h = done.0 in let ahead : n ≡ m = done.1 in cc
 both_do a b h i m n limits turns (x ∷ xs) taken plain done = (
-  at_moment taken.1 done.0 done.1,
+  moment taken.1 done.0 done.1,
   record {
     given = taken.0;
     chip = taken.2;
@@ -146,40 +145,36 @@ by_reason m clocks one other reason.Carried failed never is = is
 by_reason m clocks one other (reason.Differs place byte) failed never is = absurd (never place byte refl)
 
 -- what the device did at a step that stopped
-abbrev Stopped : Option (List ℕ) → Option (List ℕ) → Ahead → Ahead → Limits → ℕ → Reason → Step → List Step → Type 0
-Stopped h i m n limits turns why x beyond = StopsWithin h i m n limits turns why x beyond ⊎ CutsRow h i m n limits turns why (x ∷ beyond)
+abbrev Stopped : Rules → Wire → Wire → Reason → Step → List Step → Type 0
+Stopped r u v why x beyond =
+    StopsWithin u.held v.held u.ahead v.ahead r.limits r.turns why x beyond ⊎ CutsRow u.held v.held u.ahead v.ahead r.limits r.turns why (x ∷ beyond)
 
 -- a poll never stops at another byte
-no_byte : (h i : Option (List ℕ)) (m n : Ahead) (limits : Limits) (turns : ℕ) (why : Reason) (symbols : List ℕ) (beyond : List Step)
-    → Stopped h i m n limits turns why (Poll symbols) beyond → (place byte : ℕ) → why ≡ reason.Differs place byte → ⊥
-no_byte h i m n limits turns why symbols beyond (inl within) place byte is =
-    (subst (λ (r : Reason). HasStopped h within.held m n limits turns r (Poll symbols)) is within.stopped).1
-no_byte h i m n limits turns why symbols beyond (inr cut) place byte is = let bad : reason.Exchange fault.Write ≡ reason.Differs place byte = sym cut.writer ∙ is in cc
+no_byte : (r : Rules) (u v : Wire) (why : Reason) (symbols : List ℕ) (beyond : List Step) → Stopped r u v why (Poll symbols) beyond → (place byte : ℕ)
+    → why ≡ reason.Differs place byte → ⊥
+no_byte r u v why symbols beyond (inl within) place byte is =
+    (subst (λ (y : Reason). HasStopped u.held within.held u.ahead v.ahead r.limits r.turns y (Poll symbols)) is within.stopped).1
+no_byte r u v why symbols beyond (inr cut) place byte is = let bad : reason.Exchange fault.Write ≡ reason.Differs place byte = sym cut.writer ∙ is in cc
 
-fails_so : (h i : Option (List ℕ)) (p q : Ahead) (limits : Limits) (turns : ℕ) (m : Parameters) (x : Step) (given : List ℕ) (why : Reason) (failed : Failure)
-    (beyond : List Step) → GivesExpected x given → Stopped h i p q limits turns why x beyond → FailsAs m (step_clocks x) (expected x) why failed
-    → FailsAs m (step_clocks x) given why failed
-fails_so h i p q limits turns m (Send symbols) given why failed beyond gave stop is = subst (λ (l : List ℕ). FailsAs m symbols l why failed) (sym gave) is
-fails_so h i p q limits turns m (Poll symbols) given why failed beyond gave stop is =
-    by_reason m symbols [] given why failed (no_byte h i p q limits turns why symbols beyond stop) is
-fails_so h i p q limits turns m (Verify symbols expect) given why failed beyond gave stop is =
-    subst (λ (l : List ℕ). FailsAs m symbols l why failed) (sym gave) is
+fails_so : (r : Rules) (u v : Wire) (x : Step) (stop : Stop) (failed : Failure) → GivesExpected x stop.given → Stopped r u v stop.reason x stop.beyond
+    → FailsAs r.m (step_clocks x) (expected x) stop.reason failed → FailsAs r.m (step_clocks x) stop.given stop.reason failed
+fails_so r u v (Send symbols) stop failed gave stopped is = subst (λ (l : List ℕ). FailsAs r.m symbols l stop.reason failed) (sym gave) is
+fails_so r u v (Poll symbols) stop failed gave stopped is =
+    by_reason r.m symbols [] stop.given stop.reason failed (no_byte r u v stop.reason symbols stop.beyond stopped) is
+fails_so r u v (Verify symbols expect) stop failed gave stopped is =
+    subst (λ (l : List ℕ). FailsAs r.m symbols l stop.reason failed) (sym gave) is
 
-stops_so : (a : Shown) (h i : Option (List ℕ)) (p q : Ahead) (limits : Limits) (turns : ℕ) (x : Step) (given : List ℕ) (why : Reason) (beyond : List Step)
-    (after : Moment) → i ≡ after.held → q ≡ after.ahead → IsPlain x → GivesExpected x given → Stopped h i p q limits turns why x beyond
-    → StopsStep limits turns (at_moment a h p) x given why beyond after
-stops_so a h i p q limits turns x given why beyond after same_held same_ahead plain gave (inl within) = inl (record {
+stops_so : (r : Rules) (u v : Wire) (x : Step) (stop : Stop) → IsPlain x → GivesExpected x stop.given → Stopped r u v stop.reason x stop.beyond
+    → StopsStep r u x stop v
+stops_so r u v x stop plain gave (inl within) = inl (record {
   held = within.held;
-  device = subst (λ (l : Ahead). Follows h within.held p l (Err why) limits turns (step_clocks x) given) same_ahead
-      (ends h within.held p q limits turns why x given plain gave within.stopped);
+  device = ends u.held within.held u.ahead v.ahead r.limits r.turns stop.reason x stop.given plain gave within.stopped;
   put = within.put;
   ahead = within.ahead;
-  out = subst (λ (l : Option (List ℕ)). Appends within.held l within.put) same_held within.out;
+  out = within.out;
   last = within.last;
 })
-stops_so a h i p q limits turns x given why beyond after same_held same_ahead plain gave (inr cut) = inr (
-    subst (λ (l : Ahead). CutsRow h after.held p l limits turns why (x ∷ beyond)) same_ahead
-    (subst (λ (l : Option (List ℕ)). CutsRow h l p q limits turns why (x ∷ beyond)) same_held cut))
+stops_so r u v x stop plain gave (inr cut) = inr cut
 
 -- each of some is one of all
 all_left : (P : Step → Type 0) (xs ys : List Step) → All P (xs ++ ys) → All P xs
@@ -191,12 +186,11 @@ all_right P [] ys all = all
 all_right P (x ∷ xs) ys all = all_right P xs ys (tail_of P x (xs ++ ys) all)
 
 -- a row that the chip in memory did, and at one of whose steps the device halted
-pub halted : (m : Parameters) (limits : Limits) (turns : ℕ) (row : List Step) (a b : Shown) (h i : Option (List ℕ)) (p q : Ahead) (halt : Halt)
-    (failed : Failure) (after : Moment) → i ≡ after.held → q ≡ after.ahead → AreTaken a row b → All IsPlain row
-    → HasHalted h i p q limits turns row halt
-    → ((x : Step) → x ≡ get_or row halt.step x → FailsAs m (step_clocks x) (expected x) halt.why failed)
-    → StopsAt m limits turns (at_moment a h p) row halt.step failed after
-halted m limits turns row a b h i p q halt failed after same_held same_ahead taken plain halts fails =
+pub halted : (r : Rules) (row : List Step) (a b : Shown) (u : Wire) (halt : Halt) (failed : Failure) (after : Moment) → AreTaken a row b → All IsPlain row
+    → HasHalted u.held after.wire.held u.ahead after.wire.ahead r.limits r.turns row halt
+    → ((x : Step) → x ≡ get_or row halt.step x → FailsAs r.m (step_clocks x) (expected x) halt.why failed)
+    → StopsAt r (record { shown = a; wire = u }) row (halt_at halt.step failed) after
+halted r row a b u halt failed after taken plain halts fails =
     let parts : List Step = halts.done ++ (halts.at ∷ (halts.beyond ++ halts.rest)) in
     let split = taken_split a b halts.done (halts.at ∷ (halts.beyond ++ halts.rest)) (subst (λ (l : List Step). AreTaken a l b) halts.those taken) in
     let plain_parts : All IsPlain parts = subst (All IsPlain) halts.those plain in
@@ -204,23 +198,23 @@ halted m limits turns row a b h i p q halt failed after same_held same_ahead tak
     let at_place : halts.at ≡ get_or row halt.step halts.at =
     sym (get_or-append_seam halts.done halts.at (halts.beyond ++ halts.rest) halts.at)
     ∙ (ap (λ (l : List Step). get_or l (length halts.done) halts.at) (sym halts.those) ∙ ap (λ n. get_or row n halts.at) (sym halts.number)) in
+    let reached = wire halts.held halts.ahead in
+    let stop = stop_of halt.why split.2.0 halts.beyond in
     record {
       done = halts.done;
       last = halts.at;
-      beyond = halts.beyond;
+      stop = stop;
       rest = halts.rest;
       those = halts.those;
       number = halts.number;
       row = halts.row;
-      reached = at_moment split.0 halts.held halts.ahead;
-      does = both_do a split.0 h halts.held p halts.ahead limits turns halts.done split.1 (all_left IsPlain halts.done (halts.at ∷ (halts.beyond ++ halts.rest)) plain_parts)
-          halts.before;
-      given = split.2.0;
+      reached = record { shown = split.0; wire = reached };
+      does = both_do a split.0 u.held halts.held u.ahead halts.ahead r.limits r.turns halts.done split.1
+          (all_left IsPlain halts.done (halts.at ∷ (halts.beyond ++ halts.rest)) plain_parts) halts.before;
       late = split.2.1;
       chip = split.2.2;
-      reason = halt.why;
-      stop = stops_so split.0 halts.held i halts.ahead q limits turns halts.at split.2.0 halt.why halts.beyond after same_held same_ahead plain_at split.2.3 halts.stopped;
-      failure = fails_so halts.held i halts.ahead q limits turns m halts.at split.2.0 halt.why failed halts.beyond split.2.3 halts.stopped (fails halts.at at_place);
+      stops = stops_so r reached after.wire halts.at stop plain_at split.2.3 halts.stopped;
+      failure = fails_so r reached after.wire halts.at stop failed split.2.3 halts.stopped (fails halts.at at_place);
     }
 
 nothing_out : (held : Option (List ℕ)) → Appends held held []
@@ -228,28 +222,26 @@ nothing_out None = tt
 nothing_out (Some bytes) = sym (append-nil bytes)
 
 -- a step that went alone, and ended so
-pub stops_alone : (m : Parameters) (limits : Limits) (turns : ℕ) (before after : Moment) (row : List Step) (x : Step) (failed : Failure) → row ≡ x ∷ []
-    → IsRow limits row → StopsAlone m limits turns before (step_clocks x) failed after → StopsAt m limits turns before row 0 failed after
-stops_alone m limits turns before after row x failed is form stop = record {
+pub stops_alone : (r : Rules) (before after : Moment) (row : List Step) (x : Step) (failed : Failure) → row ≡ x ∷ [] → IsRow r.limits row
+    → StopsAlone r before (step_clocks x) failed after → StopsAt r before row (halt_at 0 failed) after
+stops_alone r before after row x failed is form stop = record {
   done = [];
   last = x;
-  beyond = [];
+  stop = stop_of stop.reason stop.given [];
   rest = [];
   those = is;
   number = refl;
-  row = subst (IsRow limits) is form;
+  row = subst (IsRow r.limits) is form;
   reached = before;
   does = refl;
-  given = stop.given;
   late = after.shown;
   chip = stop.chip;
-  reason = stop.reason;
-  stop = inl (record {
-    held = after.held;
+  stops = inl (record {
+    held = after.wire.held;
     device = stop.device;
     put = [];
     ahead = record { reads = 0; few = omega arith; within = omega arith; asked = refl; fits = omega arith };
-    out = nothing_out after.held;
+    out = nothing_out after.wire.held;
     last = λ _. refl;
   });
   failure = stop.failure;
@@ -261,32 +253,29 @@ pub does_append : (limits : Limits) (turns : ℕ) (a b c : Moment) (xs ys : List
 does_append limits turns a b c [] ys front back = subst (λ (s : Moment). DoesAll limits turns s ys c) front back
 does_append limits turns a b c (x ∷ xs) ys front back = (front.0, front.1, does_append limits turns front.0 b c xs ys front.2 back)
 
-pub stops_in : (m : Parameters) (limits : Limits) (turns : ℕ) (a b c : Moment) (front row rest steps : List Step) (at number : ℕ) (failed : Failure)
-    → steps ≡ front ++ (row ++ rest) → number ≡ length front + at → DoesAll limits turns a front b → StopsAt m limits turns b row at failed c
-    → StopsAt m limits turns a steps number failed c
-stops_in m limits turns a b c front row rest steps at number failed is counted does stop = record {
+pub stops_in : (r : Rules) (a b c : Moment) (front row rest steps : List Step) (halt : Halted) (number : ℕ) → steps ≡ front ++ (row ++ rest)
+    → number ≡ length front + halt.step → DoesAll r.limits r.turns a front b → StopsAt r b row halt c → StopsAt r a steps (halt_at number halt.why) c
+stops_in r a b c front row rest steps halt number is counted does stop = record {
   done = front ++ stop.done;
   last = stop.last;
-  beyond = stop.beyond;
+  stop = stop.stop;
   rest = stop.rest ++ rest;
   those = is ∙ (ap (λ (l : List Step). front ++ (l ++ rest)) stop.those ∙ joined);
   number = counted ∙ (ap (λ n. length front + n) stop.number ∙ sym (length-append front stop.done));
   row = stop.row;
   reached = stop.reached;
-  does = does_append limits turns a b stop.reached front stop.done does stop.does;
-  given = stop.given;
+  does = does_append r.limits r.turns a b stop.reached front stop.done does stop.does;
   late = stop.late;
   chip = stop.chip;
-  reason = stop.reason;
-  stop = stop.stop;
+  stops = stop.stops;
   failure = stop.failure;
 }
   where
-    joined : front ++ ((stop.done ++ (stop.last ∷ (stop.beyond ++ stop.rest))) ++ rest)
-        ≡ (front ++ stop.done) ++ (stop.last ∷ (stop.beyond ++ (stop.rest ++ rest)))
-    joined = ap (λ (l : List Step). front ++ l) (append_assoc stop.done (stop.last ∷ (stop.beyond ++ stop.rest)) rest
-        ∙ ap (λ (l : List Step). stop.done ++ (stop.last ∷ l)) (append_assoc stop.beyond stop.rest rest))
-        ∙ sym (append_assoc front stop.done (stop.last ∷ (stop.beyond ++ (stop.rest ++ rest))))
+    joined : front ++ ((stop.done ++ (stop.last ∷ (stop.stop.beyond ++ stop.rest))) ++ rest)
+        ≡ (front ++ stop.done) ++ (stop.last ∷ (stop.stop.beyond ++ (stop.rest ++ rest)))
+    joined = ap (λ (l : List Step). front ++ l) (append_assoc stop.done (stop.last ∷ (stop.stop.beyond ++ stop.rest)) rest
+        ∙ ap (λ (l : List Step). stop.done ++ (stop.last ∷ l)) (append_assoc stop.stop.beyond stop.rest rest))
+        ∙ sym (append_assoc front stop.done (stop.last ∷ (stop.stop.beyond ++ (stop.rest ++ rest))))
 
 -- after a step that both did what is left of a run that goes well goes well
 one_through : (limits : Limits) (turns : ℕ) (b c : Moment) (x : Step) (rest : List Step) (d : Chip) → Does limits turns b (step_clocks x) c

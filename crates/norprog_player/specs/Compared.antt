@@ -1,7 +1,6 @@
 -- What the chip behind a device holds, compared with a content (this project's; the exchanges are the Serial Flasher Protocol's).
-use Rattle.std.specs.Prelude.{◌≡◌, ◌⊎◌, ◌↔◌, ℕ, ◌+◌, ◌^◌, ◌<◌, ◌≤◌, List, [], ◌∷◌, ◌++◌, length, flat_map, slice_index, Option, Result, Ok, Err}
+use Rattle.std.specs.Prelude.{◌≡◌, ◌⊎◌, ◌↔◌, ℕ, ◌+◌, ◌^◌, ◌<◌, ◌≤◌, List, [], ◌∷◌, ◌++◌, length, flat_map, slice_index, Result, Ok, Err}
 use Rattle.std.specs.List.{slice_range}
-use Rattle.nor_base.specs.Device.{Ahead}
 use Rattle.nor_probe.specs.declared.difference.Difference.{Difference}
 use Rattle.nor_probe.specs.declared.difference.Mismatch.{Mismatch}
 use Rattle.nor_probe.specs.declared.difference.Mismatch.TheVariants.{Exchange, Differs}
@@ -10,25 +9,29 @@ use Rattle.nor_serprog.specs.declared.limits.Limits.{Limits}
 use Rattle.nor_serprog.specs.Exchange.{Answers, Asks, IsOther}
 use Rattle.nor_serprog.specs.Protocol.{request}
 use Rattle.nor_loop.specs.Log.{Operation, HasLogged}
+use Rattle.norprog_device.specs.Wire.{Wire}
 use Rattle.norprog_player.specs.declared.access.Access.{Access}
 use Rattle.norprog_player.specs.Access.{reading, read_ops}
+
+-- these operations were done
+abbrev pub HasDone : Wire → Wire → List Operation → Type 0
+HasDone before after ops = HasLogged before.held after.held before.ahead after.ahead ops
 
 -- the request of an operation
 abbrev pub asked : Operation → List ℕ
 asked o = request o.sent (length o.got)
 
 -- of these operations the device was asked for some, each with as many bytes, and did them, and the next ended so in its exchange
-pub record StopsOperating (held_before held_after : Option (List ℕ)) (ahead_before ahead_after : Ahead) (ops : List Operation) (why : Fault) : Type 0 where
+pub record StopsOperating (before after : Wire) (ops : List Operation) (why : Fault) : Type 0 where
   pub front : List Operation
   pub last : Operation
   pub rest : List Operation
   pub those : flat_map asked ops ≡ flat_map asked (front ++ last ∷ rest)
-  pub held : Option (List ℕ)
-  pub ahead : Ahead
-  pub done : HasLogged held_before held ahead_before ahead front
+  pub between : Wire
+  pub done : HasDone before between front
   pub got : List ℕ
   pub as_many : length got ≡ length last.got
-  pub stop : Asks held held_after ahead ahead_after (Err why) (asked last) (Answers ahead ahead_after (Err why) got)
+  pub stop : Asks between.held after.held between.ahead after.ahead (Err why) (asked last) (Answers between.ahead after.ahead (Err why) got)
 
 -- so many addresses from one on
 pub record Range : Type 0 where
@@ -63,61 +66,69 @@ bytes_in content r = slice_range content r.start (r.start + r.len)
 abbrev pub range_ops : Access → List ℕ → Range → List Operation
 range_ops access content r = read_ops access r.start (bytes_in content r)
 
+-- what of a chip is compared: the bytes at these addresses, by these instructions, no more at once than the device gives
+pub record Comparison : Type 1 where
+  pub limits : Limits
+  pub access : Access
+  pub Wanted : ℕ → Type 0
+
+abbrev pub comparison : Limits → Access → (ℕ → Type 0) → Comparison
+comparison limits access Wanted = record { limits = limits; access = access; Wanted = Wanted }
+
 -- the device was asked for just these ranges, one after the other, and gave just what the content has there
-abbrev pub HasRead : Option (List ℕ) → Option (List ℕ) → Ahead → Ahead → Access → List ℕ → List Range → Type 0
-HasRead held_before held_after ahead_before ahead_after access content ranges =
-    HasLogged held_before held_after ahead_before ahead_after (flat_map (range_ops access content) ranges)
+abbrev pub HasRead : Wire → Wire → Access → List ℕ → List Range → Type 0
+HasRead before after access content ranges = HasDone before after (flat_map (range_ops access content) ranges)
 
 -- these ranges hold just the addresses below one that were to be compared, each no more than the device gives at once
-pub record HasComparedTo (held_before held_after : Option (List ℕ)) (ahead_before ahead_after : Ahead) (limits : Limits) (access : Access)
-    (content : List ℕ) (Wanted : ℕ → Type 0) (high : ℕ) : Type 0 where
+pub record HasComparedTo (before after : Wire) (c : Comparison) (content : List ℕ) (high : ℕ) : Type 0 where
   pub ranges : List Range
-  pub in_order : AreInOrder limits.asked 0 high ranges
-  pub just : (a : ℕ) → LiesInOne ranges a ↔ ((a < high) × Wanted a)
-  pub read : HasRead held_before held_after ahead_before ahead_after access content ranges
+  pub in_order : AreInOrder c.limits.asked 0 high ranges
+  pub just : (a : ℕ) → LiesInOne ranges a ↔ ((a < high) × c.Wanted a)
+  pub read : HasRead before after c.access content ranges
 
 -- of the whole content
-abbrev pub HasCompared : Option (List ℕ) → Option (List ℕ) → Ahead → Ahead → Limits → Access → List ℕ → (ℕ → Type 0) → Type 0
-HasCompared held_before held_after ahead_before ahead_after limits access content Wanted =
-    HasComparedTo held_before held_after ahead_before ahead_after limits access content Wanted (length content)
+abbrev pub HasCompared : Wire → Wire → Comparison → List ℕ → Type 0
+HasCompared before after c content = HasComparedTo before after c content (length content)
 
--- bytes came in place of those wanted, and this is the first that is another; the wanted ones stand at an address
-pub record IsFirstOther (got want : List ℕ) (start : ℕ) (d : Difference) : Type 0 where
-  pub as_many : length got ≡ length want
+-- bytes that are wanted from an address on
+pub record Piece : Type 0 where
+  pub start : ℕ
+  pub want : List ℕ
+
+abbrev pub piece_at : ℕ → List ℕ → Piece
+piece_at start want = record { start = start; want = want }
+
+-- bytes came in place of those wanted, and this is the first that is another
+pub record IsFirstOther (got : List ℕ) (p : Piece) (d : Difference) : Type 0 where
+  pub as_many : length got ≡ length p.want
   pub place : ℕ
-  pub other : IsOther got want place d.chip
-  pub address : d.address ≡ start + place
-  pub wanted : d.want ≡ slice_index want place
+  pub other : IsOther got p.want place d.chip
+  pub address : d.address ≡ p.start + place
+  pub wanted : d.want ≡ slice_index p.want place
 
 -- what operations say of bytes that are wanted, by the operations that would read other bytes: they were done, and gave these; or gave
 -- others; or one ended in its exchange
-abbrev pub ReadsOps : Option (List ℕ) → Option (List ℕ) → Ahead → Ahead → Result (Unit {0}) Mismatch → (List ℕ → List Operation) → ℕ → List ℕ → Type 0
-ReadsOps held_before held_after ahead_before ahead_after (Ok u) ops start want = HasLogged held_before held_after ahead_before ahead_after (ops want)
-ReadsOps held_before held_after ahead_before ahead_after (Err (Exchange why)) ops start want =
-    StopsOperating held_before held_after ahead_before ahead_after (ops want) why
-ReadsOps held_before held_after ahead_before ahead_after (Err (Differs d)) ops start want =
-    (got : List ℕ) × HasLogged held_before held_after ahead_before ahead_after (ops got) × IsFirstOther got want start d
+abbrev pub ReadsOps : Wire → Wire → Result (Unit {0}) Mismatch → (List ℕ → List Operation) → Piece → Type 0
+ReadsOps before after (Ok u) ops p = HasDone before after (ops p.want)
+ReadsOps before after (Err (Exchange why)) ops p = StopsOperating before after (ops p.want) why
+ReadsOps before after (Err (Differs d)) ops p = (got : List ℕ) × HasDone before after (ops got) × IsFirstOther got p d
 
 -- of a read by an opcode and an address
-abbrev pub ReadsBy : Option (List ℕ) → Option (List ℕ) → Ahead → Ahead → Result (Unit {0}) Mismatch → List ℕ → ℕ → List ℕ → Type 0
-ReadsBy held_before held_after ahead_before ahead_after result sent start want =
-    ReadsOps held_before held_after ahead_before ahead_after result (λ got. reading sent got ∷ []) start want
+abbrev pub ReadsBy : Wire → Wire → Result (Unit {0}) Mismatch → List ℕ → Piece → Type 0
+ReadsBy before after result sent p = ReadsOps before after result (λ got. reading sent got ∷ []) p
 
 -- and of the read of a range
-abbrev pub ReadsRange : Option (List ℕ) → Option (List ℕ) → Ahead → Ahead → Result (Unit {0}) Mismatch → Access → ℕ → List ℕ → Type 0
-ReadsRange held_before held_after ahead_before ahead_after result access start want =
-    ReadsOps held_before held_after ahead_before ahead_after result (read_ops access start) start want
+abbrev pub ReadsRange : Wire → Wire → Result (Unit {0}) Mismatch → Access → Piece → Type 0
+ReadsRange before after result access p = ReadsOps before after result (read_ops access p.start) p
 
 -- those before this range were compared, and its own read ended so
-pub record StopsComparing (held_before held_after : Option (List ℕ)) (ahead_before ahead_after : Ahead) (limits : Limits) (access : Access)
-    (content : List ℕ) (Wanted : ℕ → Type 0) (why : Mismatch) : Type 0 where
+pub record StopsComparing (before after : Wire) (c : Comparison) (content : List ℕ) (why : Mismatch) : Type 0 where
   pub last : Range
   pub some : 0 < last.len
-  pub few : last.len ≤ limits.asked
+  pub few : last.len ≤ c.limits.asked
   pub within : last.start + last.len ≤ length content
   pub sided : IsOneSided last
-  pub wanted : (a : ℕ) → LiesIn last a → Wanted a
-  pub held : Option (List ℕ)
-  pub ahead : Ahead
-  pub before : HasComparedTo held_before held ahead_before ahead limits access content Wanted last.start
-  pub stop : ReadsRange held held_after ahead ahead_after (Err why) access last.start (bytes_in content last)
+  pub wanted : (a : ℕ) → LiesIn last a → c.Wanted a
+  pub between : Wire
+  pub compared : HasComparedTo before between c content last.start
+  pub stop : ReadsRange between after (Err why) c.access (piece_at last.start (bytes_in content last))

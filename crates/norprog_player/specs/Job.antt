@@ -14,18 +14,35 @@ use Rattle.norprog_common.specs.declared.faults.FileName.TheVariants as file
 use Rattle.norprog_common.specs.declared.faults.Refusal.{Refusal}
 use Rattle.norprog_common.specs.declared.faults.Refusal.TheVariants.{Build, File, Script}
 
+-- what is ahead of a reader, and what after it was read
+pub record Source : Type 0 where
+  pub ahead : Ahead
+  pub rest : Ahead
+
+abbrev pub source : Ahead → Ahead → Source
+source ahead rest = record { ahead = ahead; rest = rest }
+
+-- what a play is read from: the task that has the chip, how many bytes the content has, and the readers of the script and of the content
+pub record Sources : Type 0 where
+  pub task : Task
+  pub len : ℕ
+  pub script : Source
+  pub content : Source
+
+abbrev pub sources : Task → ℕ → Source → Source → Sources
+sources task len script content = record { task = task; len = len; script = script; content = content }
+
 -- the inputs don't contradict one another and give the chip these parameters, and the content has its size
 pub record IsSized (t : Task) (len : ℕ) (m : Parameters) : Type 0 where
   pub known : IsKnown t m
   pub size : len ≡ m.size
 
 -- and the script's reader gave the text of these steps, and the content's reader the whole content
-pub record IsReady (t : Task) (script script' : Ahead) (len : ℕ) (before after : Ahead) (m : Parameters) (steps : List Step) (content : List ℕ)
-    : Type 0 where
-  pub sized : IsSized t len m
-  pub spelled : HadText script script' (λ text. IsScript text steps)
-  pub whole : length content ≡ len
-  pub given : Gives before content after
+pub record IsReady (s : Sources) (m : Parameters) (steps : List Step) (content : List ℕ) : Type 0 where
+  pub sized : IsSized s.task s.len m
+  pub spelled : HadText s.script.ahead s.script.rest (λ text. IsScript text steps)
+  pub whole : length content ≡ s.len
+  pub given : Gives s.content.ahead content s.content.rest
 
 -- why the inputs give no such chip; no earlier cause holds
 abbrev pub RefusesSize : Task → ℕ → Refusal → Type 0
@@ -44,14 +61,14 @@ RefusesScript script script' (Build fault.Memory) = ⊤
 RefusesScript script script' other = ⊥
 
 -- why nothing is played; except for Memory and a reader of the script that failed, no earlier cause holds
-abbrev pub RefusesJob : Task → Ahead → Ahead → ℕ → Ahead → Ahead → Refusal → Type 0
-RefusesJob t script script' len before after (Script why) = HasSized t len × HadText script script' (λ text. IsFault text why)
-RefusesJob t script script' len before after (File file.Script) = HasSized t len
-RefusesJob t script script' len before after (Build fault.ContentShort) =
-    HasSized t len × HadText script script' IsSpelled × ReadsLess len before after × IsAtEnd after
-RefusesJob t script script' len before after (Build fault.Read) = HasSized t len × HadText script script' IsSpelled × ReadsLess len before after
-RefusesJob t script script' len before after (Build fault.Memory) = HasSized t len
-RefusesJob t script script' len before after other = RefusesSize t len other
+abbrev pub RefusesJob : Sources → Refusal → Type 0
+RefusesJob s (Script why) = HasSized s.task s.len × HadText s.script.ahead s.script.rest (λ text. IsFault text why)
+RefusesJob s (File file.Script) = HasSized s.task s.len
+RefusesJob s (Build fault.ContentShort) =
+    HasSized s.task s.len × HadText s.script.ahead s.script.rest IsSpelled × ReadsLess s.len s.content.ahead s.content.rest × IsAtEnd s.content.rest
+RefusesJob s (Build fault.Read) = HasSized s.task s.len × HadText s.script.ahead s.script.rest IsSpelled × ReadsLess s.len s.content.ahead s.content.rest
+RefusesJob s (Build fault.Memory) = HasSized s.task s.len
+RefusesJob s other = RefusesSize s.task s.len other
 
 -- the count of failures of the script's reader rises by one exactly where its file is told
 abbrev pub of_script : Refusal → ℕ

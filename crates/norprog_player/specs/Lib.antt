@@ -4,6 +4,7 @@ pub mod Access
 pub mod Expected
 pub mod Tables
 pub mod Asked
+pub mod Port
 pub mod Carried
 pub mod Rehearsal
 pub mod Ending

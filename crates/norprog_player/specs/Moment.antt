@@ -11,21 +11,31 @@ use Rattle.nor_serprog.specs.declared.fault.Fault.TheVariants.{Write}
 use Rattle.nor_serprog.specs.declared.fault.Reason.{Reason}
 use Rattle.nor_serprog.specs.declared.fault.Reason.TheVariants.{Exchange}
 use Rattle.nor_serprog.specs.declared.limits.Limits.{Limits}
+use Rattle.norprog_device.specs.Wire.{wire, Wire}
 use Rattle.norprog_failure.specs.declared.failure.Failure.{Failure}
 use Rattle.norprog_failure.specs.Reported.{FailsAs}
+use Rattle.norprog_player.specs.declared.follow.Halt.{Halt}
 use Rattle.nor_base.specs.Parameters.{Parameters}
 use Rattle.nor_serprog.specs.Follow.{Follows}
 use Rattle.nor_serprog.specs.Row.{AreAhead, CutsRow, IsRow}
 
--- at one moment: the chip in memory, what the device was sent so far, and what it has yet to give
+-- at one moment: the chip in memory, and the wire to the device
 pub record Moment : Type 0 where
   pub shown : Shown
-  pub held : Option (List ℕ)
-  pub ahead : Ahead
+  pub wire : Wire
 
--- where these are told by a writer and a reader
+-- where a writer and a reader tell what goes over that
 abbrev pub moment : Shown → Option (List ℕ) → Ahead → Moment
-moment shown held ahead = record { shown = shown; held = held; ahead = ahead }
+moment shown held ahead = record { shown = shown; wire = wire held ahead }
+
+-- by which rules steps are done: the device's limits, the most status reads of one poll, and the parameters of the chip
+pub record Rules : Type 0 where
+  pub limits : Limits
+  pub turns : ℕ
+  pub m : Parameters
+
+abbrev pub rules_of : Limits → ℕ → Parameters → Rules
+rules_of limits turns m = record { limits = limits; turns = turns; m = m }
 
 -- the chip in memory takes the transaction of these clocks
 abbrev pub IsTaken : Shown → List ℕ → Type 0
@@ -35,25 +45,32 @@ IsTaken shown clocks = (chip : Chip) × (given : List ℕ) × (effect shown.sett
 pub record Does (limits : Limits) (turns : ℕ) (before : Moment) (clocks : List ℕ) (after : Moment) : Type 0 where
   pub given : List ℕ
   pub chip : Transacts before.shown after.shown (Ok tt) clocks given
-  pub device : Follows before.held after.held before.ahead after.ahead (Ok tt) limits turns clocks given
+  pub device : Follows before.wire.held after.wire.held before.wire.ahead after.wire.ahead (Ok tt) limits turns clocks given
 
--- with the device the transaction of these clocks, in which the chip in memory gave these bytes, ended so; then just the requests of the
--- steps went out that were sent at once with it
-pub record StopsFollowing (limits : Limits) (turns : ℕ) (before : Moment) (clocks given : List ℕ) (reason : Reason) (beyond : List Step) (after : Moment)
-    : Type 0 where
+-- how a step ended with the device: the reason, what the chip in memory gave, and the steps that were sent at once with it
+pub record Stop : Type 0 where
+  pub reason : Reason
+  pub given : List ℕ
+  pub beyond : List Step
+
+abbrev pub stop_of : Reason → List ℕ → List Step → Stop
+stop_of reason given beyond = record { reason = reason; given = given; beyond = beyond }
+
+-- with the device the transaction of these clocks ended so; then just the requests of the steps beyond it went out
+pub record StopsFollowing (r : Rules) (before : Wire) (clocks : List ℕ) (stop : Stop) (after : Wire) : Type 0 where
   pub held : Option (List ℕ)
-  pub device : Follows before.held held before.ahead after.ahead (Err reason) limits turns clocks given
+  pub device : Follows before.held held before.ahead after.ahead (Err stop.reason) r.limits r.turns clocks stop.given
   pub put : List ℕ
-  pub ahead : AreAhead limits turns beyond put
+  pub ahead : AreAhead r.limits r.turns stop.beyond put
   pub out : Appends held after.held put
   -- where the writer failed nothing goes out after it
-  pub last : reason ≡ Exchange Write → beyond ≡ []
+  pub last : stop.reason ≡ Exchange Write → stop.beyond ≡ []
 
--- so a step ended; or the writer failed in its requests and those of the steps that were sent at once with it
-abbrev pub StopsStep : Limits → ℕ → Moment → Step → List ℕ → Reason → List Step → Moment → Type 0
-StopsStep limits turns before x given reason beyond after =
-    StopsFollowing limits turns before (step_clocks x) given reason beyond after
-    ⊎ CutsRow before.held after.held before.ahead after.ahead limits turns reason (x ∷ beyond)
+-- so a step ended; or the writer failed in its requests and those of the steps beyond it
+abbrev pub StopsStep : Rules → Wire → Step → Stop → Wire → Type 0
+StopsStep r before x stop after =
+    StopsFollowing r before (step_clocks x) stop after
+    ⊎ CutsRow before.held after.held before.ahead after.ahead r.limits r.turns stop.reason (x ∷ stop.beyond)
 
 -- both did the transactions of steps, one after the other, and nothing else
 abbrev pub DoesAll : Limits → ℕ → Moment → List Step → Moment → Type 0
@@ -61,21 +78,22 @@ DoesAll limits turns before [] after = after ≡ before
 DoesAll limits turns before (x ∷ xs) after =
     (between : Moment) × Does limits turns before (step_clocks x) between × DoesAll limits turns between xs after
 
+-- at this step, by this failure
+abbrev pub halt_at : ℕ → Failure → Halt
+halt_at at why = record { step = at; why = why }
+
 -- both did those before one, and nothing else; then the chip in memory did that one and gave some bytes, and with the device it ended so
-pub record StopsAt (m : Parameters) (limits : Limits) (turns : ℕ) (before : Moment) (steps : List Step) (at : ℕ) (failed : Failure) (after : Moment)
-    : Type 0 where
+pub record StopsAt (r : Rules) (before : Moment) (steps : List Step) (halt : Halt) (after : Moment) : Type 0 where
   pub done : List Step
   pub last : Step
-  pub beyond : List Step
+  pub stop : Stop
   pub rest : List Step
-  pub those : steps ≡ done ++ (last ∷ (beyond ++ rest))
-  pub number : at ≡ length done
-  pub row : IsRow limits (last ∷ beyond)
+  pub those : steps ≡ done ++ (last ∷ (stop.beyond ++ rest))
+  pub number : halt.step ≡ length done
+  pub row : IsRow r.limits (last ∷ stop.beyond)
   pub reached : Moment
-  pub does : DoesAll limits turns before done reached
-  pub given : List ℕ
+  pub does : DoesAll r.limits r.turns before done reached
   pub late : Shown
-  pub chip : Transacts reached.shown late (Ok tt) (step_clocks last) given
-  pub reason : Reason
-  pub stop : StopsStep limits turns reached last given reason beyond after
-  pub failure : FailsAs m (step_clocks last) given reason failed
+  pub chip : Transacts reached.shown late (Ok tt) (step_clocks last) stop.given
+  pub stops : StopsStep r reached.wire last stop after.wire
+  pub failure : FailsAs r.m (step_clocks last) stop.given stop.reason halt.why

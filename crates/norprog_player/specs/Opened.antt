@@ -1,8 +1,5 @@
 -- How a script ends on a device, from its handshake on (this project's).
-use Rattle.std.specs.Prelude.{◌≡◌, ℕ, Bool, true, false, List, [], Option, Result, Ok, Err}
-use Rattle.nor_base.specs.declared.step.Step.{Step}
-use Rattle.nor_base.specs.Device.{Ahead}
-use Rattle.nor_base.specs.Parameters.{Parameters}
+use Rattle.std.specs.Prelude.{◌≡◌, Bool, true, false, [], Result, Ok, Err}
 use Rattle.nor_job.specs.declared.fault.BuildFault.TheVariants.{Memory}
 use Rattle.nor_serprog.specs.declared.fault.Fault.{Fault}
 use Rattle.nor_serprog.specs.declared.limits.Limits.{Limits}
@@ -14,46 +11,43 @@ use Rattle.norprog_player.specs.declared.ending.Ending.{Ending}
 use Rattle.norprog_device.specs.declared.fault.DeviceFault.{DeviceFault}
 use Rattle.norprog_device.specs.declared.fault.DeviceFault.TheVariants.{Greet, Line}
 use Rattle.norprog_device.specs.Opened.{HasOpened, Opens}
+use Rattle.norprog_device.specs.Wire.{Wire}
 use Rattle.norprog_player.specs.declared.unplayed.Unplayed.{Unplayed}
 use Rattle.norprog_player.specs.declared.unplayed.Unplayed.TheVariants.{Refused, Device}
 use Rattle.norprog_player.specs.Ending.{EndsSo}
-use Rattle.norprog_player.specs.Expected.{Expectation}
+use Rattle.norprog_player.specs.Expected.{Play}
 use Rattle.norprog_player.specs.Moment.{Moment}
 
 -- the test of the line ended early, and so it is reported
-abbrev pub FailsTest : Option (List ℕ) → Option (List ℕ) → Ahead → Ahead → Limits → DeviceFault → Type 0
-FailsTest held_before held_after ahead_before ahead_after limits (Line why) =
-    TestsLine held_before held_after ahead_before ahead_after (Err why) limits
-FailsTest held_before held_after ahead_before ahead_after limits (Greet why) = ⊥
+abbrev pub FailsTest : Wire → Wire → Limits → DeviceFault → Type 0
+FailsTest before after limits (Line why) = TestsLine before.held after.held before.ahead after.ahead (Err why) limits
+FailsTest before after limits (Greet why) = ⊥
 
 -- the handshake ended early, and the limits are those of before it; or the device reported these, and the test of the line ended early
-abbrev pub StopsOpening : Option (List ℕ) → Option (List ℕ) → Ahead → Ahead → Limits → Limits → DeviceFault → Type 0
-StopsOpening held_before held_after ahead_before ahead_after first limits (Greet why) =
-    (limits ≡ first) × Greeted held_before held_after ahead_before ahead_after (Err why)
-StopsOpening held_before held_after ahead_before ahead_after first limits (Line why) =
-    HasOpened held_before held_after ahead_before ahead_after limits (Err why)
+abbrev pub StopsOpening : Wire → Wire → Limits → Limits → DeviceFault → Type 0
+StopsOpening before after first limits (Greet why) = (limits ≡ first) × Greeted before.held after.held before.ahead after.ahead (Err why)
+StopsOpening before after first limits (Line why) = HasOpened before.held after.held before.ahead after.ahead limits (Err why)
 
 -- the handshake and the test of the line ended so, the chip in memory as it was
 pub record GreetsSo (before after : Moment) (r : Result Limits DeviceFault) : Type 0 where
   pub shown : after.shown ≡ before.shown
-  pub opened : Opens before.held after.held before.ahead after.ahead r
+  pub opened : Opens before.wire.held after.wire.held before.wire.ahead after.wire.ahead r
 
 -- the device reported these limits, and the test of the line ended early, the chip in memory as it was
 pub record FailsLine (limits : Limits) (why : Fault) (before after : Moment) : Type 0 where
   pub shown : after.shown ≡ before.shown
-  pub opened : HasOpened before.held after.held before.ahead after.ahead limits (Err why)
+  pub opened : HasOpened before.wire.held after.wire.held before.wire.ahead after.wire.ahead limits (Err why)
 
 -- one of them ended early, the chip in memory as it was
 pub record StopsGreeting (first limits : Limits) (before after : Moment) (why : DeviceFault) : Type 0 where
   pub shown : after.shown ≡ before.shown
-  pub stops : StopsOpening before.held after.held before.ahead after.ahead first limits why
+  pub stops : StopsOpening before.wire after.wire first limits why
 
 -- the device reported these limits, and then the steps ended so
-pub record HasPlayed (limits : Limits) (turns : ℕ) (x : Expectation) (m : Parameters) (before : Moment) (steps : List Step) (ending : Ending)
-    (after : Moment) : Type 0 where
+pub record HasPlayed (limits : Limits) (p : Play) (before : Moment) (ending : Ending) (after : Moment) : Type 0 where
   pub between : Moment
   pub greets : GreetsSo before between (Ok limits)
-  pub ends : EndsSo limits turns x m between steps ending after
+  pub ends : EndsSo limits p between ending after
 
 -- the handshake or the test of the line ended early; or the device reported these limits, and then memory was refused, with nothing done
 -- after the test. `first` are the limits before the handshake
@@ -66,7 +60,8 @@ StopsBefore first limits before after other = ⊥
 pub record LetsGo (before after : Moment) : Type 0 where
   pub shown : after.shown ≡ before.shown
   pub answer : Result (Unit {0}) Fault
-  pub asked : Asks before.held after.held before.ahead after.ahead answer release_bytes (Answers before.ahead after.ahead answer [])
+  pub asked : Asks before.wire.held after.wire.held before.wire.ahead after.wire.ahead answer release_bytes
+      (Answers before.wire.ahead after.wire.ahead answer [])
 
 -- so, where that was to be; else nothing was done
 abbrev pub Releases : Bool → Moment → Moment → Type 0

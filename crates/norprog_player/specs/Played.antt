@@ -1,7 +1,5 @@
 -- How a play on a chip behind a device ends (this project's).
-use Rattle.std.specs.Prelude.{ℕ, Bool, false, ◌&&◌, not, List, Some, Ok, Err}
-use Rattle.nor_base.specs.declared.step.Step.{Step}
-use Rattle.nor_base.specs.Parameters.{Parameters}
+use Rattle.std.specs.Prelude.{Bool, false, ◌&&◌, not, Some, Ok, Err}
 use Rattle.nor_base.specs.Port.{Shown}
 use Rattle.nor_job.specs.declared.fault.BuildFault.TheVariants.{Memory}
 use Rattle.nor_serprog.specs.declared.fault.Fault.{Fault}
@@ -15,20 +13,9 @@ use Rattle.norprog_player.specs.declared.unplayed.Unplayed.{Unplayed}
 use Rattle.norprog_player.specs.declared.unplayed.Unplayed.TheVariants.{Refused, Device}
 use Rattle.norprog_player.specs.Blame.{fault_of_ending}
 use Rattle.norprog_player.specs.Early.{chip_with, MayPlay}
-use Rattle.norprog_player.specs.Expected.{Expectation}
+use Rattle.norprog_player.specs.Expected.{Play}
 use Rattle.norprog_player.specs.Moment.{Moment}
 use Rattle.norprog_player.specs.Opened.{FailsLine, GreetsSo, HasPlayed, Releases}
-
--- what is played: steps, on a chip that is to be so, of this meaning and content; and the most status reads of one poll
-pub record Play : Type 0 where
-  pub steps : List Step
-  pub expected : Expectation
-  pub meaning : Parameters
-  pub content : List ℕ
-  pub limit : ℕ
-
-abbrev pub play_of : List Step → Expectation → Parameters → List ℕ → ℕ → Play
-play_of steps expected m content limit = record { steps = steps; expected = expected; meaning = m; content = content; limit = limit }
 
 -- the chip in memory before the first step
 abbrev pub shown_in : Play → Shown
@@ -40,7 +27,7 @@ pub record EndsOnDevice (p : Play) (before after : Moment) (ending : Ending) : T
   pub may : MayPlay (shown_in p) p.steps
   pub reached : Moment
   pub limits : Limits
-  pub played : HasPlayed limits p.limit p.expected p.meaning before p.steps ending reached
+  pub played : HasPlayed limits p before ending reached
   pub released : Releases (limits.pins && not (is_cut (fault_of_ending ending))) reached after
 
 -- they might be played, and the handshake with the device and the test of the line to it went as `Greets` says; nothing went out after

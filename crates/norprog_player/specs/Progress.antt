@@ -1,7 +1,8 @@
 -- What is written of how far a play has come (this project's; docs/FORMATS.md, section 14).
-use Rattle.std.specs.Prelude.{ℕ, List, length, Option}
+use Rattle.std.specs.Prelude.{ℕ, List, length}
 use Rattle.nor_base.specs.declared.step.Step.{Step}
 use Rattle.nor_progress.specs.Text.{Reports}
+use Rattle.norprog_common.specs.Told.{Output}
 use Rattle.norprog_failure.specs.declared.failure.Failure.TheVariants.{Carried}
 use Rattle.norprog_player.specs.declared.ending.Ending.{Ending}
 use Rattle.norprog_player.specs.declared.ending.Ending.TheVariants.{Done, Wrong as GoesWrong, No, Unlike, Failed}
@@ -16,6 +17,5 @@ steps_done steps (Failed at Carried) = 0
 steps_done steps (Failed at why) = at
 
 -- just these were reported
-abbrev pub ReportsPlay : List Step → Ending → Option (List ℕ) → Option (List ℕ) → ℕ → ℕ → Type 0
-ReportsPlay steps ending held_before held_after count_before count_after =
-    Reports steps (steps_done steps ending) held_before held_after count_before count_after
+abbrev pub ReportsPlay : List Step → Ending → Output → Type 0
+ReportsPlay steps ending out = Reports steps (steps_done steps ending) out.before out.after out.failures out.failed

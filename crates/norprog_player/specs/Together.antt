@@ -5,14 +5,12 @@ use Rattle.nor_base.specs.declared.step.Step.TheVariants.{Send, Poll, Verify}
 use Rattle.nor_base.specs.Port.{Shown, Transacts}
 use Rattle.nor_base.specs.Run.{poll_clocks}
 use Rattle.nor_base.specs.Step.{step_clocks}
-use Rattle.nor_base.specs.Parameters.{Parameters}
 use Rattle.nor_serprog.specs.declared.fault.Reason.{Reason}
-use Rattle.nor_serprog.specs.declared.limits.Limits.{Limits}
 use Rattle.nor_serprog.specs.Done.{IsDoable}
 use Rattle.nor_serprog.specs.Follow.{Follows}
 use Rattle.norprog_failure.specs.declared.failure.Failure.{Failure}
 use Rattle.norprog_failure.specs.Reported.{FailsAs}
-use Rattle.norprog_player.specs.Moment.{Moment}
+use Rattle.norprog_player.specs.Moment.{Moment, Rules}
 
 -- what comes back for a step is known before: nothing, a status, or the bytes that are expected
 abbrev pub GivesExpected : Step → List ℕ → Type 0
@@ -42,10 +40,9 @@ AreTaken before (x ∷ xs) after =
     (given : List ℕ) × (between : Shown) × Transacts before between (Ok tt) (step_clocks x) given × GivesExpected x given × AreTaken between xs after
 
 -- the chip in memory did a step that went alone, and with the device it ended so
-pub record StopsAlone (m : Parameters) (limits : Limits) (turns : ℕ) (before : Moment) (clocks : List ℕ) (failed : Failure) (after : Moment) : Type 0
-  where
-    pub given : List ℕ
-    pub reason : Reason
-    pub chip : Transacts before.shown after.shown (Ok tt) clocks given
-    pub device : Follows before.held after.held before.ahead after.ahead (Err reason) limits turns clocks given
-    pub failure : FailsAs m clocks given reason failed
+pub record StopsAlone (r : Rules) (before : Moment) (clocks : List ℕ) (failed : Failure) (after : Moment) : Type 0 where
+  pub given : List ℕ
+  pub reason : Reason
+  pub chip : Transacts before.shown after.shown (Ok tt) clocks given
+  pub device : Follows before.wire.held after.wire.held before.wire.ahead after.wire.ahead (Err reason) r.limits r.turns clocks given
+  pub failure : FailsAs r.m clocks given reason failed

@@ -3,13 +3,14 @@
 ghost use Rattle.std.specs.Prelude.{◌≡◌, ◌<◌, ◌≤◌, ◌+◌, ◌-◌, ◌*◌, ◌^◌, false, length, MatchResult};
 ghost use Rattle.std.specs.Prelude.{IfOk};
 ghost use Rattle.nor_probe.specs.Tables.{Compares as ComparesTables};
-ghost use Rattle.norprog_player.specs.Asked.{Begins, IsUnknown, IsIdentified, IsSuited};
-ghost use Rattle.norprog_player.specs.Asked.{IsUnmoved, StopsAsking, StopsMoved};
-ghost use Rattle.norprog_device.specs.Blame.{CountsBoth, fault_of_mismatch};
+ghost use Rattle.norprog_player.specs.Asked.{Begins, IsIdentified, IsSuited};
+ghost use Rattle.norprog_player.specs.Asked.{IsUnknown, IsUnmoved, StopsAsking, StopsMoved};
+ghost use Rattle.norprog_player.specs.Compared.{comparison};
+ghost use Rattle.norprog_device.specs.Blame.{fault_of_mismatch};
 ghost use Rattle.norprog_player.specs.Blame.{fault_by, fault_of_unlike};
 ghost use Rattle.norprog_player.specs.Expected.{expectation_of};
+ghost use Rattle.norprog_player.specs.Port.{asking, moment_of, Counts, FailsOnce, IsKept};
 ghost use Rattle.nor_cells.specs.Marks.{IsMarked};
-ghost use Rattle.norprog_player.specs.Moment.{moment};
 
 use crate::access::Access;
 use crate::ending::Unlike;
@@ -35,24 +36,16 @@ pub(crate) fn begin<R: ByteIn + Drop, W: ByteOut + Drop>(
         × (length port.old.chip.chip.array ≡ 256 * length marks.now) }
     requires count { port.old.failed < 2 ^ 64 - 1 }
     ensures begins { MatchResult result
-        (λ _. Begins (expectation_of expected.entry) port.old.limits port.old.turns access
-        (IsMarked marks.now)
-        (moment port.old.chip (W.held port.old.to) (R.ahead port.old.from))
-        (moment port.new.chip (W.held port.new.to) (R.ahead port.new.from)))
-        (λ why. (expected.entry.trusted ≡ false)
-        × IsUnknown (expectation_of expected.entry) port.old.limits port.old.turns access
-        (IsMarked marks.now)
-        (moment port.old.chip (W.held port.old.to) (R.ahead port.old.from))
-        (moment port.new.chip (W.held port.new.to) (R.ahead port.new.from))
-        why) }
-    ensures kept { (port.new.chip ≡ port.old.chip)
-        × (port.new.limits ≡ port.old.limits)
-        × (port.new.turns ≡ port.old.turns) }
-    ensures failures { IfOk result (λ _. port.new.reason ≡ port.old.reason)
-        × IfOk result (λ _. port.new.failed ≡ port.old.failed)
-        × (port.new.failed ≤ port.old.failed + 1) }
-    ensures blamed { CountsBoth (R.count port.old.from) (R.count port.new.from)
-        (W.count port.old.to) (W.count port.new.to) (fault_by fault_of_unlike result) }
+        (λ _. Begins (asking port.old (expectation_of expected.entry))
+        (comparison port.old.limits access (IsMarked marks.now)) (moment_of port.old)
+        (moment_of port.new))
+        (λ why. (expected.entry.trusted ≡ false) × IsUnknown
+        (asking port.old (expectation_of expected.entry))
+        (comparison port.old.limits access (IsMarked marks.now)) (moment_of port.old)
+        (moment_of port.new) why) }
+    ensures kept { IsKept port.old port.new }
+    ensures failures { FailsOnce port.old port.new result }
+    ensures blamed { Counts port.old port.new (fault_by fault_of_unlike result) }
 {
     if expected.trusted {
         return Ok(());
@@ -72,20 +65,13 @@ fn identify<R: ByteIn + Drop, W: ByteOut + Drop>(
 ) -> Result<(), Unlike>
     requires count { port.old.failed < 2 ^ 64 - 1 }
     ensures identified { MatchResult result
-        (λ _. IsIdentified (expectation_of expected.entry) port.old.limits port.old.turns
-        (moment port.old.chip (W.held port.old.to) (R.ahead port.old.from))
-        (moment port.new.chip (W.held port.new.to) (R.ahead port.new.from)))
-        (StopsAsking (expectation_of expected.entry) port.old.limits port.old.turns
-        (moment port.old.chip (W.held port.old.to) (R.ahead port.old.from))
-        (moment port.new.chip (W.held port.new.to) (R.ahead port.new.from))) }
-    ensures kept { (port.new.chip ≡ port.old.chip)
-        × (port.new.limits ≡ port.old.limits)
-        × (port.new.turns ≡ port.old.turns) }
-    ensures failures { IfOk result (λ _. port.new.reason ≡ port.old.reason)
-        × IfOk result (λ _. port.new.failed ≡ port.old.failed)
-        × (port.new.failed ≤ port.old.failed + 1) }
-    ensures blamed { CountsBoth (R.count port.old.from) (R.count port.new.from)
-        (W.count port.old.to) (W.count port.new.to) (fault_by fault_of_unlike result) }
+        (λ _. IsIdentified (asking port.old (expectation_of expected.entry)) (moment_of port.old)
+        (moment_of port.new))
+        (StopsAsking (asking port.old (expectation_of expected.entry)) (moment_of port.old)
+        (moment_of port.new)) }
+    ensures kept { IsKept port.old port.new }
+    ensures failures { FailsOnce port.old port.new result }
+    ensures blamed { Counts port.old port.new (fault_by fault_of_unlike result) }
 {
     ask_status(port, expected)?;
     if let Err(why) = ask_tables(port, expected.tables) {
@@ -102,20 +88,13 @@ fn ask_status<R: ByteIn + Drop, W: ByteOut + Drop>(
 ) -> Result<(), Unlike>
     requires count { port.old.failed < 2 ^ 64 - 1 }
     ensures suited { MatchResult result
-        (λ _. IsSuited (expectation_of expected.entry) port.old.turns
-        (moment port.old.chip (W.held port.old.to) (R.ahead port.old.from))
-        (moment port.new.chip (W.held port.new.to) (R.ahead port.new.from)))
-        (StopsAsking (expectation_of expected.entry) port.old.limits port.old.turns
-        (moment port.old.chip (W.held port.old.to) (R.ahead port.old.from))
-        (moment port.new.chip (W.held port.new.to) (R.ahead port.new.from))) }
-    ensures kept { (port.new.chip ≡ port.old.chip)
-        × (port.new.limits ≡ port.old.limits)
-        × (port.new.turns ≡ port.old.turns) }
-    ensures failures { IfOk result (λ _. port.new.reason ≡ port.old.reason)
-        × IfOk result (λ _. port.new.failed ≡ port.old.failed)
-        × (port.new.failed ≤ port.old.failed + 1) }
-    ensures blamed { CountsBoth (R.count port.old.from) (R.count port.new.from)
-        (W.count port.old.to) (W.count port.new.to) (fault_by fault_of_unlike result) }
+        (λ _. IsSuited (asking port.old (expectation_of expected.entry)) (moment_of port.old)
+        (moment_of port.new))
+        (StopsAsking (asking port.old (expectation_of expected.entry)) (moment_of port.old)
+        (moment_of port.new)) }
+    ensures kept { IsKept port.old port.new }
+    ensures failures { FailsOnce port.old port.new result }
+    ensures blamed { Counts port.old port.new (fault_by fault_of_unlike result) }
 {
     match chip_status(&mut port.from, &mut port.to, expected.part, port.turns) {
         Ok(status) => {
@@ -147,16 +126,11 @@ fn ask_tables<R: ByteIn + Drop, W: ByteOut + Drop>(
 ) -> Result<(), Mismatch>
     requires few { length tables.now ≤ 2 ^ 24 }
     requires count { port.old.failed < 2 ^ 64 - 1 }
-    ensures kept { (port.new.chip ≡ port.old.chip)
-        × (port.new.limits ≡ port.old.limits)
-        × (port.new.turns ≡ port.old.turns) }
+    ensures kept { IsKept port.old port.new }
     ensures compared { ComparesTables (W.held port.old.to) (W.held port.new.to)
         (R.ahead port.old.from) (R.ahead port.new.from) result port.old.limits tables.now }
-    ensures failures { IfOk result (λ _. port.new.reason ≡ port.old.reason)
-        × IfOk result (λ _. port.new.failed ≡ port.old.failed)
-        × (port.new.failed ≤ port.old.failed + 1) }
-    ensures blamed { CountsBoth (R.count port.old.from) (R.count port.new.from)
-        (W.count port.old.to) (W.count port.new.to) (fault_by fault_of_mismatch result) }
+    ensures failures { FailsOnce port.old port.new result }
+    ensures blamed { Counts port.old port.new (fault_by fault_of_mismatch result) }
 {
     let compared = compare_tables(&mut port.from, &mut port.to, &port.limits, tables);
     if let Err(why) = compared {
@@ -174,20 +148,11 @@ fn ask_register<R: ByteIn + Drop, W: ByteOut + Drop>(
 ) -> Result<(), Unlike>
     requires count { port.old.failed < 2 ^ 64 - 1 }
     ensures unmoved { MatchResult result
-        (λ _. IsUnmoved named
-        (moment port.old.chip (W.held port.old.to) (R.ahead port.old.from))
-        (moment port.new.chip (W.held port.new.to) (R.ahead port.new.from)))
-        (StopsMoved named
-        (moment port.old.chip (W.held port.old.to) (R.ahead port.old.from))
-        (moment port.new.chip (W.held port.new.to) (R.ahead port.new.from))) }
-    ensures kept { (port.new.chip ≡ port.old.chip)
-        × (port.new.limits ≡ port.old.limits)
-        × (port.new.turns ≡ port.old.turns) }
-    ensures failures { IfOk result (λ _. port.new.reason ≡ port.old.reason)
-        × IfOk result (λ _. port.new.failed ≡ port.old.failed)
-        × (port.new.failed ≤ port.old.failed + 1) }
-    ensures blamed { CountsBoth (R.count port.old.from) (R.count port.new.from)
-        (W.count port.old.to) (W.count port.new.to) (fault_by fault_of_unlike result) }
+        (λ _. IsUnmoved named (moment_of port.old) (moment_of port.new))
+        (StopsMoved named (moment_of port.old) (moment_of port.new)) }
+    ensures kept { IsKept port.old port.new }
+    ensures failures { FailsOnce port.old port.new result }
+    ensures blamed { Counts port.old port.new (fault_by fault_of_unlike result) }
 {
     let Some(register) = named else {
         return Ok(());

@@ -5,8 +5,10 @@ ghost use Rattle.nor_base.specs.Device.{HaveRoom};
 ghost use Rattle.nor_cells.specs.Marks.{IsMarked};
 ghost use Rattle.nor_probe.specs.Compared.{CountsMismatch};
 ghost use Rattle.nor_serprog.specs.declared.fault.Fault.TheVariants.{Read, Write};
-ghost use Rattle.norprog_player.specs.Compared.{HasCompared, IsOneSidedPiece, StopsComparing};
-ghost use Rattle.norprog_player.specs.Likeness.{HasComparedWhole, StopsWhole, past_by};
+ghost use Rattle.norprog_device.specs.Wire.{wire};
+ghost use Rattle.norprog_player.specs.Compared.{comparison, HasCompared, IsOneSidedPiece};
+ghost use Rattle.norprog_player.specs.Compared.{StopsComparing};
+ghost use Rattle.norprog_player.specs.Likeness.{ComparesWhole, past_by};
 
 use crate::access::Access;
 use crate::piece::{FAR, compare_piece};
@@ -32,11 +34,9 @@ pub(crate) fn compare_whole<R: ByteIn, W: ByteOut>(
     requires size { length content.now < 2 ^ 32 }
     requires cells { length content.now ≡ 256 * length marks.now }
     requires room { HaveRoom (R.count from.old) (W.count to.old) }
-    ensures compared { MatchResult result
-        (λ _. HasComparedWhole (W.held to.old) (W.held to.new) (R.ahead from.old)
-        (R.ahead from.new) limits.now access content.now (IsMarked marks.now))
-        (StopsWhole (W.held to.old) (W.held to.new) (R.ahead from.old) (R.ahead from.new)
-        limits.now access content.now (IsMarked marks.now)) }
+    ensures compared { ComparesWhole (wire (W.held to.old) (R.ahead from.old))
+        (wire (W.held to.new) (R.ahead from.new))
+        (comparison limits.now access (IsMarked marks.now)) content.now result }
     ensures counts { CountsMismatch Read (R.count from.old) (R.count from.new) result
         × CountsMismatch Write (W.count to.old) (W.count to.new) result }
 {
@@ -70,10 +70,12 @@ fn compare<R: ByteIn, W: ByteOut>(
     requires cells { length content.now ≡ 256 * length marks.now }
     requires room { HaveRoom (R.count from.old) (W.count to.old) }
     ensures compared { MatchResult result
-        (λ _. HasCompared (W.held to.old) (W.held to.new) (R.ahead from.old) (R.ahead from.new)
-        limits.now access content.now (IsMarked marks.now))
-        (StopsComparing (W.held to.old) (W.held to.new) (R.ahead from.old) (R.ahead from.new)
-        limits.now access content.now (IsMarked marks.now)) }
+        (λ _. HasCompared (wire (W.held to.old) (R.ahead from.old))
+        (wire (W.held to.new) (R.ahead from.new))
+        (comparison limits.now access (IsMarked marks.now)) content.now)
+        (StopsComparing (wire (W.held to.old) (R.ahead from.old))
+        (wire (W.held to.new) (R.ahead from.new))
+        (comparison limits.now access (IsMarked marks.now)) content.now) }
     ensures counts { CountsMismatch Read (R.count from.old) (R.count from.new) result
         × CountsMismatch Write (W.count to.old) (W.count to.new) result }
 {

@@ -7,13 +7,13 @@ ghost use Rattle.nor_base.specs.Run.{trail};
 ghost use Rattle.nor_base.specs.Sample.{sampled_count};
 ghost use Rattle.nor_base.specs.Step.{step_clocks};
 ghost use Rattle.nor_chip.specs.Ready.{ready_chip};
-ghost use Rattle.norprog_device.specs.Blame.{CountsBoth};
 ghost use Rattle.norprog_player.specs.Blame.{fault_of_ending, fault_when};
 ghost use Rattle.norprog_player.specs.Early.{GoesWellInMemory};
-ghost use Rattle.norprog_player.specs.Moment.{moment};
-ghost use Rattle.norprog_player.specs.Ending.{EndsComparing, EndsSo, MayBegin, SaysBlank};
-ghost use Rattle.norprog_player.specs.Expected.{expectation_of};
+ghost use Rattle.norprog_common.specs.Told.{output};
+ghost use Rattle.norprog_player.specs.Ending.{course, EndsComparing, EndsSo, MayBegin, SaysBlank};
+ghost use Rattle.norprog_player.specs.Expected.{expectation_of, play_of};
 ghost use Rattle.norprog_player.specs.Progress.{ReportsPlay};
+ghost use Rattle.norprog_player.specs.Port.{moment_of, rules_at, Counts};
 ghost use Rattle.nor_cells.specs.Cells.{IsInCellOf};
 ghost use Rattle.nor_cells.specs.Marks.{IsMarked};
 ghost use Rattle.nor_cells.specs.Wrap.{ShowsWrap};
@@ -56,19 +56,15 @@ pub fn play_on_device<R: ByteIn + Drop, W: ByteOut + Drop, P: ByteOut>(
         × (transactions
         ≡ length (trail port.old.chip.setting port.old.chip.chip steps.now)) }
     ensures ends { MatchResult result
-        (λ ending. EndsSo port.old.limits port.old.turns (expectation_of expected.entry) meaning.now
-        (moment port.old.chip (W.held port.old.to) (R.ahead port.old.from))
-        steps.now ending
-        (moment port.new.chip (W.held port.new.to) (R.ahead port.new.from)))
+        (λ ending. EndsSo port.old.limits (play_of steps.now (expectation_of expected.entry)
+        meaning.now port.old.chip.chip.array port.old.turns) (moment_of port.old) ending
+        (moment_of port.new))
         (λ _. port.new ≡ port.old) }
     ensures after { (port.new.failed ≤ port.old.failed + 1)
         × (port.new.limits ≡ port.old.limits)
-        × CountsBoth (R.count port.old.from) (R.count port.new.from)
-        (W.count port.old.to) (W.count port.new.to) (fault_when fault_of_ending result) }
+        × Counts port.old port.new (fault_when fault_of_ending result) }
     ensures told { MatchResult result
-        (λ ending. ReportsPlay steps.now ending (P.held progress.old) (P.held progress.new)
-        (P.count progress.old)
-        (P.count progress.new))
+        (λ ending. ReportsPlay steps.now ending (output P.held P.count progress.old progress.new))
         (λ _. progress.new ≡ progress.old) }
 {
     if let Err(step) = carried(steps, &port.limits) {
@@ -115,25 +111,17 @@ fn play_compared<R: ByteIn + Drop, W: ByteOut + Drop, P: ByteOut>(
     requires content { (length port.old.chip.chip.array < 2 ^ 32)
         × (length port.old.chip.chip.array ≡ 256 * length cells.old)
         × SaysBlank (expectation_of expected) port.old.chip.chip.array blank }
-    requires steps { MayBegin port.old.limits
-        (moment port.old.chip (W.held port.old.to) (R.ahead port.old.from))
-        steps.now
-        × (transactions
-        ≡ length (trail port.old.chip.setting port.old.chip.chip steps.now))
+    requires steps { MayBegin port.old.limits (moment_of port.old) steps.now
+        × (transactions ≡ length (trail port.old.chip.setting port.old.chip.chip steps.now))
         × All (λ step. sampled_count (step_clocks step) ≤ length room.old) steps.now }
-    ensures ends { EndsComparing port.old.limits port.old.turns (expectation_of expected.entry)
-        meaning.now access (IsMarked cells.old)
-        (λ left a. IsMarked cells.old a ⊎ IsInCellOf (ShowsWrap left) a)
-        (moment port.old.chip (W.held port.old.to) (R.ahead port.old.from))
-        steps.now result
-        (moment port.new.chip (W.held port.new.to) (R.ahead port.new.from)) }
+    ensures ends { EndsComparing (course (rules_at port.old meaning.now)
+        (expectation_of expected.entry) access (IsMarked cells.old)
+        (λ left a. IsMarked cells.old a ⊎ IsInCellOf (ShowsWrap left) a)) (moment_of port.old)
+        steps.now result (moment_of port.new) }
     ensures after { (port.new.failed ≤ port.old.failed + 1)
         × (port.new.limits ≡ port.old.limits)
-        × CountsBoth (R.count port.old.from) (R.count port.new.from)
-        (W.count port.old.to) (W.count port.new.to) (fault_of_ending result) }
-    ensures told { ReportsPlay steps.now result (P.held progress.old) (P.held progress.new)
-        (P.count progress.old)
-        (P.count progress.new) }
+        × Counts port.old port.new (fault_of_ending result) }
+    ensures told { ReportsPlay steps.now result (output P.held P.count progress.old progress.new) }
 {
     if let Err(why) = begin(port, expected, access, cells) {
         return Ending::Unlike { why };

@@ -8,13 +8,13 @@ ghost use Rattle.nor_base.specs.Sample.{sampled_count};
 ghost use Rattle.nor_base.specs.Step.{expected, step_clocks};
 ghost use Rattle.nor_progress.specs.Text.{Reports};
 ghost use Rattle.nor_serprog.specs.Row.{IsRow};
-ghost use Rattle.norprog_device.specs.Blame.{CountsBoth};
 ghost use Rattle.norprog_player.specs.Carried.{AreCarried};
 ghost use Rattle.norprog_failure.specs.Blame.{fault_of_failure};
 ghost use Rattle.norprog_failure.specs.Reported.{FailsAs};
 ghost use Rattle.norprog_player.specs.Blame.{fault_by, fault_of_reason};
-ghost use Rattle.norprog_player.specs.Moment.{moment, Does, DoesAll, StopsAt, IsTaken};
+ghost use Rattle.norprog_player.specs.Moment.{Does, DoesAll, IsTaken, StopsAt};
 ghost use Rattle.norprog_player.specs.Together.{MayGoTogether, StopsAlone};
+ghost use Rattle.norprog_player.specs.Port.{moment_of, rules_at, Counts};
 
 use crate::together::{expected, row_of, take_row};
 use nor_base::{ByteIn, ByteOut, Meaning, PortFault, Step, sampled};
@@ -53,18 +53,12 @@ pub(crate) fn follow_steps<R: ByteIn + Drop, W: ByteOut + Drop, P: ByteOut>(
     ensures failures { IfOk result (λ _. port.new.failed ≡ port.old.failed)
         × (port.new.failed ≤ port.old.failed + 1)
         × (port.new.limits ≡ port.old.limits)
-        × CountsBoth (R.count port.old.from) (R.count port.new.from)
-        (W.count port.old.to) (W.count port.new.to)
-        (fault_by (λ halt. fault_of_failure halt.why) result) }
+        × Counts port.old port.new (fault_by (λ halt. fault_of_failure halt.why) result) }
     ensures done { MatchResult result
-        (λ _. DoesAll port.old.limits port.old.turns
-        (moment port.old.chip (W.held port.old.to) (R.ahead port.old.from))
-        steps.now
-        (moment port.new.chip (W.held port.new.to) (R.ahead port.new.from)))
-        (λ halt. StopsAt meaning.now port.old.limits port.old.turns
-        (moment port.old.chip (W.held port.old.to) (R.ahead port.old.from))
-        steps.now halt.step halt.why
-        (moment port.new.chip (W.held port.new.to) (R.ahead port.new.from))) }
+        (λ _. DoesAll port.old.limits port.old.turns (moment_of port.old) steps.now
+        (moment_of port.new))
+        (λ halt. StopsAt (rules_at port.old meaning.now) (moment_of port.old) steps.now halt
+        (moment_of port.new)) }
     ensures told { MatchResult result
         (λ _. Reports steps.now (length steps.now) (P.held progress.old) (P.held progress.new)
         (P.count progress.old)
@@ -110,21 +104,15 @@ fn follow_row<R: ByteIn + Drop, W: ByteOut + Drop>(
         × ((chip : ShownChip)
         × (played port.old.chip.setting 1 port.old.chip.chip steps.now ≡ Ok chip)) }
     ensures done { MatchResult result
-        (λ _. DoesAll port.old.limits port.old.turns
-        (moment port.old.chip (W.held port.old.to) (R.ahead port.old.from))
-        (take count steps.now)
-        (moment port.new.chip (W.held port.new.to) (R.ahead port.new.from)))
-        (λ halt. StopsAt meaning.now port.old.limits port.old.turns
-        (moment port.old.chip (W.held port.old.to) (R.ahead port.old.from))
-        (take count steps.now) halt.step halt.why
-        (moment port.new.chip (W.held port.new.to) (R.ahead port.new.from))) }
+        (λ _. DoesAll port.old.limits port.old.turns (moment_of port.old) (take count steps.now)
+        (moment_of port.new))
+        (λ halt. StopsAt (rules_at port.old meaning.now) (moment_of port.old) (take count steps.now)
+        halt (moment_of port.new)) }
     ensures failures { (port.new.failed ≤ port.old.failed + 1)
         × IfOk result (λ _. port.new.reason ≡ None)
         × IfOk result (λ _. port.new.failed ≡ port.old.failed)
         × IfErr result (λ halt. halt.step < count)
-        × CountsBoth (R.count port.old.from) (R.count port.new.from)
-        (W.count port.old.to) (W.count port.new.to)
-        (fault_by (λ halt. fault_of_failure halt.why) result) }
+        × Counts port.old port.new (fault_by (λ halt. fault_of_failure halt.why) result) }
     ensures kept { (port.new.limits ≡ port.old.limits)
         × (port.new.turns ≡ port.old.turns)
         × (length room.new ≡ length room.old) }
@@ -173,19 +161,14 @@ fn follow_step<R: ByteIn + Drop, W: ByteOut + Drop>(
     requires step { (sampled_count (step_clocks step.now) ≤ length room.old)
         × IsTaken port.old.chip (step_clocks step.now) }
     ensures done { MatchResult result
-        (λ _. Does port.old.limits port.old.turns
-        (moment port.old.chip (W.held port.old.to) (R.ahead port.old.from))
-        (step_clocks step.now)
-        (moment port.new.chip (W.held port.new.to) (R.ahead port.new.from)))
-        (λ failed. StopsAlone meaning.now port.old.limits port.old.turns
-        (moment port.old.chip (W.held port.old.to) (R.ahead port.old.from))
-        (step_clocks step.now) failed
-        (moment port.new.chip (W.held port.new.to) (R.ahead port.new.from))) }
+        (λ _. Does port.old.limits port.old.turns (moment_of port.old) (step_clocks step.now)
+        (moment_of port.new))
+        (λ failed. StopsAlone (rules_at port.old meaning.now) (moment_of port.old)
+        (step_clocks step.now) failed (moment_of port.new)) }
     ensures failures { (port.new.failed ≤ port.old.failed + 1)
         × IfOk result (λ _. port.new.reason ≡ None)
         × IfOk result (λ _. port.new.failed ≡ port.old.failed) }
-    ensures blamed { CountsBoth (R.count port.old.from) (R.count port.new.from)
-        (W.count port.old.to) (W.count port.new.to) (fault_by fault_of_failure result) }
+    ensures blamed { Counts port.old port.new (fault_by fault_of_failure result) }
     ensures kept { (port.new.limits ≡ port.old.limits)
         × (port.new.turns ≡ port.old.turns)
         × (length room.new ≡ length room.old) }

@@ -8,14 +8,16 @@ ghost use Rattle.nor_chip.specs.Ready.{ready_chip};
 ghost use Rattle.nor_serprog.specs.Greeting.{Greeted};
 ghost use Rattle.nor_serprog.specs.Line.{TestsLine};
 ghost use Rattle.norprog_player.specs.Early.{GoesWellInMemory};
-ghost use Rattle.norprog_player.specs.Expected.{expectation_of};
-ghost use Rattle.norprog_player.specs.Moment.{moment};
+ghost use Rattle.norprog_player.specs.Expected.{expectation_of, play_of};
 ghost use Rattle.norprog_player.specs.Progress.{ReportsPlay};
-ghost use Rattle.norprog_device.specs.Blame.{CountsBoth, fault_of_greeting};
+ghost use Rattle.norprog_device.specs.Blame.{fault_of_greeting};
+ghost use Rattle.norprog_common.specs.Told.{output};
 ghost use Rattle.norprog_device.specs.Opened.{Opens};
+ghost use Rattle.norprog_device.specs.Wire.{wire};
 ghost use Rattle.norprog_player.specs.Blame.{fault_by, fault_in};
 ghost use Rattle.norprog_player.specs.Opened.{FailsTest, HasPlayed, Releases, StopsBefore};
 ghost use Rattle.norprog_player.specs.Opened.{StopsOpening};
+ghost use Rattle.norprog_player.specs.Port.{moment_of, Counts};
 
 use crate::device::play_on_device;
 use crate::ending::Ending;
@@ -51,21 +53,14 @@ pub(crate) fn greet_and_play<R: ByteIn + Drop, W: ByteOut + Drop, P: ByteOut>(
         × (transactions
         ≡ length (trail port.old.chip.setting port.old.chip.chip steps.now)) }
     ensures ends { MatchResult result
-        (λ ending. HasPlayed port.new.limits port.old.turns (expectation_of expected.entry)
-        meaning.now
-        (moment port.old.chip (W.held port.old.to) (R.ahead port.old.from))
-        steps.now ending
-        (moment port.new.chip (W.held port.new.to) (R.ahead port.new.from)))
-        (StopsBefore port.old.limits port.new.limits
-        (moment port.old.chip (W.held port.old.to) (R.ahead port.old.from))
-        (moment port.new.chip (W.held port.new.to) (R.ahead port.new.from))) }
+        (λ ending. HasPlayed port.new.limits (play_of steps.now (expectation_of expected.entry)
+        meaning.now port.old.chip.chip.array port.old.turns) (moment_of port.old) ending
+        (moment_of port.new))
+        (StopsBefore port.old.limits port.new.limits (moment_of port.old) (moment_of port.new)) }
     ensures told { MatchResult result
-        (λ ending. ReportsPlay steps.now ending (P.held progress.old) (P.held progress.new)
-        (P.count progress.old)
-        (P.count progress.new))
+        (λ ending. ReportsPlay steps.now ending (output P.held P.count progress.old progress.new))
         (λ _. progress.new ≡ progress.old) }
-    ensures blamed { CountsBoth (R.count port.old.from) (R.count port.new.from)
-        (W.count port.old.to) (W.count port.new.to) (fault_in result)
+    ensures blamed { Counts port.old port.new (fault_in result)
         × (port.new.failed ≤ port.old.failed + 1) }
 {
     greet_and_test(port)?;
@@ -88,17 +83,16 @@ fn greet_and_test<R: ByteIn + Drop, W: ByteOut + Drop>(
 ) -> Result<(), DeviceFault>
     requires count { port.old.failed < 2 ^ 64 - 1 }
     ensures opened { MatchResult result
-        (λ _. Opens (W.held port.old.to) (W.held port.new.to)
-        (R.ahead port.old.from) (R.ahead port.new.from) (Ok port.new.limits))
-        (StopsOpening (W.held port.old.to) (W.held port.new.to)
-        (R.ahead port.old.from) (R.ahead port.new.from) port.old.limits port.new.limits) }
+        (λ _. Opens (W.held port.old.to) (W.held port.new.to) (R.ahead port.old.from)
+        (R.ahead port.new.from) (Ok port.new.limits))
+        (StopsOpening (wire (W.held port.old.to) (R.ahead port.old.from))
+        (wire (W.held port.new.to) (R.ahead port.new.from)) port.old.limits port.new.limits) }
     ensures chip { port.new.chip ≡ port.old.chip }
     ensures turns { port.new.turns ≡ port.old.turns }
     ensures fresh { port.new.reason ≡ port.old.reason }
     ensures failures { IfOk result (λ _. port.new.failed ≡ port.old.failed)
         × (port.new.failed ≤ port.old.failed + 1)
-        × CountsBoth (R.count port.old.from) (R.count port.new.from)
-        (W.count port.old.to) (W.count port.new.to) (fault_by fault_of_greeting result) }
+        × Counts port.old port.new (fault_by fault_of_greeting result) }
 {
     greet_port(port)?;
     test_port(port)
@@ -110,17 +104,16 @@ fn greet_port<R: ByteIn + Drop, W: ByteOut + Drop>(
 ) -> Result<(), DeviceFault>
     requires count { port.old.failed < 2 ^ 64 - 1 }
     ensures greeted { MatchResult result
-        (λ _. Greeted (W.held port.old.to) (W.held port.new.to)
-        (R.ahead port.old.from) (R.ahead port.new.from) (Ok port.new.limits))
-        (StopsOpening (W.held port.old.to) (W.held port.new.to)
-        (R.ahead port.old.from) (R.ahead port.new.from) port.old.limits port.new.limits) }
+        (λ _. Greeted (W.held port.old.to) (W.held port.new.to) (R.ahead port.old.from)
+        (R.ahead port.new.from) (Ok port.new.limits))
+        (StopsOpening (wire (W.held port.old.to) (R.ahead port.old.from))
+        (wire (W.held port.new.to) (R.ahead port.new.from)) port.old.limits port.new.limits) }
     ensures chip { port.new.chip ≡ port.old.chip }
     ensures turns { port.new.turns ≡ port.old.turns }
     ensures fresh { port.new.reason ≡ port.old.reason }
     ensures failures { IfOk result (λ _. port.new.failed ≡ port.old.failed)
         × (port.new.failed ≤ port.old.failed + 1)
-        × CountsBoth (R.count port.old.from) (R.count port.new.from)
-        (W.count port.old.to) (W.count port.new.to) (fault_by fault_of_greeting result) }
+        × Counts port.old port.new (fault_by fault_of_greeting result) }
 {
     match greet(&mut port.from, &mut port.to) {
         Ok(limits) => {
@@ -140,18 +133,17 @@ fn test_port<R: ByteIn + Drop, W: ByteOut + Drop>(
 ) -> Result<(), DeviceFault>
     requires count { port.old.failed < 2 ^ 64 - 1 }
     ensures tested { MatchResult result
-        (λ _. TestsLine (W.held port.old.to) (W.held port.new.to)
-        (R.ahead port.old.from) (R.ahead port.new.from) (Ok tt) port.old.limits)
-        (FailsTest (W.held port.old.to) (W.held port.new.to)
-        (R.ahead port.old.from) (R.ahead port.new.from) port.old.limits) }
+        (λ _. TestsLine (W.held port.old.to) (W.held port.new.to) (R.ahead port.old.from)
+        (R.ahead port.new.from) (Ok tt) port.old.limits)
+        (FailsTest (wire (W.held port.old.to) (R.ahead port.old.from))
+        (wire (W.held port.new.to) (R.ahead port.new.from)) port.old.limits) }
     ensures kept { (port.new.chip ≡ port.old.chip)
         × (port.new.turns ≡ port.old.turns)
         × (port.new.reason ≡ port.old.reason) }
     ensures limits { port.new.limits ≡ port.old.limits }
     ensures failures { IfOk result (λ _. port.new.failed ≡ port.old.failed)
         × (port.new.failed ≤ port.old.failed + 1)
-        × CountsBoth (R.count port.old.from) (R.count port.new.from)
-        (W.count port.old.to) (W.count port.new.to) (fault_by fault_of_greeting result) }
+        × Counts port.old port.new (fault_by fault_of_greeting result) }
 {
     match test_line(&mut port.from, &mut port.to, &port.limits) {
         Ok(()) => Ok(()),
@@ -169,9 +161,7 @@ pub(crate) fn release_pins<R: ByteIn + Drop, W: ByteOut + Drop>(
     cut: bool,
 )
     requires { port.old.failed < 2 ^ 64 - 1 }
-    ensures { Releases (port.old.limits.pins && not cut)
-        (moment port.old.chip (W.held port.old.to) (R.ahead port.old.from))
-        (moment port.new.chip (W.held port.new.to) (R.ahead port.new.from)) }
+    ensures { Releases (port.old.limits.pins && not cut) (moment_of port.old) (moment_of port.new) }
 {
     if port.limits.pins && !cut {
         if release(&mut port.from, &mut port.to).is_err() {

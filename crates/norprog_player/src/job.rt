@@ -6,7 +6,7 @@ ghost use Rattle.nor_job.specs.Status.{start_of};
 ghost use Rattle.norprog_common.specs.Content.{CountsReader};
 ghost use Rattle.nor_script.specs.Stream.{HadText};
 ghost use Rattle.norprog_player.specs.Job.{IsSized, IsReady, RefusesSize, RefusesScript};
-ghost use Rattle.norprog_player.specs.Job.{RefusesJob};
+ghost use Rattle.norprog_player.specs.Job.{source, sources, RefusesJob};
 ghost use Rattle.norprog_common.specs.Reading.{GivesSome};
 ghost use Rattle.norprog_player.specs.Job.{CountsScript, IsOfChip, IsEarly};
 
@@ -41,12 +41,13 @@ pub fn job_of<A: ByteIn, R: ByteIn>(
 ) -> Result<Job, Refusal>
     requires script { A.count script.old < 2 ^ 64 - 1 }
     requires content { R.count content.old < 2 ^ 64 - 1 }
-    ensures ready { IfOk result (λ job. (job.start ≡ start_of inputs.now)
-        × IsReady inputs.now (A.ahead script.old) (A.ahead script.new) len
-        (R.ahead content.old) (R.ahead content.new) job.meaning job.steps.items job.content.items) }
-    ensures refused { IfErr result
-        (RefusesJob inputs.now (A.ahead script.old) (A.ahead script.new) len
-        (R.ahead content.old) (R.ahead content.new)) }
+    ensures ready { IfOk result (λ job. (job.start ≡ start_of inputs.now) × IsReady (sources
+        inputs.now len (source (A.ahead script.old) (A.ahead script.new))
+        (source (R.ahead content.old) (R.ahead content.new))) job.meaning job.steps.items
+        job.content.items) }
+    ensures refused { IfErr result (RefusesJob (sources inputs.now len
+        (source (A.ahead script.old) (A.ahead script.new))
+        (source (R.ahead content.old) (R.ahead content.new)))) }
     ensures unread { IfErr result (λ why. (IsOfChip why → script.new ≡ script.old)
         × (IsEarly why → content.new ≡ content.old)) }
     ensures counts { CountsReader (R.count content.old) (R.count content.new) result

@@ -1,12 +1,13 @@
 //! Whether the chip behind a device is like the chip in memory.
 
-ghost use Rattle.std.specs.Prelude.{◌≡◌, ◌<◌, ◌≤◌, ◌+◌, ◌-◌, ◌*◌, ◌^◌, false, length, MatchResult};
-ghost use Rattle.std.specs.Prelude.{IfOk};
+ghost use Rattle.std.specs.Prelude.{◌≡◌, ◌<◌, ◌≤◌, ◌+◌, ◌-◌, ◌*◌, ◌^◌, false, length, Err};
+ghost use Rattle.std.specs.Prelude.{IfOk, MatchResult};
 ghost use Rattle.nor_cells.specs.Marks.{IsMarked};
-ghost use Rattle.norprog_device.specs.Blame.{CountsBoth, fault_of_mismatch};
+ghost use Rattle.norprog_device.specs.Blame.{fault_of_mismatch};
 ghost use Rattle.norprog_player.specs.Blame.{fault_by};
-ghost use Rattle.norprog_player.specs.Moment.{moment};
-ghost use Rattle.norprog_player.specs.Likeness.{Compares, IsLike, IsUnlike};
+ghost use Rattle.norprog_player.specs.Compared.{comparison};
+ghost use Rattle.norprog_player.specs.Likeness.{Compares, Likens};
+ghost use Rattle.norprog_player.specs.Port.{moment_of, Counts, FailsOnce, IsKept};
 
 use crate::access::Access;
 use crate::content::compare_whole;
@@ -26,21 +27,13 @@ pub(crate) fn compare_unless_trusted<R: ByteIn + Drop, W: ByteOut + Drop>(
         × (length port.old.chip.chip.array ≡ 256 * length marks.now) }
     requires count { port.old.failed < 2 ^ 64 - 1 }
     ensures compared { MatchResult result
-        (λ _. Compares port.old.limits trusted access (IsMarked marks.now)
-        (moment port.old.chip (W.held port.old.to) (R.ahead port.old.from))
-        (moment port.new.chip (W.held port.new.to) (R.ahead port.new.from)))
-        (λ why. (trusted ≡ false) × IsUnlike port.old.limits access (IsMarked marks.now)
-        (moment port.old.chip (W.held port.old.to) (R.ahead port.old.from))
-        (moment port.new.chip (W.held port.new.to) (R.ahead port.new.from))
-        why) }
-    ensures kept { (port.new.chip ≡ port.old.chip)
-        × (port.new.limits ≡ port.old.limits)
-        × (port.new.turns ≡ port.old.turns) }
-    ensures failures { IfOk result (λ _. port.new.reason ≡ port.old.reason)
-        × IfOk result (λ _. port.new.failed ≡ port.old.failed)
-        × (port.new.failed ≤ port.old.failed + 1) }
-    ensures blamed { CountsBoth (R.count port.old.from) (R.count port.new.from)
-        (W.count port.old.to) (W.count port.new.to) (fault_by fault_of_mismatch result) }
+        (λ _. Compares (comparison port.old.limits access (IsMarked marks.now)) trusted
+        (moment_of port.old) (moment_of port.new))
+        (λ why. (trusted ≡ false) × Likens (comparison port.old.limits access (IsMarked marks.now))
+        (moment_of port.old) (moment_of port.new) (Err why)) }
+    ensures kept { IsKept port.old port.new }
+    ensures failures { FailsOnce port.old port.new result }
+    ensures blamed { Counts port.old port.new (fault_by fault_of_mismatch result) }
 {
     if trusted {
         return Ok(());
@@ -58,22 +51,11 @@ pub(crate) fn compare_chip<R: ByteIn + Drop, W: ByteOut + Drop>(
     requires marked { (length port.old.chip.chip.array < 2 ^ 32)
         × (length port.old.chip.chip.array ≡ 256 * length marks.now) }
     requires count { port.old.failed < 2 ^ 64 - 1 }
-    ensures compared { MatchResult result
-        (λ _. IsLike port.old.limits access (IsMarked marks.now)
-        (moment port.old.chip (W.held port.old.to) (R.ahead port.old.from))
-        (moment port.new.chip (W.held port.new.to) (R.ahead port.new.from)))
-        (λ why. IsUnlike port.old.limits access (IsMarked marks.now)
-        (moment port.old.chip (W.held port.old.to) (R.ahead port.old.from))
-        (moment port.new.chip (W.held port.new.to) (R.ahead port.new.from))
-        why) }
-    ensures kept { (port.new.chip ≡ port.old.chip)
-        × (port.new.limits ≡ port.old.limits)
-        × (port.new.turns ≡ port.old.turns) }
-    ensures failures { IfOk result (λ _. port.new.reason ≡ port.old.reason)
-        × IfOk result (λ _. port.new.failed ≡ port.old.failed)
-        × (port.new.failed ≤ port.old.failed + 1) }
-    ensures blamed { CountsBoth (R.count port.old.from) (R.count port.new.from)
-        (W.count port.old.to) (W.count port.new.to) (fault_by fault_of_mismatch result) }
+    ensures compared { Likens (comparison port.old.limits access (IsMarked marks.now))
+        (moment_of port.old) (moment_of port.new) result }
+    ensures kept { IsKept port.old port.new }
+    ensures failures { FailsOnce port.old port.new result }
+    ensures blamed { Counts port.old port.new (fault_by fault_of_mismatch result) }
 {
     let content = port.chip.content();
     let compared = compare_whole(

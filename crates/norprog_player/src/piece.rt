@@ -5,7 +5,8 @@ ghost use Rattle.nor_base.specs.Device.{HaveRoom};
 ghost use Rattle.nor_probe.specs.Compared.{CountsMismatch};
 ghost use Rattle.nor_serprog.specs.declared.fault.Fault.TheVariants.{Read, Write};
 ghost use Rattle.norprog_player.specs.Access.{far_ops, four_bytes, is_near};
-ghost use Rattle.norprog_player.specs.Compared.{ReadsBy, ReadsOps, ReadsRange};
+ghost use Rattle.norprog_device.specs.Wire.{wire};
+ghost use Rattle.norprog_player.specs.Compared.{piece_at, ReadsBy, ReadsOps, ReadsRange};
 ghost use Rattle.norprog_player.specs.declared.access.Access.TheVariants.{Entered};
 
 use crate::access::Access;
@@ -34,8 +35,8 @@ pub(crate) fn compare_piece<R: ByteIn, W: ByteOut>(
     requires size { length piece.now < 2 ^ 24 }
     requires end { address + length piece.now < 2 ^ 32 }
     requires room { HaveRoom (R.count from.old) (W.count to.old) }
-    ensures read { ReadsRange (W.held to.old) (W.held to.new) (R.ahead from.old) (R.ahead from.new)
-        result access address piece.now }
+    ensures read { ReadsRange (wire (W.held to.old) (R.ahead from.old))
+        (wire (W.held to.new) (R.ahead from.new)) result access (piece_at address piece.now) }
     ensures counts { CountsMismatch Read (R.count from.old) (R.count from.new) result
         × CountsMismatch Write (W.count to.old) (W.count to.new) result }
 {
@@ -68,8 +69,9 @@ fn compare_far<R: ByteIn, W: ByteOut>(
     requires size { length piece.now < 2 ^ 24 }
     requires end { address + length piece.now < 2 ^ 32 }
     requires room { HaveRoom (R.count from.old) (W.count to.old) }
-    ensures read { ReadsOps (W.held to.old) (W.held to.new) (R.ahead from.old) (R.ahead from.new)
-        result (far_ops access address) address piece.now }
+    ensures read { ReadsOps (wire (W.held to.old) (R.ahead from.old))
+        (wire (W.held to.new) (R.ahead from.new)) result (far_ops access address) (piece_at address
+        piece.now) }
     ensures counts { CountsMismatch Read (R.count from.old) (R.count from.new) result
         × CountsMismatch Write (W.count to.old) (W.count to.new) result }
 {
@@ -95,9 +97,9 @@ fn compare_entered<R: ByteIn, W: ByteOut>(
     requires size { length piece.now < 2 ^ 24 }
     requires end { address + length piece.now < 2 ^ 32 }
     requires room { HaveRoom (R.count from.old) (W.count to.old) }
-    ensures read { ReadsOps (W.held to.old) (W.held to.new) (R.ahead from.old) (R.ahead from.new)
-        result
-        (far_ops (Entered enter leave) address) address piece.now }
+    ensures read { ReadsOps (wire (W.held to.old) (R.ahead from.old))
+        (wire (W.held to.new) (R.ahead from.new)) result (far_ops (Entered enter leave) address)
+        (piece_at address piece.now) }
     ensures counts { CountsMismatch Read (R.count from.old) (R.count from.new) result
         × CountsMismatch Write (W.count to.old) (W.count to.new) result }
 {
@@ -127,9 +129,9 @@ fn read_four<R: ByteIn, W: ByteOut>(
     requires size { length piece.now < 2 ^ 24 }
     requires end { address + length piece.now < 2 ^ 32 }
     requires room { HaveRoom (R.count from.old) (W.count to.old) }
-    ensures read { ReadsBy (W.held to.old) (W.held to.new) (R.ahead from.old) (R.ahead from.new)
-        result
-        (four_bytes opcode address) address piece.now }
+    ensures read { ReadsBy (wire (W.held to.old) (R.ahead from.old))
+        (wire (W.held to.new) (R.ahead from.new)) result (four_bytes opcode address) (piece_at
+        address piece.now) }
     ensures counts { CountsMismatch Read (R.count from.old) (R.count from.new) result
         × CountsMismatch Write (W.count to.old) (W.count to.new) result }
 {
@@ -156,8 +158,8 @@ fn read_by<R: ByteIn, W: ByteOut>(
     requires size { length piece.now < 2 ^ 24 }
     requires end { address + length piece.now < 2 ^ 32 }
     requires room { HaveRoom (R.count from.old) (W.count to.old) }
-    ensures read { ReadsBy (W.held to.old) (W.held to.new) (R.ahead from.old) (R.ahead from.new)
-        result sent.now address piece.now }
+    ensures read { ReadsBy (wire (W.held to.old) (R.ahead from.old))
+        (wire (W.held to.new) (R.ahead from.new)) result sent.now (piece_at address piece.now) }
     ensures counts { CountsMismatch Read (R.count from.old) (R.count from.new) result
         × CountsMismatch Write (W.count to.old) (W.count to.new) result }
 {

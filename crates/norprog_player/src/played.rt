@@ -5,9 +5,9 @@ ghost use Rattle.nor_base.specs.Chip.{IsPossible};
 ghost use Rattle.nor_base.specs.Port.{Shown};
 ghost use Rattle.nor_base.specs.Run.{trail};
 ghost use Rattle.norprog_player.specs.Early.{MayPlay, chip_with};
-ghost use Rattle.norprog_player.specs.Expected.{expectation_of};
+ghost use Rattle.norprog_player.specs.Expected.{expectation_of, play_of};
 ghost use Rattle.norprog_player.specs.Moment.{moment};
-ghost use Rattle.norprog_player.specs.Played.{EndsOnDevice, StopsOnDevice, play_of, shown_in};
+ghost use Rattle.norprog_player.specs.Played.{EndsOnDevice, StopsOnDevice, shown_in};
 
 use crate::blame::fault_in;
 use crate::early::widest;
@@ -46,15 +46,13 @@ pub fn play_on<R: ByteIn + Drop, W: ByteOut + Drop, P: ByteOut>(
     requires progress { P.count progress.old < 2 ^ 64 - 1 }
     ensures { (shown : Shown) × MatchResult result.0
         (EndsOnDevice (play_of job.steps.items (expectation_of expected.entry) job.meaning
-        job.content.items limit)
-        (moment (shown_in (play_of job.steps.items (expectation_of expected.entry) job.meaning
-        job.content.items limit)) (W.held to) (R.ahead from))
-        (moment shown (W.held result.2) (R.ahead result.1)))
+        job.content.items limit) (moment (shown_in (play_of job.steps.items
+        (expectation_of expected.entry) job.meaning job.content.items limit)) (W.held to)
+        (R.ahead from)) (moment shown (W.held result.2) (R.ahead result.1)))
         (StopsOnDevice (play_of job.steps.items (expectation_of expected.entry) job.meaning
-        job.content.items limit)
-        (moment (shown_in (play_of job.steps.items (expectation_of expected.entry) job.meaning
-        job.content.items limit)) (W.held to) (R.ahead from))
-        (moment shown (W.held result.2) (R.ahead result.1))) }
+        job.content.items limit) (moment (shown_in (play_of job.steps.items
+        (expectation_of expected.entry) job.meaning job.content.items limit)) (W.held to)
+        (R.ahead from)) (moment shown (W.held result.2) (R.ahead result.1))) }
 {
     let Job {
         meaning,

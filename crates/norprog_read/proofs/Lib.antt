@@ -1,4 +1,3 @@
-pub mod BlameLemmas
 mod WayLemmas
 mod ChipLemmas
 mod CameLemmas

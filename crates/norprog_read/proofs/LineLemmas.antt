@@ -1,16 +1,12 @@
 -- The parts of a line, joined.
-use Rattle.std.proofs.Common.{◌≡◌, refl, ℕ, ◌%◌, List, [], ◌∷◌, ◌++◌, true, length, Some}
+use Rattle.std.proofs.Common.{◌≡◌, refl, ℕ, ◌%◌, List, ◌++◌, true, length, Some}
 use Rattle.std.specs.Prelude.{codes, decimal}
 use Rattle.nor_base.specs.declared.meaning.Part.TheVariants.{Generic}
 use Rattle.nor_base.specs.Script.{hex_pair}
 use Rattle.nor_probe.specs.declared.difference.Difference.{Difference}
 use Rattle.nor_script.specs.Hexadecimal.{hex_number}
-use Rattle.norprog_read.specs.declared.fault.Unlike.TheVariants.{At, Moved, Size}
-use Rattle.norprog_read.specs.Line.{content_line, digits_line, note_line, status_line, tables_line, unlike_line}
-
-pub digits_parts : (front bytes : List ℕ) (a b c : ℕ) (one two three : List ℕ) → bytes ≡ a ∷ b ∷ c ∷ [] → one ≡ hex_pair a → two ≡ hex_pair b → three ≡ hex_pair c
-    → front ++ (one ++ (two ++ (three ++ codes "\n"))) ≡ digits_line front bytes
-digits_parts front bytes a b c one two three is x y z = rw (is, x, y, z) refl
+use Rattle.norprog_read.specs.declared.fault.Unlike.TheVariants.{Moved, Size}
+use Rattle.norprog_read.specs.Line.{content_line, note_line, status_line, tables_line, unlike_line}
 
 pub status_parts : (status : ℕ) (digits : List ℕ) → digits ≡ hex_pair (status % 256) → codes "status " ++ (digits ++ codes "\n") ≡ status_line Generic status
 status_parts status digits d = rw d refl
@@ -18,9 +14,6 @@ status_parts status digits d = rw d refl
 pub tables_parts : (d : Difference) (address chip want : List ℕ) → address ≡ hex_number d.address → chip ≡ hex_pair d.chip → want ≡ hex_pair d.want
     → codes "unlike tables at " ++ (address ++ (codes " chip " ++ (chip ++ (codes " file " ++ (want ++ codes "\n"))))) ≡ tables_line d
 tables_parts d address chip want a c w = rw (a, c, w) refl
-
-pub at_parts : (address : ℕ) (digits : List ℕ) → digits ≡ hex_number address → codes "unlike at " ++ (digits ++ codes "\n") ≡ unlike_line (At address)
-at_parts address digits a = rw a refl
 
 pub count_parts : (content digits : List ℕ) → digits ≡ decimal (length content) → codes "read " ++ (digits ++ codes " twice alike\n") ≡ content_line true content
 count_parts content digits d = rw d refl

@@ -1,14 +1,8 @@
 -- What was read, and from which reading it follows.
 use Rattle.std.proofs.Common.{◌≡◌, ℕ, Bool, true, false, not, ◌&&◌, List, ◌++◌, length, take, drop, Option, Some, None, Result, Ok, Err, IfOk, IfErr, ◌∙◌, ap, refl, sym, subst}
 use Rattle.std.proofs.Math.Seq.{take-append_seam}
-use Rattle.nor_base.specs.Device.{Ahead}
 use Rattle.nor_serprog.specs.declared.limits.Limits.{Limits}
-use Rattle.nor_serprog.specs.Greeting.{Greeted}
-use Rattle.nor_serprog.specs.Line.{TestsLine}
-use Rattle.nor_base.specs.declared.meaning.Start.{Start}
-use Rattle.nor_base.specs.Parameters.{Parameters}
 use Rattle.nor_job.specs.declared.fault.BuildFault.TheVariants as fault
-use Rattle.nor_job.specs.Status.{start_of}
 use Rattle.nor_job.specs.Task.{Task}
 use Rattle.nor_loop.specs.Log.{Operation}
 use Rattle.nor_probe.specs.declared.difference.Mismatch.TheVariants as mismatch
@@ -27,20 +21,21 @@ use Rattle.norprog_read.specs.declared.fault.Unread.TheVariants.{Refused, Device
 use Rattle.norprog_device.specs.declared.fault.DeviceFault.TheVariants.{Greet, Line}
 use Rattle.norprog_device.specs.Blame.{is_cut}
 use Rattle.norprog_device.specs.Opened.{LetsGo}
+use Rattle.norprog_device.specs.Wire.{Wire}
 use Rattle.norprog_read.specs.Asked as asked
 use Rattle.norprog_read.specs.Asked.{StopsId, StopsStatus}
-use Rattle.norprog_read.specs.Blame.{fault_in, fault_of_stop}
+use Rattle.norprog_read.specs.Blame.{fault_in}
 use Rattle.norprog_read.specs.Chip.{chip_task}
 use Rattle.norprog_read.specs.End as end
-use Rattle.norprog_read.specs.End.{StopsEnd}
-use Rattle.nor_reader.specs.declared.by.ReadBy.{ReadBy}
+use Rattle.norprog_read.specs.End.{Past, StopsEnd}
 use Rattle.norprog_read.specs.Modes as modes
 use Rattle.norprog_read.specs.Modes.{StopsMode}
 use Rattle.norprog_read.specs.Size as size
 use Rattle.norprog_read.specs.Size.{asked_register, other_size, StopsMoved, TellsSize}
 use Rattle.norprog_read.specs.Stops as stops
 use Rattle.norprog_read.specs.Stops.{stop_of, told_of, DiffersFrom, StopsAsked, StopsChip, StopsContent}
-use Rattle.norprog_read.specs.Opened.{HasReadOpened, HasReadTested, StopsGreeted, StopsOpened, StopsTested}
+use Rattle.norprog_read.specs.Opened.{HasGreeted, HasReadOpened, HasReadTested, HasTested, StopsOpened, StopsTested}
+use Rattle.norprog_read.specs.Way.{Way}
 
 -- a vector whose slice was written whole
 pub written : (new old : List ℕ) (n : ℕ) → n ≡ length new → take n (new ++ drop (length new) old) ≡ new
@@ -51,49 +46,36 @@ as_well : (b : Bool) → b && true ≡ b
 as_well true = refl
 as_well false = refl
 
+-- the pins are let go, by a test of the same result
+freed : (v w : Wire) (pins frees : Bool) → pins ≡ frees → LetsGo v.held w.held v.ahead w.ahead pins → LetsGo v.held w.held v.ahead w.ahead frees
+freed v w pins frees is goes = subst (LetsGo v.held w.held v.ahead w.ahead) is goes
+
 -- a chip was read after the handshake, and then the pins were let go
-pub opened_by : (h i j k : Option (List ℕ)) (a b c d : Ahead) (limits : Limits) (ask : Ask) (r : Result Reading Unread)
-    (pins : Bool) → Greeted h i a b (Ok limits) → IfOk r (λ reading. HasReadTested i j b c limits ask reading)
-    → pins ≡ (limits.pins && not (is_cut (fault_in r)))
-    → LetsGo j k c d pins → IfOk r (λ reading. HasReadOpened h k a d ask reading)
-opened_by h i j k a b c d limits ask (Ok reading) pins greeted read is released = record {
-  held = i;
-  ahead = b;
+pub opened_by : (t u v w : Wire) (limits : Limits) (ask : Ask) (r : Result Reading Unread) (pins : Bool) → HasGreeted t u limits
+    → IfOk r (λ reading. HasReadTested u v limits ask reading) → pins ≡ (limits.pins && not (is_cut (fault_in r)))
+    → LetsGo v.held w.held v.ahead w.ahead pins → IfOk r (λ reading. HasReadOpened t w ask reading)
+opened_by t u v w limits ask (Ok reading) pins greeted read is goes = record {
+  begun = u;
   limits = limits;
   greeted = greeted;
-  held_late = j;
-  ahead_late = c;
+  ended = v;
   read = read;
-  released = subst (λ (frees : Bool). LetsGo j k c d frees) (is ∙ as_well limits.pins) released;
+  released = freed v w pins limits.pins (is ∙ as_well limits.pins) goes;
 }
-opened_by h i j k a b c d limits ask (Err why) pins greeted read is released = tt
+opened_by t u v w limits ask (Err why) pins greeted read is goes = tt
 
 -- or it stopped
-greeted_stops : (h i j k : Option (List ℕ)) (a b c d : Ahead) (limits : Limits) (ask : Ask) (why : Unread) (pins : Bool)
-    → Greeted h i a b (Ok limits) → StopsTested i j b c limits ask why → pins ≡ (limits.pins && not (is_cut (fault_of_stop why)))
-    → LetsGo j k c d pins → StopsGreeted h k a d ask why
-greeted_stops h i j k a b c d limits ask why pins greeted stops is released = record {
-  held = i;
-  ahead = b;
-  limits = limits;
-  greeted = greeted;
-  held_late = j;
-  ahead_late = c;
-  stops = stops;
-  released = subst (λ (frees : Bool). LetsGo j k c d frees) is released;
-}
-
-pub stops_by : (h i j k : Option (List ℕ)) (a b c d : Ahead) (limits : Limits) (ask : Ask) (r : Result Reading Unread) (pins : Bool)
-    → Greeted h i a b (Ok limits) → IfErr r (StopsTested i j b c limits ask) → pins ≡ (limits.pins && not (is_cut (fault_in r)))
-    → LetsGo j k c d pins → IfErr r (StopsOpened h k a d ask)
-stops_by h i j k a b c d limits ask (Ok reading) pins greeted stops is released = tt
-stops_by h i j k a b c d limits ask (Err (Device (Greet why))) pins greeted stops is released = absurd stops
-stops_by h i j k a b c d limits ask (Err (Device (Line why))) pins greeted stops is released =
-    greeted_stops h i j k a b c d limits ask (Device (Line why)) pins greeted stops is released
-stops_by h i j k a b c d limits ask (Err (Refused why)) pins greeted stops is released =
-    greeted_stops h i j k a b c d limits ask (Refused why) pins greeted stops is released
-stops_by h i j k a b c d limits ask (Err (Unlike why)) pins greeted stops is released =
-    greeted_stops h i j k a b c d limits ask (Unlike why) pins greeted stops is released
+pub stops_by : (t u v w : Wire) (limits : Limits) (ask : Ask) (r : Result Reading Unread) (pins : Bool) → HasGreeted t u limits
+    → IfErr r (StopsTested u v limits ask) → pins ≡ (limits.pins && not (is_cut (fault_in r)))
+    → LetsGo v.held w.held v.ahead w.ahead pins → IfErr r (StopsOpened t w ask)
+stops_by t u v w limits ask (Ok reading) pins greeted stops is goes = tt
+stops_by t u v w limits ask (Err (Device (Greet why))) pins greeted stops is goes = absurd stops
+stops_by t u v w limits ask (Err (Device (Line why))) pins greeted stops is goes =
+    record { begun = u; limits = limits; greeted = greeted; ended = v; stops = stops; released = freed v w pins _ is goes }
+stops_by t u v w limits ask (Err (Refused why)) pins greeted stops is goes =
+    record { begun = u; limits = limits; greeted = greeted; ended = v; stops = stops; released = freed v w pins _ is goes }
+stops_by t u v w limits ask (Err (Unlike why)) pins greeted stops is goes =
+    record { begun = u; limits = limits; greeted = greeted; ended = v; stops = stops; released = freed v w pins _ is goes }
 
 -- a chip that is asked never stops at the device, nor because an output can't be written
 abbrev pub IsOfChip : Unread → Type 0
@@ -123,67 +105,64 @@ of_other chip file (Unlike why) differs = tt
 of_other chip file (Device why) differs = differs
 of_other chip file (Refused why) differs = absurd differs
 
-of_status : (h i : Option (List ℕ)) (a b : Ahead) (ask : Ask) (why : Unread) → StopsStatus h i a b ask why → IsOfChip why
-of_status h i a b ask why (asked.Busy p) = tt
-of_status h i a b ask why (asked.Lost fault p) = tt
+of_status : (v w : Wire) (ask : Ask) (why : Unread) → StopsStatus v w ask why → IsOfChip why
+of_status v w ask why (asked.Busy p) = tt
+of_status v w ask why (asked.Lost fault p) = tt
 
-of_id : (h i : Option (List ℕ)) (a b : Ahead) (why : Unread) → StopsId h i a b why → IsOfChip why
-of_id h i a b why (asked.Unsaid fault p) = tt
-of_id h i a b why (asked.Undriven id p undriven) = tt
+of_id : (v w : Wire) (why : Unread) → StopsId v w why → IsOfChip why
+of_id v w why (asked.Unsaid fault p) = tt
+of_id v w why (asked.Undriven id p undriven) = tt
 
-of_tables : (most : ℕ) (h i : Option (List ℕ)) (a b : Ahead) (by : Known) (id : List ℕ) (why : Unread) → StopsAsked most h i a b by id why
-    → IsOfChip why
-of_tables most h i a b by id why (stops.Uncome fault of p is none) = subst IsOfChip (sym is) (of_stop id fault)
-of_tables most h i a b by id why (stops.Other file chip of is read differs) = of_other chip file of differs
+of_tables : (most : ℕ) (v w : Wire) (by : Known) (id : List ℕ) (why : Unread) → StopsAsked most v w by id why → IsOfChip why
+of_tables most v w by id why (stops.Uncome fault of p is none) = subst IsOfChip (sym is) (of_stop id fault)
+of_tables most v w by id why (stops.Other file chip of is read differs) = of_other chip file of differs
 
-of_mode : (h i : Option (List ℕ)) (a b : Ahead) (ask : Ask) (ops : List Operation) (why : Unread) → StopsMode h i a b ask ops why → IsOfChip why
-of_mode h i a b ask ops why (modes.Unsent fault p) = tt
-of_mode h i a b ask ops why (modes.Unasked held ahead of wire p) = of_status held i ahead b ask of p
-of_mode h i a b ask ops why (modes.Otherwise held ahead after wire read other) = tt
+of_mode : (v w : Wire) (ask : Ask) (ops : List Operation) (why : Unread) → StopsMode v w ask ops why → IsOfChip why
+of_mode v w ask ops why (modes.Unsent fault p) = tt
+of_mode v w ask ops why (modes.Unasked between of done p) = of_status between w ask of p
+of_mode v w ask ops why (modes.Otherwise between next done read other) = tt
 
 of_size : (told : Option ℕ) (why : Unread) → TellsSize told why → IsOfChip why
 of_size (Some size) why is = subst IsOfChip (sym is) tt
 of_size None why is = absurd is
 
-of_moved : (h i : Option (List ℕ)) (a b : Ahead) (asked : Option AddressRegister) (why : Unread) → StopsMoved h i a b asked why → IsOfChip why
-of_moved h i a b asked why (size.Lost register fault is p) = tt
-of_moved h i a b asked why (size.Moved register value is read away) = tt
+of_moved : (v w : Wire) (asked : Option AddressRegister) (why : Unread) → StopsMoved v w asked why → IsOfChip why
+of_moved v w asked why (size.Lost register fault is p) = tt
+of_moved v w asked why (size.Moved register value is read away) = tt
 
-of_content : (most : ℕ) (h i : Option (List ℕ)) (a b : Ahead) (m : Parameters) (start : Start) (sure : Bool) (why : Unread)
-    → StopsContent most h i a b m start sure why → IsOfChip why
-of_content most h i a b m start sure why (stops.Unreadable un same none) = tt
-of_content most h i a b m start sure why (stops.NoMemory same none) = tt
-of_content most h i a b m start sure why (stops.Lost content fault p) = tt
-of_content most h i a b m start sure why (stops.Other content d p) = tt
-of_content most h i a b m start sure why (stops.Hidden content unsure twice hides) = tt
+of_content : (how : Way) (v w : Wire) (why : Unread) → StopsContent how v w why → IsOfChip why
+of_content how v w why (stops.Unreadable un none) = tt
+of_content how v w why (stops.NoMemory none) = tt
+of_content how v w why (stops.Lost content fault p) = tt
+of_content how v w why (stops.Other content d p) = tt
+of_content how v w why (stops.Hidden content unsure twice hides) = tt
 
-of_end : (most : ℕ) (h i : Option (List ℕ)) (a b : Ahead) (ask : Ask) (by : ReadBy) (content : List ℕ) (why : Unread)
-    → StopsEnd most h i a b ask by content why → IsOfChip why
-of_end most h i a b ask by content why (end.Alike same none many repeats) = tt
-of_end most h i a b ask by content why (end.Lost fault sized p) = tt
-of_end most h i a b ask by content why (end.Other d sized p) = tt
+of_end : (v w : Wire) (past : Past) (ask : Ask) (why : Unread) → StopsEnd v w past ask why → IsOfChip why
+of_end v w past ask why (end.Alike none many repeats) = tt
+of_end v w past ask why (end.Lost fault sized p) = tt
+of_end v w past ask why (end.Other d sized p) = tt
 
-pub of_chip : (most : ℕ) (h i : Option (List ℕ)) (a b : Ahead) (ask : Ask) (why : Unread) → StopsChip most h i a b ask why → IsOfChip why
-of_chip most h i a b ask why (stops.AtFile of same none (stops.Meaningless file refusal is refused)) = of_meaning (chip_task ask file) refusal refused
-of_chip most h i a b ask why (stops.AtStatus of p) = of_status h i a b ask of p
-of_chip most h i a b ask why (stops.AtId j c status of idle p) = of_id j i c b of p
-of_chip most h i a b ask why (stops.Unexpected j c status id idle p other) = tt
-of_chip most h i a b ask why (stops.AtTables j c said of p) = of_tables most j i c b ask.known said.id of p
-of_chip most h i a b ask why (stops.AtMeaning is of refusal refused told) =
+pub of_chip : (most : ℕ) (v w : Wire) (ask : Ask) (why : Unread) → StopsChip most v w ask why → IsOfChip why
+of_chip most v w ask why (stops.AtFile of none (stops.Meaningless file refusal is refused)) = of_meaning (chip_task ask file) refusal refused
+of_chip most v w ask why (stops.AtStatus of p) = of_status v w ask of p
+of_chip most v w ask why (stops.AtId u status of idle p) = of_id u w of p
+of_chip most v w ask why (stops.Unexpected u status id idle p other) = tt
+of_chip most v w ask why (stops.AtTables u said of p) = of_tables most u w ask.known said.id of p
+of_chip most v w ask why (stops.AtMeaning is of refusal refused told) =
     subst IsOfChip (sym told) (of_told ask.known is.identified.id refusal (of_meaning (chip_task ask is.chip) refusal refused))
-of_chip most h i a b ask why (stops.AtSize is of told) = of_size (other_size ask is.chip) of told
-of_chip most h i a b ask why (stops.AtRegister j k c d is m after of means made p) = of_moved k i d b (asked_register ask.content is.chip) of p
-of_chip most h i a b ask why (stops.AtMode j c is m of means p) = of_mode j i c b ask _ of p
-of_chip most h i a b ask why (stops.AtContent j c is of wanted p) = of_content most j i c b is.m (start_of (chip_task ask is.known.chip)) _ of p
-of_chip most h i a b ask why (stops.AtPast j c is of p) = of_end most j i c b ask _ is.content of p
-of_chip most h i a b ask why (stops.AtEnd j c is of p) = of_id j i c b of p
-of_chip most h i a b ask why (stops.OtherId j c is other p differs) = tt
-of_chip most h i a b ask why (stops.AtLine j c is p hides) = tt
+of_chip most v w ask why (stops.AtSize is of told) = of_size (other_size ask is.chip) of told
+of_chip most v w ask why (stops.AtMode u is m of means p) = of_mode u w ask _ of p
+of_chip most v w ask why (stops.AtRegister u is of p) = of_moved u w (asked_register ask.content is.known.chip) of p
+of_chip most v w ask why (stops.AtContent u is of wanted p) = of_content _ u w of p
+of_chip most v w ask why (stops.AtPast u is of p) = of_end u w _ ask of p
+of_chip most v w ask why (stops.AtEnd u is of p) = of_id u w of p
+of_chip most v w ask why (stops.OtherId u is other p differs) = tt
+of_chip most v w ask why (stops.AtLine u is p hides) = tt
 
 -- the line was tested, and then that stopped
-pub tested_stops : (h i j : Option (List ℕ)) (a b c : Ahead) (limits : Limits) (ask : Ask) (r : Result Reading Unread) → TestsLine h i a b (Ok tt) limits
-    → IfErr r (StopsChip limits.asked i j b c ask) → IfErr r (StopsTested h j a c limits ask)
-tested_stops h i j a b c limits ask (Ok reading) tested stops = tt
-tested_stops h i j a b c limits ask (Err (Device why)) tested stops = absurd (of_chip limits.asked i j b c ask (Device why) stops)
-tested_stops h i j a b c limits ask (Err (Refused why)) tested stops = record { held = i; ahead = b; tested = tested; stops = stops }
-tested_stops h i j a b c limits ask (Err (Unlike why)) tested stops = record { held = i; ahead = b; tested = tested; stops = stops }
+pub tested_stops : (u v w : Wire) (limits : Limits) (ask : Ask) (r : Result Reading Unread) → HasTested u v limits
+    → IfErr r (StopsChip limits.asked v w ask) → IfErr r (StopsTested u w limits ask)
+tested_stops u v w limits ask (Ok reading) tested stops = tt
+tested_stops u v w limits ask (Err (Device why)) tested stops = absurd (of_chip limits.asked v w ask (Device why) stops)
+tested_stops u v w limits ask (Err (Refused why)) tested stops = record { between = v; tested = tested; stops = stops }
+tested_stops u v w limits ask (Err (Unlike why)) tested stops = record { between = v; tested = tested; stops = stops }

@@ -1,29 +1,28 @@
 -- What the chip behind a device said and gave (this project's).
-use Rattle.std.specs.Prelude.{◌≡◌, ⊤, ℕ, min, Bool, true, false, List, [], ◌++◌, length, take, Option, None, Ok}
+use Rattle.std.specs.Prelude.{◌≡◌, ⊤, ℕ, min, Bool, true, false, List, [], ◌++◌, length, take, None, Ok}
 use Rattle.nor_base.specs.declared.meaning.Start.{Start}
 use Rattle.nor_base.specs.Chip.{begins4}
-use Rattle.nor_base.specs.Device.{Ahead}
 use Rattle.nor_base.specs.Parameters.{Parameters}
 use Rattle.nor_job.specs.Chip.{HasChip}
 use Rattle.nor_job.specs.Status.{start_of}
 use Rattle.nor_job.specs.Task.{Task, Origin, Sfdp, Uniform as of_size}
-use Rattle.nor_probe.specs.Status.{ReadsStatus}
+use Rattle.nor_loop.specs.Log.{Operation}
 use Rattle.nor_probe.specs.Tables.{tables_reach}
 use Rattle.nor_reader.specs.declared.tables.TablesFault.{TablesFault}
 use Rattle.nor_reader.specs.declared.tables.TablesFault.TheVariants.{NoSignature}
-use Rattle.nor_reader.specs.Id.{Identifies}
 use Rattle.nor_reader.specs.Tables.{HasReadTables, StopsTables}
+use Rattle.norprog_device.specs.Wire.{Wire}
 use Rattle.norprog_read.specs.declared.asked.Ask.{Ask}
 use Rattle.norprog_read.specs.declared.asked.Known.{Known}
 use Rattle.norprog_read.specs.declared.asked.Known.TheVariants.{Tables, Uniform}
 use Rattle.norprog_read.specs.declared.asked.Reading.{Reading}
-use Rattle.norprog_read.specs.Asked.{IsDriven, IsExpected}
+use Rattle.norprog_read.specs.Asked.{AsksId, AsksStatus, IsDriven, IsExpected}
 use Rattle.norprog_read.specs.Came.{ShowsLine}
 use Rattle.norprog_read.specs.Content.{HoldsWhole}
-use Rattle.norprog_read.specs.End.{GivesPast, IsOnce}
+use Rattle.norprog_read.specs.End.{past, GivesPast, IsOnce, Past}
 use Rattle.norprog_read.specs.Modes.{is_sure, mode_ops, modes_of, MakesMode}
 use Rattle.norprog_read.specs.Size.{asked_register, noted_size, other_size, IsUnmoved}
-use Rattle.norprog_read.specs.Way.{past_by}
+use Rattle.norprog_read.specs.Way.{past_by, way, Way}
 
 -- where its meaning comes from: the tables that came, or its size
 abbrev pub task_chip : Known → List ℕ → List ℕ → Origin
@@ -61,20 +60,33 @@ abbrev pub IsFile : Known → List ℕ → Type 0
 IsFile (Tables bytes) file = bytes.now ≡ file
 IsFile other file = ⊥
 
--- its tables came twice alike, by reads of no more than so many bytes; a chip of a size may have none
-pub data GivesTables (most : ℕ) (held_before held_after : Option (List ℕ)) (ahead_before ahead_after : Ahead) (by : Known)
-    : List ℕ → Type 0 where
-  Come : (tables : List ℕ) → HasReadTables most held_before held_after ahead_before ahead_after tables
-      → GivesTables most held_before held_after ahead_before ahead_after by tables
-  Unsigned : is_uniform by ≡ true → StopsTables most held_before held_after ahead_before ahead_after NoSignature
-      → GivesTables most held_before held_after ahead_before ahead_after by []
+-- how it begins
+abbrev pub start_by : Ask → Start
+start_by ask = start_of (chip_task ask [])
 
--- its content came twice alike, by such reads, where it was wanted
-abbrev pub GivesContent : ℕ → Option (List ℕ) → Option (List ℕ) → Ahead → Ahead → Parameters → Start → Bool → Bool → List ℕ → Type 0
-GivesContent most held_before held_after ahead_before ahead_after m start sure true content =
-    HoldsWhole most held_before held_after ahead_before ahead_after m start sure content
-GivesContent most held_before held_after ahead_before ahead_after m start sure false content =
-    (content ≡ []) × (held_after ≡ held_before) × (ahead_after ≡ ahead_before)
+-- what puts a chip of these tables and this meaning into the mode that was said
+abbrev pub ops_by : Ask → List ℕ → Parameters → List Operation
+ops_by ask tables m = mode_ops ask.content (begins4 m (start_by ask)) (modes_of ask.known tables m)
+
+-- how its content is read then, by reads of no more than so many bytes
+abbrev pub way_by : ℕ → Ask → List ℕ → Parameters → Way
+way_by most ask tables m = way most m (start_by ask) (is_sure ask (begins4 m (start_by ask)) (modes_of ask.known tables m))
+
+-- and how past its end, where it has this content
+abbrev pub past_end : ℕ → Ask → Parameters → List ℕ → Past
+past_end most ask m content = past most (past_by m (start_by ask)) content
+
+-- its tables came twice alike, by reads of no more than so many bytes; a chip of a size may have none
+pub data GivesTables (most : ℕ) (before after : Wire) (by : Known) : List ℕ → Type 0 where
+  Come : (tables : List ℕ) → HasReadTables most before.held after.held before.ahead after.ahead tables
+      → GivesTables most before after by tables
+  Unsigned : is_uniform by ≡ true → StopsTables most before.held after.held before.ahead after.ahead NoSignature
+      → GivesTables most before after by []
+
+-- its content came twice alike, in this way, where it was wanted
+abbrev pub GivesContent : Way → Wire → Wire → Bool → List ℕ → Type 0
+GivesContent w before after true content = HoldsWhole w before after content
+GivesContent w before after false content = (content ≡ []) × (after ≡ before)
 
 -- as far as the tables of a chip and of a file go, the file's as far as its headers reach
 abbrev pub both_go : List ℕ → List ℕ → ℕ
@@ -95,42 +107,32 @@ AreAlike other tables = ⊤
 -- the same, that of a chip, and the one that is expected; each read of tables and content was of no more than so many bytes; its meaning is
 -- that of the tables that came, or of its size; the content doesn't repeat itself; where the content was wanted, and the terminal isn't said
 -- to hand on each byte as it comes, what came shows that it changed nothing of tables and content
-pub record HasReadChip (most : ℕ) (h0 h6 : Option (List ℕ)) (a0 a6 : Ahead) (ask : Ask) (r : Reading) : Type 0 where
+pub record HasReadChip (most : ℕ) (before after : Wire) (ask : Ask) (r : Reading) : Type 0 where
   pub part : r.part ≡ ask.part
   pub wanted : r.whole ≡ ask.content
-  pub h1 : Option (List ℕ)
-  pub h2 : Option (List ℕ)
-  pub h3 : Option (List ℕ)
-  pub h4 : Option (List ℕ)
-  pub h5 : Option (List ℕ)
-  pub hr : Option (List ℕ)
-  pub he : Option (List ℕ)
-  pub a1 : Ahead
-  pub a2 : Ahead
-  pub a3 : Ahead
-  pub a4 : Ahead
-  pub a5 : Ahead
-  pub ar : Ahead
-  pub ae : Ahead
+  -- the wire after each but the last of these
+  pub asked : Wire
+  pub identified : Wire
+  pub known : Wire
+  pub made : Wire
+  pub ready : Wire
+  pub held : Wire
+  pub ended : Wire
   pub first : ℕ
-  pub idle : ReadsStatus ask.part h0 h1 a0 a1 (Ok first) ask.turns
-  pub id : Identifies h1 h2 a1 a2 (Ok r.id)
+  pub idle : AsksStatus before asked ask (Ok first)
+  pub id : AsksId asked identified (Ok r.id)
   pub note : r.note ≡ noted_size ask.known r.id
   pub driven : IsDriven r.id
   pub expected : IsExpected ask.expect_id r.id
-  pub tables : GivesTables most h2 h3 a2 a3 ask.known r.tables.items
+  pub tables : GivesTables most identified known ask.known r.tables.items
   pub file : HasMeaning ask ask.known
   pub alike : AreAlike ask.known r.tables.items
   pub means : HasChip (chip_task ask r.tables.items) r.meaning
   pub sized : other_size ask r.tables.items ≡ None
-  pub made : MakesMode h3 hr a3 ar ask
-      (mode_ops ask.content (begins4 r.meaning (start_of (chip_task ask r.tables.items))) (modes_of ask.known r.tables.items r.meaning)) first
-      r.status
-  pub unmoved : IsUnmoved hr h4 ar a4 (asked_register ask.content r.tables.items)
-  pub content : GivesContent most h4 h5 a4 a5 r.meaning (start_of (chip_task ask r.tables.items))
-      (is_sure ask (begins4 r.meaning (start_of (chip_task ask r.tables.items))) (modes_of ask.known r.tables.items r.meaning)) ask.content
-      r.content.items
+  pub mode : MakesMode known made ask (ops_by ask r.tables.items r.meaning) first r.status
+  pub unmoved : IsUnmoved made ready (asked_register ask.content r.tables.items)
+  pub content : GivesContent (way_by most ask r.tables.items r.meaning) ready held ask.content r.content.items
   pub once : IsOnce ask r.content.items
-  pub past : GivesPast most h5 he a5 ae ask.any_size (past_by r.meaning (start_of (chip_task ask r.tables.items))) r.content.items
-  pub again : Identifies he h6 ae a6 (Ok r.id)
+  pub past : GivesPast held ended (past_end most ask r.meaning r.content.items) ask.any_size
+  pub again : AsksId ended after (Ok r.id)
   pub shown : ShowsLine ask r.id (r.tables.items ++ r.content.items)

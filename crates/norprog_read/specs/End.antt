@@ -1,12 +1,13 @@
 -- Whether a chip ends where its content does (this project's).
-use Rattle.std.specs.Prelude.{◌≡◌, ◌==◌, not, ℕ, Bool, true, false, List, ◌++◌, Option, Ok, Err}
+use Rattle.std.specs.Prelude.{◌≡◌, ◌==◌, not, ℕ, Bool, true, false, List, ◌++◌, Result, Ok, Err}
 use Rattle.std.specs.List.{list_any}
-use Rattle.nor_base.specs.Device.{Ahead}
 use Rattle.nor_probe.specs.declared.difference.Difference.{Difference}
+use Rattle.nor_probe.specs.declared.difference.Mismatch.{Mismatch}
 use Rattle.nor_probe.specs.declared.difference.Mismatch.TheVariants.{Exchange, Differs}
 use Rattle.nor_reader.specs.declared.by.ReadBy.{ReadBy}
 use Rattle.nor_reader.specs.Past.{ReadsPast}
 use Rattle.nor_serprog.specs.declared.fault.Fault.{Fault}
+use Rattle.norprog_device.specs.Wire.{Wire}
 use Rattle.norprog_read.specs.declared.asked.Ask.{Ask}
 use Rattle.norprog_read.specs.declared.fault.Unlike.TheVariants as unlike
 use Rattle.norprog_read.specs.declared.fault.Unread.{Unread}
@@ -29,22 +30,28 @@ pub record Repeats (content : List ℕ) : Type 0 where
 abbrev pub IsOnce : Ask → List ℕ → Type 0
 IsOnce ask content = ask.repeats ≡ false → Repeats content → ⊥
 
--- past its end the chip gave what one of just this content gives there, by reads of no more than so many bytes; where it may be larger
--- nothing was asked
-abbrev pub GivesPast : ℕ → Option (List ℕ) → Option (List ℕ) → Ahead → Ahead → Bool → ReadBy → List ℕ → Type 0
-GivesPast most held_before held_after ahead_before ahead_after false by content =
-    ReadsPast most held_before held_after ahead_before ahead_after (Ok tt) by content
-GivesPast most held_before held_after ahead_before ahead_after true by content =
-    (held_after ≡ held_before) × (ahead_after ≡ ahead_before)
+-- how a chip of just this content is read past its end, by reads of no more than so many bytes
+pub record Past : Type 0 where
+  pub most : ℕ
+  pub by : ReadBy
+  pub content : List ℕ
+
+abbrev pub past : ℕ → ReadBy → List ℕ → Past
+past most by content = record { most = most; by = by; content = content }
+
+-- and this came of it
+abbrev pub EndsPast : Wire → Wire → Past → Result (Unit {0}) Mismatch → Type 0
+EndsPast before after p result = ReadsPast p.most before.held after.held before.ahead after.ahead result p.by p.content
+
+-- past its end the chip gave what one of just this content gives there; where it may be larger nothing was asked
+abbrev pub GivesPast : Wire → Wire → Past → Bool → Type 0
+GivesPast before after p false = EndsPast before after p (Ok tt)
+GivesPast before after p true = after ≡ before
 
 -- its halves are alike; or past its end an exchange ended early, or the byte at an address is another
-pub data StopsEnd (most : ℕ) (held_before held_after : Option (List ℕ)) (ahead_before ahead_after : Ahead) (ask : Ask) (by : ReadBy)
-    (content : List ℕ) : Unread → Type 0 where
-  Alike : held_after ≡ held_before → ahead_after ≡ ahead_before → ask.repeats ≡ false → Repeats content
-      → StopsEnd most held_before held_after ahead_before ahead_after ask by content (Unlike unlike.Repeats)
-  Lost : (why : Fault) → ask.any_size ≡ false
-      → ReadsPast most held_before held_after ahead_before ahead_after (Err (Exchange why)) by content
-      → StopsEnd most held_before held_after ahead_before ahead_after ask by content (Unlike (unlike.Asking why))
-  Other : (d : Difference) → ask.any_size ≡ false
-      → ReadsPast most held_before held_after ahead_before ahead_after (Err (Differs d)) by content
-      → StopsEnd most held_before held_after ahead_before ahead_after ask by content (Unlike (unlike.At d.address))
+pub data StopsEnd (before after : Wire) (p : Past) (ask : Ask) : Unread → Type 0 where
+  Alike : after ≡ before → ask.repeats ≡ false → Repeats p.content → StopsEnd before after p ask (Unlike unlike.Repeats)
+  Lost : (why : Fault) → ask.any_size ≡ false → EndsPast before after p (Err (Exchange why))
+      → StopsEnd before after p ask (Unlike (unlike.Asking why))
+  Other : (d : Difference) → ask.any_size ≡ false → EndsPast before after p (Err (Differs d))
+      → StopsEnd before after p ask (Unlike (unlike.At d.address))

@@ -1,6 +1,6 @@
 -- What is known of a chip's address modes, and how the one that was said is made (JESD216B, basic table: DWORD 1, bits 18:17, and DWORD 16;
 -- W25Q256JV datasheet: Enter 4-Byte Address Mode B7h, Exit E9h, ADS).
-use Rattle.std.specs.Prelude.{◌≡◌, ℕ, ◌/◌, ◌%◌, ◌==◌, not, ◌||◌, Bool, true, false, if◌then◌else◌, List, [], Option, Result, Ok, Err}
+use Rattle.std.specs.Prelude.{◌≡◌, ℕ, ◌/◌, ◌%◌, ◌==◌, not, ◌||◌, Bool, true, false, if◌then◌else◌, List, [], Result, Ok, Err}
 use Rattle.std.proofs.Math.Bool.{beq}
 use Rattle.nor_base.specs.declared.meaning.Part.{Part}
 use Rattle.nor_base.specs.declared.meaning.Part.TheVariants.{Generic, W25q256jv}
@@ -8,17 +8,16 @@ use Rattle.nor_base.specs.declared.meaning.Switch.{Switch}
 use Rattle.nor_base.specs.declared.meaning.Switch.TheVariants.{Absent}
 use Rattle.nor_base.specs.declared.meaning.Width.{Width}
 use Rattle.nor_base.specs.declared.meaning.Width.TheVariants.{Three}
-use Rattle.nor_base.specs.Device.{Ahead}
 use Rattle.nor_base.specs.Instructions.{is_there}
 use Rattle.nor_base.specs.Parameters.{Parameters}
 use Rattle.nor_loop.specs.Log.{Operation, HasLogged}
 use Rattle.nor_loop.specs.Reads.{switch_ops}
-use Rattle.nor_probe.specs.Status.{ReadsStatus}
 use Rattle.nor_reader.specs.Switched.{StopsAmong}
 use Rattle.nor_reader.specs.Telling.{opcode_to}
 use Rattle.nor_serprog.specs.declared.fault.Fault.{Fault}
 use Rattle.nor_sfdp.specs.declared.fault.SfdpFault.{SfdpFault}
 use Rattle.nor_sfdp.specs.Reading.{meaning_of}
+use Rattle.norprog_device.specs.Wire.{Wire}
 use Rattle.norprog_read.specs.declared.asked.Ask.{Ask}
 use Rattle.norprog_read.specs.declared.asked.Known.{Known}
 use Rattle.norprog_read.specs.declared.asked.Known.TheVariants.{Uniform}
@@ -26,7 +25,7 @@ use Rattle.norprog_read.specs.declared.mode.Modes.{Modes}
 use Rattle.norprog_read.specs.declared.fault.Unlike.TheVariants as unlike
 use Rattle.norprog_read.specs.declared.fault.Unread.{Unread}
 use Rattle.norprog_read.specs.declared.fault.Unread.TheVariants.{Unlike}
-use Rattle.norprog_read.specs.Asked.{StopsStatus}
+use Rattle.norprog_read.specs.Asked.{AsksStatus, StopsStatus}
 use Rattle.norprog_read.specs.Way.{has_both}
 
 -- a chip of this width takes three address bytes in any case
@@ -67,25 +66,23 @@ is_otherwise W25q256jv mode4 status = not (beq (status / 65536 % 2 == 1) mode4)
 abbrev pub is_sure : Ask → Bool → Modes → Bool
 is_sure ask said modes = ask.fresh || (modes.one || (shows_mode ask.part || is_there (switch_to ask.content said modes)))
 
+-- these operations were done
+abbrev pub HasDone : Wire → Wire → List Operation → Type 0
+HasDone before after ops = HasLogged before.held after.held before.ahead after.ahead ops
+
 -- the mode that was said is made by these operations, from one status to the next: they were sent to a part of which nothing is known; a
 -- status that shows the mode shows that one, and nothing was sent; or it showed the other one, they were sent, and the next status shows it
-pub data MakesMode (held_before held_after : Option (List ℕ)) (ahead_before ahead_after : Ahead) (ask : Ask) (ops : List Operation)
-    (before : ℕ) : ℕ → Type 0 where
-  Sent : shows_mode ask.part ≡ false → HasLogged held_before held_after ahead_before ahead_after ops
-      → MakesMode held_before held_after ahead_before ahead_after ask ops before before
-  Shown : shows_mode ask.part ≡ true → is_otherwise ask.part ask.mode4 before ≡ false → held_after ≡ held_before → ahead_after ≡ ahead_before
-      → MakesMode held_before held_after ahead_before ahead_after ask ops before before
-  Made : (held : Option (List ℕ)) (ahead : Ahead) (after : ℕ) → HasLogged held_before held ahead_before ahead ops
-      → ReadsStatus ask.part held held_after ahead ahead_after (Ok after) ask.turns → is_otherwise ask.part ask.mode4 after ≡ false
-      → MakesMode held_before held_after ahead_before ahead_after ask ops before after
+pub data MakesMode (before after : Wire) (ask : Ask) (ops : List Operation) (first : ℕ) : ℕ → Type 0 where
+  Sent : shows_mode ask.part ≡ false → HasDone before after ops → MakesMode before after ask ops first first
+  Shown : shows_mode ask.part ≡ true → is_otherwise ask.part ask.mode4 first ≡ false → after ≡ before → MakesMode before after ask ops first first
+  Made : (between : Wire) (next : ℕ) → HasDone before between ops → AsksStatus between after ask (Ok next)
+      → is_otherwise ask.part ask.mode4 next ≡ false → MakesMode before after ask ops first next
 
 -- it isn't: the exchange of one of them ended early, or then the status didn't come, or it shows the other mode
-pub data StopsMode (held_before held_after : Option (List ℕ)) (ahead_before ahead_after : Ahead) (ask : Ask) (ops : List Operation)
-    : Unread → Type 0 where
-  Unsent : (why : Fault) → StopsAmong held_before held_after ahead_before ahead_after ops why
-      → StopsMode held_before held_after ahead_before ahead_after ask ops (Unlike (unlike.Asking why))
-  Unasked : (held : Option (List ℕ)) (ahead : Ahead) (why : Unread) → HasLogged held_before held ahead_before ahead ops
-      → StopsStatus held held_after ahead ahead_after ask why → StopsMode held_before held_after ahead_before ahead_after ask ops why
-  Otherwise : (held : Option (List ℕ)) (ahead : Ahead) (after : ℕ) → HasLogged held_before held ahead_before ahead ops
-      → ReadsStatus ask.part held held_after ahead ahead_after (Ok after) ask.turns → is_otherwise ask.part ask.mode4 after ≡ true
-      → StopsMode held_before held_after ahead_before ahead_after ask ops (Unlike (unlike.Mode after))
+pub data StopsMode (before after : Wire) (ask : Ask) (ops : List Operation) : Unread → Type 0 where
+  Unsent : (why : Fault) → StopsAmong before.held after.held before.ahead after.ahead ops why
+      → StopsMode before after ask ops (Unlike (unlike.Asking why))
+  Unasked : (between : Wire) (why : Unread) → HasDone before between ops → StopsStatus between after ask why
+      → StopsMode before after ask ops why
+  Otherwise : (between : Wire) (next : ℕ) → HasDone before between ops → AsksStatus between after ask (Ok next)
+      → is_otherwise ask.part ask.mode4 next ≡ true → StopsMode before after ask ops (Unlike (unlike.Mode next))

@@ -1,12 +1,12 @@
 -- A chip that was read, or wasn't, from the handshake on (this project's).
-use Rattle.std.specs.Prelude.{ℕ, not, ◌&&◌, List, Option, Ok, Err}
-use Rattle.nor_base.specs.Device.{Ahead}
+use Rattle.std.specs.Prelude.{not, ◌&&◌, Ok, Err}
 use Rattle.nor_serprog.specs.declared.limits.Limits.{Limits}
 use Rattle.nor_serprog.specs.Greeting.{Greeted}
 use Rattle.nor_serprog.specs.Line.{TestsLine}
 use Rattle.norprog_device.specs.declared.fault.DeviceFault.TheVariants.{Greet, Line}
 use Rattle.norprog_device.specs.Blame.{is_cut}
 use Rattle.norprog_device.specs.Opened.{LetsGo}
+use Rattle.norprog_device.specs.Wire.{Wire}
 use Rattle.norprog_read.specs.declared.asked.Ask.{Ask}
 use Rattle.norprog_read.specs.declared.asked.Reading.{Reading}
 use Rattle.norprog_read.specs.declared.fault.Unread.{Unread}
@@ -15,57 +15,51 @@ use Rattle.norprog_read.specs.Chip.{HasReadChip}
 use Rattle.norprog_read.specs.Blame.{fault_of_stop}
 use Rattle.norprog_read.specs.Stops.{StopsChip}
 
--- the line was tested, and the chip read, by reads of no more bytes than the device gives at once
-pub record HasReadTested (held_before held_after : Option (List ℕ)) (ahead_before ahead_after : Ahead) (limits : Limits) (ask : Ask)
-    (r : Reading) : Type 0 where
-  pub held : Option (List ℕ)
-  pub ahead : Ahead
-  pub tested : TestsLine held_before held ahead_before ahead (Ok tt) limits
-  pub read : HasReadChip limits.asked held held_after ahead ahead_after ask r
+-- the device reported these limits
+abbrev pub HasGreeted : Wire → Wire → Limits → Type 0
+HasGreeted before after limits = Greeted before.held after.held before.ahead after.ahead (Ok limits)
+
+-- the line was tested, and changes nothing of what goes out
+abbrev pub HasTested : Wire → Wire → Limits → Type 0
+HasTested before after limits = TestsLine before.held after.held before.ahead after.ahead (Ok tt) limits
+
+-- then the chip was read, by reads of no more bytes than the device gives at once
+pub record HasReadTested (before after : Wire) (limits : Limits) (ask : Ask) (r : Reading) : Type 0 where
+  pub between : Wire
+  pub tested : HasTested before between limits
+  pub read : HasReadChip limits.asked between after ask r
 
 -- it was tested, and the reading of the chip stopped so
-pub record StopsReading (held_before held_after : Option (List ℕ)) (ahead_before ahead_after : Ahead) (limits : Limits) (ask : Ask)
-    (why : Unread) : Type 0 where
-  pub held : Option (List ℕ)
-  pub ahead : Ahead
-  pub tested : TestsLine held_before held ahead_before ahead (Ok tt) limits
-  pub stops : StopsChip limits.asked held held_after ahead ahead_after ask why
+pub record StopsReading (before after : Wire) (limits : Limits) (ask : Ask) (why : Unread) : Type 0 where
+  pub between : Wire
+  pub tested : HasTested before between limits
+  pub stops : StopsChip limits.asked between after ask why
 
 -- the test of the line stopped so, or what came after it
-abbrev pub StopsTested : Option (List ℕ) → Option (List ℕ) → Ahead → Ahead → Limits → Ask → Unread → Type 0
-StopsTested held_before held_after ahead_before ahead_after limits ask (Device (Greet why)) = ⊥
-StopsTested held_before held_after ahead_before ahead_after limits ask (Device (Line why)) =
-    TestsLine held_before held_after ahead_before ahead_after (Err why) limits
-StopsTested held_before held_after ahead_before ahead_after limits ask why =
-    StopsReading held_before held_after ahead_before ahead_after limits ask why
+abbrev pub StopsTested : Wire → Wire → Limits → Ask → Unread → Type 0
+StopsTested before after limits ask (Device (Greet why)) = ⊥
+StopsTested before after limits ask (Device (Line why)) = TestsLine before.held after.held before.ahead after.ahead (Err why) limits
+StopsTested before after limits ask why = StopsReading before after limits ask why
 
 -- the handshake, the test of the line, the chip, the pins: nothing else was sent
-pub record HasReadOpened (held_before held_after : Option (List ℕ)) (ahead_before ahead_after : Ahead) (ask : Ask)
-    (r : Reading) : Type 0 where
-  pub held : Option (List ℕ)
-  pub ahead : Ahead
+pub record HasReadOpened (before after : Wire) (ask : Ask) (r : Reading) : Type 0 where
+  pub begun : Wire
   pub limits : Limits
-  pub greeted : Greeted held_before held ahead_before ahead (Ok limits)
-  pub held_late : Option (List ℕ)
-  pub ahead_late : Ahead
-  pub read : HasReadTested held held_late ahead ahead_late limits ask r
-  pub released : LetsGo held_late held_after ahead_late ahead_after limits.pins
+  pub greeted : HasGreeted before begun limits
+  pub ended : Wire
+  pub read : HasReadTested begun ended limits ask r
+  pub released : LetsGo ended.held after.held ended.ahead after.ahead limits.pins
 
 -- the handshake was done, what came after it stopped so, and the pins were let go, unless a request was cut: then nothing followed it
-pub record StopsGreeted (held_before held_after : Option (List ℕ)) (ahead_before ahead_after : Ahead) (ask : Ask)
-    (why : Unread) : Type 0 where
-  pub held : Option (List ℕ)
-  pub ahead : Ahead
+pub record StopsGreeted (before after : Wire) (ask : Ask) (why : Unread) : Type 0 where
+  pub begun : Wire
   pub limits : Limits
-  pub greeted : Greeted held_before held ahead_before ahead (Ok limits)
-  pub held_late : Option (List ℕ)
-  pub ahead_late : Ahead
-  pub stops : StopsTested held held_late ahead ahead_late limits ask why
-  pub released : LetsGo held_late held_after ahead_late ahead_after (limits.pins && not (is_cut (fault_of_stop why)))
+  pub greeted : HasGreeted before begun limits
+  pub ended : Wire
+  pub stops : StopsTested begun ended limits ask why
+  pub released : LetsGo ended.held after.held ended.ahead after.ahead (limits.pins && not (is_cut (fault_of_stop why)))
 
 -- the handshake stopped so, or what came after it
-abbrev pub StopsOpened : Option (List ℕ) → Option (List ℕ) → Ahead → Ahead → Ask → Unread → Type 0
-StopsOpened held_before held_after ahead_before ahead_after ask (Device (Greet why)) =
-    Greeted held_before held_after ahead_before ahead_after (Err why)
-StopsOpened held_before held_after ahead_before ahead_after ask why =
-    StopsGreeted held_before held_after ahead_before ahead_after ask why
+abbrev pub StopsOpened : Wire → Wire → Ask → Unread → Type 0
+StopsOpened before after ask (Device (Greet why)) = Greeted before.held after.held before.ahead after.ahead (Err why)
+StopsOpened before after ask why = StopsGreeted before after ask why

@@ -1,13 +1,13 @@
 -- What a chip says of its size, and whether a register of it moves all addresses (JESD216B, basic table: DWORD 2, and DWORD 16, bits 26 and
 -- 27; JEDEC: Read Identification 9Fh, whose third byte is usually the power of two that the size is).
 use Rattle.std.specs.Prelude.{◌≡◌, ℕ, ◌==◌, ◌^◌, nat_le, ◌&&◌, Bool, true, false, if◌then◌else◌, List, [], ◌∷◌, Option, Some, None, Result, Ok, Err}
-use Rattle.nor_base.specs.Device.{Ahead}
 use Rattle.nor_probe.specs.declared.own.AddressRegister.{AddressRegister}
 use Rattle.nor_probe.specs.Own.{is_moved, opcode_of, register_of}
 use Rattle.nor_probe.specs.Status.{ReadsRegister}
 use Rattle.nor_serprog.specs.declared.fault.Fault.{Fault}
 use Rattle.nor_sfdp.specs.declared.fault.SfdpFault.{SfdpFault}
 use Rattle.nor_sfdp.specs.Reading.{density_of}
+use Rattle.norprog_device.specs.Wire.{Wire}
 use Rattle.norprog_read.specs.declared.asked.Ask.{Ask}
 use Rattle.norprog_read.specs.declared.asked.Known.{Known}
 use Rattle.norprog_read.specs.declared.asked.Known.TheVariants.{Uniform}
@@ -53,19 +53,19 @@ noted_size known id = None
 abbrev pub asked_register : Bool → List ℕ → Option AddressRegister
 asked_register wanted tables = if wanted then register_of tables else None
 
+-- it was read
+abbrev pub AsksRegister : Wire → Wire → AddressRegister → Result ℕ Fault → Type 0
+AsksRegister before after register result = ReadsRegister before.held after.held before.ahead after.ahead result (opcode_of register)
+
 -- no register was asked for; or it was read, and moves none
-pub data IsUnmoved (held_before held_after : Option (List ℕ)) (ahead_before ahead_after : Ahead) : Option AddressRegister → Type 0 where
-  Unasked : held_after ≡ held_before → ahead_after ≡ ahead_before → IsUnmoved held_before held_after ahead_before ahead_after None
-  Unmoved : (register : AddressRegister) (value : ℕ)
-      → ReadsRegister held_before held_after ahead_before ahead_after (Ok value) (opcode_of register) → is_moved register value ≡ false
-      → IsUnmoved held_before held_after ahead_before ahead_after (Some register)
+pub data IsUnmoved (before after : Wire) : Option AddressRegister → Type 0 where
+  Unasked : after ≡ before → IsUnmoved before after None
+  Unmoved : (register : AddressRegister) (value : ℕ) → AsksRegister before after register (Ok value) → is_moved register value ≡ false
+      → IsUnmoved before after (Some register)
 
 -- its exchange ended early, or it moves some
-pub data StopsMoved (held_before held_after : Option (List ℕ)) (ahead_before ahead_after : Ahead) (asked : Option AddressRegister)
-    : Unread → Type 0 where
-  Lost : (register : AddressRegister) (why : Fault) → asked ≡ Some register
-      → ReadsRegister held_before held_after ahead_before ahead_after (Err why) (opcode_of register)
-      → StopsMoved held_before held_after ahead_before ahead_after asked (Unlike (unlike.Asking why))
-  Moved : (register : AddressRegister) (value : ℕ) → asked ≡ Some register
-      → ReadsRegister held_before held_after ahead_before ahead_after (Ok value) (opcode_of register) → is_moved register value ≡ true
-      → StopsMoved held_before held_after ahead_before ahead_after asked (Unlike (unlike.Moved value))
+pub data StopsMoved (before after : Wire) (asked : Option AddressRegister) : Unread → Type 0 where
+  Lost : (register : AddressRegister) (why : Fault) → asked ≡ Some register → AsksRegister before after register (Err why)
+      → StopsMoved before after asked (Unlike (unlike.Asking why))
+  Moved : (register : AddressRegister) (value : ℕ) → asked ≡ Some register → AsksRegister before after register (Ok value)
+      → is_moved register value ≡ true → StopsMoved before after asked (Unlike (unlike.Moved value))

@@ -10,6 +10,16 @@ use Rattle.nor_reader.specs.declared.by.ReadBy.{ReadBy}
 use Rattle.nor_reader.specs.declared.by.ReadBy.TheVariants.{Content, FourBytes, Entered}
 use Rattle.nor_reader.specs.Telling.{ShowsMode}
 
+-- how a content is read: by reads of no more than so many bytes, of a chip of this meaning that begins so, in a mode that is sure or isn't
+pub record Way : Type 0 where
+  pub most : ℕ
+  pub m : Parameters
+  pub start : Start
+  pub sure : Bool
+
+abbrev pub way : ℕ → Parameters → Start → Bool → Way
+way most m start sure = record { most = most; m = m; start = start; sure = sure }
+
 -- a chip of this width has both address modes
 abbrev pub has_both : Width → Bool
 has_both Both = true
@@ -43,6 +53,13 @@ second_by m start sure =
     if not sure || (is_small m && not (has_both m.width)) then first_by m start
     else if m.read4 then FourBytes
     else if may_enter m start then Entered m.enter m.leave else first_by m start
+
+-- the two readings of a way
+abbrev pub first_of : Way → ReadBy
+first_of w = first_by w.m w.start
+
+abbrev pub second_of : Way → ReadBy
+second_of w = second_by w.m w.start w.sure
 
 -- past its end by 13h where it has that, else as the first time
 abbrev pub past_by : Parameters → Start → ReadBy

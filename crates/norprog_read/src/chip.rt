@@ -5,24 +5,23 @@ ghost use Rattle.std.specs.Prelude.{length, take, IfOk, IfErr, MatchResult, List
 ghost use Rattle.nor_base.specs.Device.{HaveRoom};
 ghost use Rattle.nor_job.specs.Chip.{HasChip};
 ghost use Rattle.nor_job.specs.Status.{start_of};
-ghost use Rattle.nor_probe.specs.Status.{ReadsStatus};
 ghost use Rattle.nor_reader.specs.Harmless.{HasSentHarmless, SendsHarmless};
-ghost use Rattle.nor_reader.specs.Id.{Identifies};
-ghost use Rattle.nor_reader.specs.Tables.{HasReadTables};
-ghost use Rattle.norprog_device.specs.Blame.{Blames};
+ghost use Rattle.norprog_device.specs.Blame.{Blames, CountsBoth};
+ghost use Rattle.norprog_device.specs.Wire.{wire};
 ghost use Rattle.norprog_common.specs.Setup.{RefusesChipOf};
 ghost use Rattle.norprog_common.specs.declared.faults.Refusal.{Refusal};
-ghost use Rattle.norprog_read.specs.Asked.{IsDriven, IsExpected, IsUndriven, StopsId};
-ghost use Rattle.norprog_read.specs.Asked.{StopsStatus};
+ghost use Rattle.norprog_read.specs.Asked.{AsksId, AsksStatus, IsDriven, IsExpected};
+ghost use Rattle.norprog_read.specs.Asked.{IsUndriven, StopsId, StopsStatus};
 ghost use Rattle.norprog_read.specs.declared.fault.Unlike.TheVariants as unlike;
 ghost use Rattle.norprog_read.specs.declared.fault.Unread.TheVariants as unread;
-ghost use Rattle.norprog_read.specs.Blame.{fault_in, CountsBoth};
+ghost use Rattle.norprog_read.specs.Blame.{fault_in};
 ghost use Rattle.norprog_read.specs.Came.{HidesLine, ShowsLine};
 ghost use Rattle.norprog_read.specs.Chip.{both_go, chip_task, is_uniform, is_unsigned, AreAlike};
 ghost use Rattle.norprog_read.specs.Chip.{GivesContent, GivesTables, HasMeaning, HasReadChip};
 ghost use Rattle.norprog_read.specs.Chip.{IsFile};
 ghost use Rattle.norprog_read.specs.Stops.{stop_of, told_of, DiffersFrom, RefusesFile};
 ghost use Rattle.norprog_read.specs.Stops.{StopsAsked, StopsChip, StopsContent};
+ghost use Rattle.norprog_read.specs.Way.{way};
 
 use crate::asked::{Ask, Known, Reading};
 use crate::came::shows_line;
@@ -54,13 +53,12 @@ pub fn read_chip<R: ByteIn, W: ByteOut>(
     ask: &Ask<'_>,
 ) -> Result<Reading, Unread>
     requires room { HaveRoom (R.count from.old) (W.count to.old) }
-    ensures read { IfOk result
-        (λ reading. HasReadChip limits.now.asked (W.held to.old) (W.held to.new) (R.ahead from.old)
-        (R.ahead from.new)
-        ask.now reading) }
-    ensures stops { IfErr result
-        (StopsChip limits.now.asked (W.held to.old) (W.held to.new) (R.ahead from.old)
-        (R.ahead from.new) ask.now) }
+    ensures read { IfOk result (λ reading. HasReadChip limits.now.asked
+        (wire (W.held to.old) (R.ahead from.old)) (wire (W.held to.new) (R.ahead from.new)) ask.now
+        reading) }
+    ensures stops { IfErr result (StopsChip limits.now.asked
+        (wire (W.held to.old) (R.ahead from.old)) (wire (W.held to.new) (R.ahead from.new))
+        ask.now) }
     ensures harmless { MatchResult result (λ _. HasSentHarmless (W.held to.old) (W.held to.new))
         (λ _. SendsHarmless (W.held to.old) (W.held to.new)) }
     ensures blamed { Blames (R.count from.old < R.count from.new)
@@ -80,13 +78,12 @@ fn ask_chip<R: ByteIn, W: ByteOut>(
     ask: &Ask<'_>,
 ) -> Result<Reading, Unread>
     requires room { HaveRoom (R.count from.old) (W.count to.old) }
-    ensures read { IfOk result
-        (λ reading. HasReadChip limits.now.asked (W.held to.old) (W.held to.new) (R.ahead from.old)
-        (R.ahead from.new)
-        ask.now reading) }
-    ensures stops { IfErr result
-        (StopsChip limits.now.asked (W.held to.old) (W.held to.new) (R.ahead from.old)
-        (R.ahead from.new) ask.now) }
+    ensures read { IfOk result (λ reading. HasReadChip limits.now.asked
+        (wire (W.held to.old) (R.ahead from.old)) (wire (W.held to.new) (R.ahead from.new)) ask.now
+        reading) }
+    ensures stops { IfErr result (StopsChip limits.now.asked
+        (wire (W.held to.old) (R.ahead from.old)) (wire (W.held to.new) (R.ahead from.new))
+        ask.now) }
     ensures counts { CountsBoth (R.count from.old) (R.count from.new) (W.count to.old)
         (W.count to.new) (fault_in result) }
 {
@@ -171,12 +168,11 @@ fn is_undriven(id: [u8; 3]) -> bool
 /// What the chip says that it is, where it says something.
 fn ask_id<R: ByteIn, W: ByteOut>(from: &mut R, to: &mut W) -> Result<[u8; 3], Unread>
     requires room { HaveRoom (R.count from.old) (W.count to.old) }
-    ensures id { IfOk result
-        (λ id. Identifies (W.held to.old) (W.held to.new) (R.ahead from.old) (R.ahead from.new)
-        (Ok id)) }
+    ensures id { IfOk result (λ id. AsksId (wire (W.held to.old) (R.ahead from.old))
+        (wire (W.held to.new) (R.ahead from.new)) (Ok id)) }
     ensures driven { IfOk result IsDriven }
-    ensures stops { IfErr result
-        (StopsId (W.held to.old) (W.held to.new) (R.ahead from.old) (R.ahead from.new)) }
+    ensures stops { IfErr result (StopsId (wire (W.held to.old) (R.ahead from.old))
+        (wire (W.held to.new) (R.ahead from.new))) }
     ensures counts { CountsBoth (R.count from.old) (R.count from.new) (W.count to.old)
         (W.count to.new) (fault_in result) }
 {
@@ -194,13 +190,10 @@ pub(crate) fn ask_status<R: ByteIn, W: ByteOut>(
     ask: &Ask<'_>,
 ) -> Result<u32, Unread>
     requires room { HaveRoom (R.count from.old) (W.count to.old) }
-    ensures status { IfOk result
-        (λ status. ReadsStatus ask.now.part (W.held to.old) (W.held to.new) (R.ahead from.old)
-        (R.ahead from.new)
-        (Ok status) ask.now.turns) }
-    ensures stops { IfErr result
-        (StopsStatus (W.held to.old) (W.held to.new) (R.ahead from.old) (R.ahead from.new)
-        ask.now) }
+    ensures status { IfOk result (λ status. AsksStatus (wire (W.held to.old) (R.ahead from.old))
+        (wire (W.held to.new) (R.ahead from.new)) ask.now (Ok status)) }
+    ensures stops { IfErr result (StopsStatus (wire (W.held to.old) (R.ahead from.old))
+        (wire (W.held to.new) (R.ahead from.new)) ask.now) }
     ensures counts { CountsBoth (R.count from.old) (R.count from.new) (W.count to.old)
         (W.count to.new) (fault_in result) }
 {
@@ -223,13 +216,13 @@ fn ask_tables<R: ByteIn, W: ByteOut>(
     id: [u8; 3],
 ) -> Result<Vec<u8>, Unread>
     requires room { HaveRoom (R.count from.old) (W.count to.old) }
-    ensures tables { IfOk result
-        (λ tables. GivesTables limits.now.asked (W.held to.old) (W.held to.new) (R.ahead from.old)
-        (R.ahead from.new) ask.now.known tables.items) }
+    ensures tables { IfOk result (λ tables. GivesTables limits.now.asked
+        (wire (W.held to.old) (R.ahead from.old)) (wire (W.held to.new) (R.ahead from.new))
+        ask.now.known tables.items) }
     ensures alike { IfOk result (λ tables. AreAlike ask.now.known tables.items) }
-    ensures stops { IfErr result
-        (StopsAsked limits.now.asked (W.held to.old) (W.held to.new) (R.ahead from.old)
-        (R.ahead from.new) ask.now.known id) }
+    ensures stops { IfErr result (StopsAsked limits.now.asked
+        (wire (W.held to.old) (R.ahead from.old)) (wire (W.held to.new) (R.ahead from.new))
+        ask.now.known id) }
     ensures counts { CountsBoth (R.count from.old) (R.count from.new) (W.count to.old)
         (W.count to.new) (fault_in result) }
 {
@@ -395,12 +388,11 @@ fn ask_content<R: ByteIn, W: ByteOut>(
     wanted: bool,
 ) -> Result<Vec<u8>, Unread>
     requires room { HaveRoom (R.count from.old) (W.count to.old) }
-    ensures content { IfOk result (λ content.
-        GivesContent limits.now.asked (W.held to.old) (W.held to.new) (R.ahead from.old)
-        (R.ahead from.new) meaning.now start sure wanted content.items) }
-    ensures stops { IfErr result
-        (StopsContent limits.now.asked (W.held to.old) (W.held to.new) (R.ahead from.old)
-        (R.ahead from.new) meaning.now start sure) }
+    ensures content { IfOk result (λ content. GivesContent
+        (way limits.now.asked meaning.now start sure) (wire (W.held to.old) (R.ahead from.old))
+        (wire (W.held to.new) (R.ahead from.new)) wanted content.items) }
+    ensures stops { IfErr result (StopsContent (way limits.now.asked meaning.now start sure)
+        (wire (W.held to.old) (R.ahead from.old)) (wire (W.held to.new) (R.ahead from.new))) }
     ensures wanted { IfErr result (λ _. wanted ≡ true) }
     ensures counts { CountsBoth (R.count from.old) (R.count from.new) (W.count to.old)
         (W.count to.new) (fault_in result) }

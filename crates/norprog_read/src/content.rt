@@ -6,11 +6,13 @@ ghost use Rattle.std.specs.Bool.{OnFalse, OnTrue};
 ghost use Rattle.nor_base.specs.Chip.{begins4};
 ghost use Rattle.nor_base.specs.Device.{HaveRoom};
 ghost use Rattle.nor_reader.specs.declared.by.ReadBy.TheVariants.{Entered};
-ghost use Rattle.norprog_read.specs.Blame.{fault_in, CountsBoth};
+ghost use Rattle.norprog_device.specs.Blame.{CountsBoth};
+ghost use Rattle.norprog_device.specs.Wire.{wire};
+ghost use Rattle.norprog_read.specs.Blame.{fault_in};
 ghost use Rattle.norprog_read.specs.Content.{HoldsWhole};
 ghost use Rattle.norprog_read.specs.Stops.{StopsContent};
 ghost use Rattle.norprog_read.specs.Way.{first_by, is_near, is_readable, is_small, may_enter};
-ghost use Rattle.norprog_read.specs.Way.{past_by, second_by, IsShownBy};
+ghost use Rattle.norprog_read.specs.Way.{past_by, second_by, way, IsShownBy};
 
 use crate::fault::{Unlike, Unread};
 use crate::mode::{has_both, is_there};
@@ -39,13 +41,11 @@ pub(crate) fn read_whole<R: ByteIn, W: ByteOut>(
     sure: bool,
 ) -> Result<Vec<u8>, Unread>
     requires room { HaveRoom (R.count from.old) (W.count to.old) }
-    ensures whole { IfOk result
-        (λ content. HoldsWhole limits.now.asked (W.held to.old) (W.held to.new) (R.ahead from.old)
-        (R.ahead from.new)
-        meaning.now start sure content.items) }
-    ensures stops { IfErr result
-        (StopsContent limits.now.asked (W.held to.old) (W.held to.new) (R.ahead from.old)
-        (R.ahead from.new) meaning.now start sure) }
+    ensures whole { IfOk result (λ content. HoldsWhole (way limits.now.asked meaning.now start sure)
+        (wire (W.held to.old) (R.ahead from.old)) (wire (W.held to.new) (R.ahead from.new))
+        content.items) }
+    ensures stops { IfErr result (StopsContent (way limits.now.asked meaning.now start sure)
+        (wire (W.held to.old) (R.ahead from.old)) (wire (W.held to.new) (R.ahead from.new))) }
     ensures counts { CountsBoth (R.count from.old) (R.count from.new) (W.count to.old)
         (W.count to.new) (fault_in result) }
 {

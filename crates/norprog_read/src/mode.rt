@@ -9,7 +9,9 @@ ghost use Rattle.nor_reader.specs.Switched.{Operates};
 ghost use Rattle.nor_reader.specs.Telling.{opcode_to};
 ghost use Rattle.nor_serprog.specs.Exchange.{CountsReads, CountsWrites};
 ghost use Rattle.nor_sfdp.specs.Reading.{meaning_of};
-ghost use Rattle.norprog_read.specs.Blame.{fault_in, CountsBoth};
+ghost use Rattle.norprog_device.specs.Blame.{CountsBoth};
+ghost use Rattle.norprog_device.specs.Wire.{wire};
+ghost use Rattle.norprog_read.specs.Blame.{fault_in};
 ghost use Rattle.norprog_read.specs.Modes.{has_three, is_otherwise, is_sure, mode_ops, modes_of};
 ghost use Rattle.norprog_read.specs.Modes.{own_modes, shows_mode, switch_to, MakesMode, StopsMode};
 ghost use Rattle.norprog_read.specs.Way.{has_both};
@@ -144,10 +146,11 @@ pub(crate) fn make_mode<R: ByteIn, W: ByteOut>(
     status: u32,
 ) -> Result<u32, Unread>
     requires room { HaveRoom (R.count from.old) (W.count to.old) }
-    ensures made { IfOk result (MakesMode (W.held to.old) (W.held to.new) (R.ahead from.old)
-        (R.ahead from.new) ask.now (mode_ops ask.now.content said modes) status) }
-    ensures stops { IfErr result (StopsMode (W.held to.old) (W.held to.new) (R.ahead from.old)
-        (R.ahead from.new) ask.now (mode_ops ask.now.content said modes)) }
+    ensures made { IfOk result (MakesMode (wire (W.held to.old) (R.ahead from.old))
+        (wire (W.held to.new) (R.ahead from.new)) ask.now (mode_ops ask.now.content said modes)
+        status) }
+    ensures stops { IfErr result (StopsMode (wire (W.held to.old) (R.ahead from.old))
+        (wire (W.held to.new) (R.ahead from.new)) ask.now (mode_ops ask.now.content said modes)) }
     ensures counts { CountsBoth (R.count from.old) (R.count from.new) (W.count to.old)
         (W.count to.new) (fault_in result) }
 {

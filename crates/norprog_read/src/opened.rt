@@ -1,8 +1,9 @@
 //! A chip behind a device, from the handshake on.
 
 ghost use Rattle.std.specs.Prelude.{◌≡◌, ◌≤◌, ◌<◌, ◌+◌, ◌-◌, ◌^◌, ◌&&◌, not, Ok, IfOk, IfErr};
-ghost use Rattle.norprog_device.specs.Blame.{is_cut, Blames};
-ghost use Rattle.norprog_read.specs.Blame.{fault_in, CountsBoth};
+ghost use Rattle.norprog_device.specs.Blame.{is_cut, Blames, CountsBoth};
+ghost use Rattle.norprog_device.specs.Wire.{wire};
+ghost use Rattle.norprog_read.specs.Blame.{fault_in};
 ghost use Rattle.norprog_read.specs.Opened.{HasReadOpened, HasReadTested, StopsOpened, StopsTested};
 
 use crate::asked::{Ask, Reading};
@@ -27,12 +28,10 @@ pub fn read_opened<R: ByteIn, W: ByteOut>(
 ) -> Result<Reading, Unread>
     requires reader { R.count from.old < 2 ^ 64 - 2 }
     requires writer { W.count to.old < 2 ^ 64 - 2 }
-    ensures read { IfOk result
-        (λ reading. HasReadOpened (W.held to.old) (W.held to.new) (R.ahead from.old)
-        (R.ahead from.new) ask.now reading) }
-    ensures stops { IfErr result
-        (StopsOpened (W.held to.old) (W.held to.new) (R.ahead from.old) (R.ahead from.new)
-        ask.now) }
+    ensures read { IfOk result (λ reading. HasReadOpened (wire (W.held to.old) (R.ahead from.old))
+        (wire (W.held to.new) (R.ahead from.new)) ask.now reading) }
+    ensures stops { IfErr result (StopsOpened (wire (W.held to.old) (R.ahead from.old))
+        (wire (W.held to.new) (R.ahead from.new)) ask.now) }
     ensures blamed { Blames (R.count from.old < R.count from.new)
         (W.count to.old < W.count to.new) (fault_in result) }
 {
@@ -64,13 +63,10 @@ fn read_tested<R: ByteIn, W: ByteOut>(
 ) -> Result<Reading, Unread>
     requires reader { R.count from.old < 2 ^ 64 - 2 }
     requires writer { W.count to.old < 2 ^ 64 - 2 }
-    ensures read { IfOk result
-        (λ reading. HasReadTested (W.held to.old) (W.held to.new) (R.ahead from.old)
-        (R.ahead from.new)
-        limits.now ask.now reading) }
-    ensures stops { IfErr result
-        (StopsTested (W.held to.old) (W.held to.new) (R.ahead from.old) (R.ahead from.new)
-        limits.now ask.now) }
+    ensures read { IfOk result (λ reading. HasReadTested (wire (W.held to.old) (R.ahead from.old))
+        (wire (W.held to.new) (R.ahead from.new)) limits.now ask.now reading) }
+    ensures stops { IfErr result (StopsTested (wire (W.held to.old) (R.ahead from.old))
+        (wire (W.held to.new) (R.ahead from.new)) limits.now ask.now) }
     ensures counts { CountsBoth (R.count from.old) (R.count from.new) (W.count to.old)
         (W.count to.new) (fault_in result) }
 {

@@ -3,7 +3,9 @@
 
 ghost use Rattle.std.specs.Prelude.{◌≡◌, ◌≤◌, ◌<◌, ◌+◌, ◌-◌, ◌^◌, None, IfOk, IfErr};
 ghost use Rattle.nor_base.specs.Device.{HaveRoom};
-ghost use Rattle.norprog_read.specs.Blame.{fault_in, CountsBoth};
+ghost use Rattle.norprog_device.specs.Blame.{CountsBoth};
+ghost use Rattle.norprog_device.specs.Wire.{wire};
+ghost use Rattle.norprog_read.specs.Blame.{fault_in};
 ghost use Rattle.norprog_read.specs.Size.{asked_register, noted_size, other_size, size_by};
 ghost use Rattle.norprog_read.specs.Size.{IsUnmoved, StopsMoved, TellsSize};
 
@@ -61,10 +63,10 @@ pub(crate) fn see_register<R: ByteIn, W: ByteOut>(
     register: Option<AddressRegister>,
 ) -> Result<(), Unread>
     requires room { HaveRoom (R.count from.old) (W.count to.old) }
-    ensures unmoved { IfOk result (λ _. IsUnmoved (W.held to.old) (W.held to.new)
-        (R.ahead from.old) (R.ahead from.new) register) }
-    ensures stops { IfErr result (StopsMoved (W.held to.old) (W.held to.new) (R.ahead from.old)
-        (R.ahead from.new) register) }
+    ensures unmoved { IfOk result (λ _. IsUnmoved (wire (W.held to.old) (R.ahead from.old))
+        (wire (W.held to.new) (R.ahead from.new)) register) }
+    ensures stops { IfErr result (StopsMoved (wire (W.held to.old) (R.ahead from.old))
+        (wire (W.held to.new) (R.ahead from.new)) register) }
     ensures counts { CountsBoth (R.count from.old) (R.count from.new) (W.count to.old)
         (W.count to.new) (fault_in result) }
 {

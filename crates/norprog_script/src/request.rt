@@ -5,7 +5,7 @@ ghost use Rattle.norprog_common.specs.Setup.{is_setup};
 ghost use Rattle.norprog_script.specs.Request.{is_well_formed, says_chip as said, AsksChip};
 ghost use Rattle.norprog_script.specs.Request.{AsksFor};
 
-use norprog_common::{ScriptArgs, Setup, SetupArgs, setup_of};
+use norprog_common::{OutFile, ScriptArgs, Setup, SetupArgs, setup_of};
 
 /// What `script` is asked for.
 #[derive(Clone, Copy)]
@@ -15,7 +15,7 @@ pub struct ScriptRequest<'a> {
     pub log: &'a str,
     /// Reads of an identification or a register are left out.
     pub without_identity: bool,
-    pub out: &'a str,
+    pub out: OutFile<'a>,
 }
 
 /// The request that the values spell. None where one that has to be there isn't, or isn't of its

@@ -11,7 +11,9 @@ use Rattle.nor_job.specs.Wanted.{wanted}
 use Rattle.nor_laws.specs.Laws.{OneList}
 use Rattle.norprog.specs.Build.{IsBuilt, report_of}
 use Rattle.norprog.specs.declared.report.Report.{Report}
-use Rattle.norprog_work.specs.Work.{BuildsSteps}
+use Rattle.norprog.specs.Plan.{IsPlanOf}
+use Rattle.norprog.specs.PlanWindows.{plan_text}
+use Rattle.norprog_work.specs.Work.{BuildsSteps, HasLines}
 
 -- a reader that has just these bytes ahead, and gives as many, gives these
 pub given_all : (bytes xs : List ℕ) (after : Ahead) → Gives (Finite bytes) xs after → length xs ≡ length bytes → xs ≡ bytes
@@ -51,3 +53,24 @@ builds one t content ahead begun held text rest report steps all none these buil
     (subst (λ (xs : List ℕ). IsBuilt t (length content) (Finite xs) rest (Some []) (Some held) report) all
     (subst (λ (xs : List ℕ). IsBuilt t (length content) (Finite ahead) rest (Some xs) (Some held) report) none built))
     (subst (λ (xs : List ℕ). IsScript xs steps) these script)
+
+-- the lines of a plan that were written into memory
+planned_lines : (t : Task) (content held : List ℕ) (rest : Ahead) (report : Report) → IsPlanOf t (length content) (Finite content) rest (Some []) (Some held) report
+    → HasLines t content held
+planned_lines t content held rest report is =
+    let same : is.content ≡ content = given_all content is.content rest is.given is.whole in
+    record {
+      image = is.image;
+      regions = is.regions;
+      m = is.m;
+      accepted = is.accepted;
+      text = subst (λ (x : List ℕ). held ≡ plan_text is.m (start_of t) x (wanted t is.image is.regions x)) same is.put;
+    }
+
+-- so where the reader had just the content and the writer nothing
+pub lines_of : (t : Task) (content ahead begun held text : List ℕ) (rest : Ahead) (report : Report) → ahead ≡ content → begun ≡ [] → text ≡ held
+    → IsPlanOf t (length content) (Finite ahead) rest (Some begun) (Some held) report → HasLines t content text
+lines_of t content ahead begun held text rest report all none these is =
+    subst (HasLines t content) (sym these) (planned_lines t content held rest report
+    (subst (λ (xs : List ℕ). IsPlanOf t (length content) (Finite xs) rest (Some []) (Some held) report) all
+    (subst (λ (xs : List ℕ). IsPlanOf t (length content) (Finite ahead) rest (Some xs) (Some held) report) none is)))

@@ -1,4 +1,4 @@
--- Why a plan stopped, and which of its lines were written.
+-- Why a plan stopped.
 use Rattle.std.proofs.Common.{◌≡◌, ℕ, zero, suc, ◌+◌, ◌/◌, ◌≤◌, List, [], ◌∷◌, ◌++◌, length, take, drop, map, Option, refl, sym, ap, subst, ◌∙◌, arith, length-append}
 use Rattle.std.specs.Prelude.{flat_map}
 use Rattle.std.specs.Io.KnownBytes.{Appends}
@@ -32,33 +32,7 @@ use Rattle.norprog.specs.Build.{WorkCause}
 use Rattle.norprog.specs.Plan.{StopsPlan}
 use Rattle.norprog.specs.PlanWindows.{TellsWindows}
 use Rattle.norprog.proofs.Content.Targets.{part_front}
-use Rattle.norprog_work.specs.Refused.{late, BeginsLines, IsCause, StopsLines}
-
--- ---- a beginning of the content has a beginning of the lines
-pages_front : (page at k n : ℕ) → k ≤ n → (rest : List ℕ) × (pages page at n ≡ pages page at k ++ rest)
-pages_front page at zero n few = (pages page at n, refl)
-pages_front page at (suc k) zero few = absurd (omega (arith, few))
-pages_front page at (suc k) (suc n) few =
-    let more = pages_front page (at + page) k n (omega (arith, few)) in (more.0, ap (λ xs. at ∷ xs) more.1)
-
-fewer_pages : (page a b : ℕ) → a ≤ b → a / page ≤ b / page
-fewer_pages zero a b few = rw (div-zero a, div-zero b) (omega arith)
-fewer_pages (suc n) a b few =
-    let whole = div-mul-le_self a (suc n) in le-div (a / suc n) b (suc n) (omega arith) (omega (arith, whole, few))
-
-lines_front : (m : Parameters) (by : Strategy) (content goal : List ℕ) (count : ℕ) → count ≤ m.size
-    → (rest : List ℕ) × (flat_map (unit_lines m by content goal) (units m by content goal) ≡ stretch_lines m by 0 count content goal ++ rest)
-unfolding units units_over
-lines_front m by content goal count few =
-    let due = is_due m content goal in
-    let of = λ (start : ℕ). unit_by m (levelled m by due content) goal start (erased_at m by due start) in
-    let more = pages_front m.page 0 (count / m.page) (m.size / m.page) (fewer_pages m.page count m.size few) in
-    let these = pages m.page 0 (count / m.page) in
-    let text = unit_lines m by content goal in (
-      flat_map text (flat_map of more.0),
-      ap (λ (xs : List ℕ). flat_map text (flat_map of xs)) more.1
-          ∙ (ap (flat_map text) (flat_map-append of these more.0) ∙ flat_map-append text (flat_map of these) (flat_map of more.0)),
-    )
+use Rattle.norprog_work.specs.Refused.{late, IsCause, StopsPlanning}
 
 -- ---- the target of a beginning of the content
 enumerate_more : (n : ℕ) (xs ys : List ℕ) → (rest : List (ℕ × ℕ)) × (enumerate_from n (xs ++ ys) ≡ enumerate_from n xs ++ rest)
@@ -75,25 +49,6 @@ wanted_front t image regions xs ys =
     (sym (ap (map byte) more.1 ∙ map-append byte (enumerate_from 0 xs) more.0)) (part_front (map byte (enumerate_from 0 xs)) (map byte more.0))
 
 -- ---- why a plan stopped
-begun_of : (m : Parameters) (by : Strategy) (have want bytes : List ℕ) → AreLines m by 0 have want bytes → AreBegun m by 0 have want bytes
-begun_of m by have want bytes are = λ content goal has has'.
-    let of = are content goal has has' in record { rest = []; whole = of.are ∙ sym (append-nil bytes); sound = of.sound }
-
-tells_begun : (m : Parameters) (by : Strategy) (have want bytes : List ℕ) (why : BuildFault) → TellsWindows m by have want bytes why
-    → AreBegun m by 0 have want bytes
-tells_begun m by have want bytes fault.Write tells = tells
-tells_begun m by have want bytes fault.Memory tells = tells
-tells_begun m by have want bytes (fault.Contradiction number) tells = begun_of m by have want bytes tells
-tells_begun m by have want bytes (fault.Hex why) tells = begun_of m by have want bytes tells
-tells_begun m by have want bytes (fault.Layout why) tells = begun_of m by have want bytes tells
-tells_begun m by have want bytes (fault.Sfdp why) tells = begun_of m by have want bytes tells
-tells_begun m by have want bytes (fault.Status number) tells = begun_of m by have want bytes tells
-tells_begun m by have want bytes fault.ModeImpossible tells = begun_of m by have want bytes tells
-tells_begun m by have want bytes fault.ContentSize tells = begun_of m by have want bytes tells
-tells_begun m by have want bytes (fault.Plan why) tells = begun_of m by have want bytes tells
-tells_begun m by have want bytes fault.ContentShort tells = begun_of m by have want bytes tells
-tells_begun m by have want bytes fault.Read tells = begun_of m by have want bytes tells
-
 lower : (m : Parameters) (by : Strategy) (content goal : List ℕ) (few many a : ℕ) → few ≤ many → IsLowestAt m by 0 content goal few a
     → IsLowestAt m by 0 content goal many a
 lower m by content goal few many a le is = let upto = is.upto in record { from = is.from; upto = omega (arith, upto, le); none_below = is.none_below }
@@ -129,42 +84,18 @@ module _ (t : Task) (image : Pairs) (regions : List Region) (m : Parameters) (xs
   cause_of len after fault.ModeImpossible is = tt
   cause_of len after fault.ContentSize is = tt
 
-  begins : (bytes : List ℕ) (before after : Option (List ℕ)) (why : BuildFault) → length xs ≤ m.size
-      → TellsWindows m (strategy m (start_of t)) xs (wanted t image regions xs) bytes why → Appends before after bytes
-      → BeginsLines m (start_of t) (xs ++ ys) goal before after
-  unfolding units
-  begins bytes before after why few tells put =
-      let by = strategy m (start_of t) in
-      let of = tells_begun m by xs (wanted t image regions xs) bytes why tells (xs ++ ys) goal (part_front xs ys) (wanted_front t image regions xs ys) in
-      let more = lines_front m by (xs ++ ys) goal (length xs) few in
-      record {
-        bytes = bytes;
-        rest = of.rest ++ more.0;
-        whole = more.1 ∙ (ap (λ (zs : List ℕ). zs ++ more.0) of.whole ∙ append_assoc bytes of.rest more.0);
-        put = put;
-      }
-
 -- a plan of a content in memory that stopped
-stops_lines : (t : Task) (content : List ℕ) (after : Ahead) (o p : Option (List ℕ)) (why : BuildFault)
-    → StopsPlan t (length content) (Finite content) after o p why → StopsLines t content content o p (late why)
-stops_lines t content after o p why s =
+stops_planning : (t : Task) (content : List ℕ) (after : Ahead) (o p : Option (List ℕ)) (why : BuildFault)
+    → StopsPlan t (length content) (Finite content) after o p why → StopsPlanning t content content (late why)
+stops_planning t content after o p why s =
     let from = rest_of content s.part after s.given in
-    let read : content ≡ s.part ++ from.0 = from.1 in
-    let known = take s.known s.part in
-    let others = drop s.known s.part ++ from.0 in
-    let planned : content ≡ known ++ others =
-    read ∙ (ap (λ (xs : List ℕ). xs ++ from.0) (sym (take-append-drop s.known s.part)) ∙ append_assoc known (drop s.known s.part) from.0) in
-    let size = s.accepted.size in
-    let short : length known ≤ length content = omega (arith, ap length planned, length-append known others) in
     record {
       image = s.image;
       regions = s.regions;
       m = s.m;
       accepted = s.accepted;
-      cause = subst (λ (xs : List ℕ). IsCause s.m (start_of t) xs (wanted t s.image s.regions xs) (late why)) (sym read)
+      cause = subst (λ (xs : List ℕ). IsCause s.m (start_of t) xs (wanted t s.image s.regions xs) (late why)) (sym from.1)
           (cause_of t s.image s.regions s.m s.part from.0 (length content) after why s.cause);
-      begun = subst (λ (xs : List ℕ). BeginsLines s.m (start_of t) xs (wanted t s.image s.regions xs) o p) (sym planned)
-          (begins t s.image s.regions s.m known others s.bytes o p why (omega (arith, short, size)) s.lines s.put);
     }
 
 -- inputs that are refused have no fault that is reported of a plan
@@ -179,41 +110,12 @@ not_late t len fault.ContentSize is = refl
 not_late t len (fault.Plan why) is = absurd is
 not_late t len fault.ContentShort is = refl
 not_late t len fault.Read is = refl
-not_late t len fault.Write is = absurd is
+not_late t len fault.Write is = refl
 not_late t len fault.Memory is = refl
 
--- and none that the writer counts
-pub not_written : (t : Task) (len : ℕ) (why : BuildFault) → RefusesInputs t len why → of_writer why ≡ 0
-not_written t len fault.Write is = absurd is
-not_written t len (fault.Contradiction number) is = refl
-not_written t len (fault.Hex why) is = refl
-not_written t len (fault.Layout why) is = refl
-not_written t len (fault.Sfdp why) is = refl
-not_written t len (fault.Status number) is = refl
-not_written t len fault.ModeImpossible is = refl
-not_written t len fault.ContentSize is = refl
-not_written t len (fault.Plan why) is = refl
-not_written t len fault.ContentShort is = refl
-not_written t len fault.Read is = refl
-not_written t len fault.Memory is = refl
-
-pub late_counts : (why : BuildFault) → of_writer (late why) ≡ of_writer why
-late_counts fault.Write = refl
-late_counts (fault.Contradiction number) = refl
-late_counts (fault.Hex why) = refl
-late_counts (fault.Layout why) = refl
-late_counts (fault.Sfdp why) = refl
-late_counts (fault.Status number) = refl
-late_counts fault.ModeImpossible = refl
-late_counts fault.ContentSize = refl
-late_counts (fault.Plan why) = refl
-late_counts fault.ContentShort = refl
-late_counts fault.Read = refl
-late_counts fault.Memory = refl
-
 -- so is what is reported of one that stopped
-pub reported_lines : (t : Task) (content ahead : List ℕ) (after : Ahead) (o p : Option (List ℕ)) (why reported : BuildFault) → ahead ≡ content
-    → reported ≡ late why → StopsPlan t (length content) (Finite ahead) after o p why → StopsLines t content content o p reported
-reported_lines t content ahead after o p why reported all is stops =
-    subst (StopsLines t content content o p) (sym is) (stops_lines t content after o p why
+pub reported : (t : Task) (content ahead : List ℕ) (after : Ahead) (o p : Option (List ℕ)) (why told : BuildFault) → ahead ≡ content
+    → told ≡ late why → StopsPlan t (length content) (Finite ahead) after o p why → StopsPlanning t content content told
+reported t content ahead after o p why told all is stops =
+    subst (StopsPlanning t content content) (sym is) (stops_planning t content after o p why
     (subst (λ (xs : List ℕ). StopsPlan t (length content) (Finite xs) after o p why) all stops))

@@ -1,16 +1,12 @@
 -- The work of the narrowed task is the work of the task.
 use Rattle.std.proofs.Common.{◌≡◌, ◌⊎◌, inl, inr, ℕ, ◌<◌, ◌^◌, List, [], ◌++◌, length, Option, Result, Ok, refl, sym, ap, subst, ◌∙◌, arith}
-use Rattle.std.specs.Io.KnownBytes.{Appends}
-use Rattle.std.proofs.lemmas.List.{append-nil}
 use Rattle.nor_base.specs.declared.step.Step.{Step}
 use Rattle.nor_base.specs.Parameters.{Parameters}
 use Rattle.nor_base.specs.Planned.{ArePlanned, IsWorkable, planned_units}
-use Rattle.nor_base.specs.Device.{Cuts}
-use Rattle.nor_base.proofs.DeviceLaws.{Appends-append, Cuts-then}
 use Rattle.nor_hex.specs.Image.{Pairs}
 use Rattle.nor_hex_out.specs.Laws.{WrittenGives}
 use Rattle.nor_job.specs.declared.fault.BuildFault.{BuildFault}
-use Rattle.nor_job.specs.declared.fault.BuildFault.TheVariants.{Memory, Write}
+use Rattle.nor_job.specs.declared.fault.BuildFault.TheVariants.{Memory}
 use Rattle.nor_job.specs.Causes.{AreAccepted, RefusesInputs}
 use Rattle.nor_job.specs.Status.{start_of}
 use Rattle.nor_job.specs.Task.{Task}
@@ -20,12 +16,11 @@ use Rattle.nor_layout.specs.Region.{Region}
 use Rattle.nor_sfdp.specs.declared.fault.SfdpFault.{SfdpFault}
 use Rattle.norprog.specs.Build.{report_of}
 use Rattle.norprog.specs.PlanWindows.{plan_text}
-use Rattle.norprog.specs.Report.{report_text}
 use Rattle.norprog.specs.declared.report.Report.{Report}
 use Rattle.norprog_work.specs.declared.goal.Goal.{Goal}
 use Rattle.norprog_work.specs.Narrowed.{narrowed, SpansDifference}
-use Rattle.norprog_work.specs.Refused.{BeginsLines, IsCause, RefusesWork, StopsLines, StopsReport}
-use Rattle.norprog_work.specs.Work.{BuildsSteps, IsGoal, IsWork, PlansLines}
+use Rattle.norprog_work.specs.Refused.{IsCause, RefusesWork, StopsPlanning}
+use Rattle.norprog_work.specs.Work.{BuildsSteps, HasLines, IsGoal, IsWork}
 use Rattle.norprog_work.proofs.NarrowedLemmas.{target_is_wanted}
 
 meaning_same : (r : Result Parameters SfdpFault) (m n : Parameters) → r ≡ Ok m → r ≡ Ok n → m ≡ n
@@ -50,13 +45,10 @@ module _ (keeps : TargetKeeps) (gives : TargetGives) (written : WrittenGives) (t
   same_target image regions m is =
       target_is_wanted keeps gives written content goal.bytes.items hex spans long few image is.named.imaged.spelled regions
 
-  lines_are : (before after : Option (List ℕ)) → PlansLines (narrowed t hex) content before after
-      → Appends before after (plan_text g.m (start_of t) content goal.bytes.items)
-  lines_are before after lines =
-      subst (λ (m : Parameters). Appends before after (plan_text m (start_of t) content goal.bytes.items))
-      (same_chip lines.image lines.regions lines.m lines.accepted)
-      (subst (λ (want : List ℕ). Appends before after (plan_text lines.m (start_of t) content want))
-      (same_target lines.image lines.regions lines.m lines.accepted) lines.put)
+  lines_are : (lines : List ℕ) → HasLines (narrowed t hex) content lines → lines ≡ plan_text g.m (start_of t) content goal.bytes.items
+  lines_are lines is =
+      subst (λ (m : Parameters). lines ≡ plan_text m (start_of t) content goal.bytes.items) (same_chip is.image is.regions is.m is.accepted)
+      (subst (λ (want : List ℕ). lines ≡ plan_text is.m (start_of t) content want) (same_target is.image is.regions is.m is.accepted) is.text)
 
   here : AreAccepted t (length content) g.image g.regions g.m
   here = subst (λ n. AreAccepted t n g.image g.regions g.m) (sym sizes) g.accepted
@@ -69,40 +61,22 @@ module _ (keeps : TargetKeeps) (gives : TargetGives) (written : WrittenGives) (t
       subst (P g.m) g.bytes
       (subst (λ (n : Parameters). P n goal.bytes.items) (same_chip image regions m is) (subst (P m) (same_target image regions m is) p))
 
-  stops_are : (before after : Option (List ℕ)) (why : BuildFault) → StopsLines (narrowed t hex) content content before after why
-      → StopsLines t content old before after why
-  stops_are before after why s = record {
+  stops_are : (why : BuildFault) → StopsPlanning (narrowed t hex) content content why → StopsPlanning t content old why
+  stops_are why s = record {
     image = g.image;
     regions = g.regions;
     m = g.m;
     accepted = here;
     cause = over (λ (m : Parameters) (w : List ℕ). IsCause m (start_of t) content w why) s.image s.regions s.m s.accepted s.cause;
-    begun = over (λ (m : Parameters) (w : List ℕ). BeginsLines m (start_of t) content w before after) s.image s.regions s.m s.accepted s.begun;
   }
 
-  pub lines_refused : (before after : Option (List ℕ)) (why : BuildFault) (Same : Type 0) → (Same → after ≡ before)
-      → StopsLines (narrowed t hex) content content before after why ⊎ ((why ≡ Memory) × Same) → RefusesWork t content old before after why
-  lines_refused before after why Same quiet (inl stops) = inr (inl (stops_are before after why stops))
-  lines_refused before after why Same quiet (inr memory) =
-      inl (subst (RefusesInputs t (length content)) (sym memory.0) g.accepted.named.imaged.consistent, quiet memory.1)
+  -- memory was refused
+  pub starved : RefusesWork t content old Memory
+  starved = inr (record { image = g.image; regions = g.regions; m = g.m; accepted = here; cause = tt })
 
-  -- all lines were written, and then memory was refused
-  pub all_lines : (before after : Option (List ℕ)) → PlansLines (narrowed t hex) content before after → StopsLines t content old before after Memory
-  all_lines before after lines =
-      let text = plan_text g.m (start_of t) content (wanted t g.image g.regions old) in
-      record {
-        image = g.image;
-        regions = g.regions;
-        m = g.m;
-        accepted = here;
-        cause = tt;
-        begun = record {
-          bytes = text;
-          rest = [];
-          whole = sym (append-nil text);
-          put = subst (λ (w : List ℕ). Appends before after (plan_text g.m (start_of t) content w)) g.bytes (lines_are before after lines);
-        };
-      }
+  pub planning_refused : (why : BuildFault) → StopsPlanning (narrowed t hex) content content why ⊎ (why ≡ Memory) → RefusesWork t content old why
+  planning_refused why (inl stops) = inr (stops_are why stops)
+  planning_refused why (inr memory) = subst (RefusesWork t content old) (sym memory) starved
 
   module _ (report : Report) (steps : List Step) (built : BuildsSteps (narrowed t hex) content report steps) where
     chip : built.m ≡ g.m
@@ -132,10 +106,9 @@ module _ (keeps : TargetKeeps) (gives : TargetGives) (written : WrittenGives) (t
         ∙ (ap (λ (x : Report). record x { ignored = goal.ignored }) these
         ∙ ap (λ (n : ℕ). record (report_of t g.image g.regions g.m (planned_units g.m start content goal.bytes.items) steps) { ignored = n }) g.ignored)
 
-    pub work_is : (before middle after : Option (List ℕ)) (r : Report) → r ≡ record report { ignored = goal.ignored }
-        → PlansLines (narrowed t hex) content before middle → Appends middle after (report_text r)
-        → IsWork t content old goal.bytes.items steps before after
-    work_is before middle after r is lines put = record {
+    pub work_is : (lines : List ℕ) (r : Report) → r ≡ record report { ignored = goal.ignored } → HasLines (narrowed t hex) content lines
+        → IsWork t content old (record { goal = goal.bytes.items; steps = steps; lines = lines; report = r })
+    work_is lines r is has = record {
       image = g.image;
       regions = g.regions;
       m = g.m;
@@ -143,25 +116,6 @@ module _ (keeps : TargetKeeps) (gives : TargetGives) (written : WrittenGives) (t
       goal_is = g.bytes;
       workable = workable;
       planned = planned;
-      printed = Appends-append before middle after _ _ (lines_are before middle lines)
-          (subst (λ (x : Report). Appends middle after (report_text x)) (told r is) put);
+      lines = lines_are lines has;
+      report = told r is;
     }
-
-    -- the report wasn't all written
-    pub report_cut : (before middle after : Option (List ℕ)) (r : Report) → r ≡ record report { ignored = goal.ignored }
-        → PlansLines (narrowed t hex) content before middle → Cuts middle after (report_text r) → StopsReport t content old before after Write
-    report_cut before middle after r is lines cut =
-        let put = Cuts-then before middle after _ _ (lines_are before middle lines)
-        (subst (λ (x : Report). Cuts middle after (report_text x)) (told r is) cut) in
-        record {
-          image = g.image;
-          regions = g.regions;
-          m = g.m;
-          accepted = here;
-          workable = subst (λ (w : List ℕ). IsWorkable g.m (start_of t) content w) g.bytes workable;
-          steps = steps;
-          planned = subst (λ (w : List ℕ). ArePlanned g.m (start_of t) t.verify content w steps) g.bytes planned;
-          write = refl;
-          put = subst (λ (w : List ℕ). Cuts before after (plan_text g.m (start_of t) content w
-              ++ report_text (report_of t g.image g.regions g.m (planned_units g.m (start_of t) content w) steps))) g.bytes put;
-        }

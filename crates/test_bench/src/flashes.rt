@@ -274,6 +274,7 @@ fn no_texts(alloc: Global) -> FlashArgs<'static> {
         partial: false,
         beyond: false,
         dry_run: false,
+        list: true,
         raw: false,
         fresh: false,
         any_size: false,

@@ -4,8 +4,8 @@ ghost use Rattle.std.specs.Prelude.{IfErr};
 ghost use Rattle.norprog_files.specs.Files.{Denies};
 
 use nor_base::{Failed, FromRead, IntoWrite};
-use norprog_common::{FileName, Refusal};
-use norprog_files::{Files, Trail};
+use norprog_common::{FileName, OutFile, Refusal};
+use norprog_files::{Files, OutKind, Trail};
 use std::alloc::Global;
 use std::cell::Cell;
 use std::io;
@@ -144,10 +144,10 @@ impl<'a> Files for Store<'a> {
         &self,
         _trail: &mut Untold,
         _alloc: Global,
-        _path: &str,
-        name: FileName,
+        _out: OutFile<'_>,
+        kind: OutKind,
     ) -> Result<IntoWrite<Vec<u8>>, Refusal> {
-        Err(Refusal::File(name))
+        Err(Refusal::File(kind.name()))
     }
 
     fn create_new(

@@ -1,6 +1,6 @@
 //! What a row asks for.
 
-use crate::{clocks, geometry, images, jobs, layouts, meanings, plans, sfdp, targets};
+use crate::{clocks, geometry, images, jobs, layouts, meanings, plans, sfdp, sheets, targets};
 use nor_base::Meaning;
 use std::alloc::Global;
 use std::io;
@@ -132,6 +132,7 @@ fn told(asked: &Asked<'_, '_>, out: &mut String) -> io::Result<()> {
         "fill" => targets::fill_part(asked, out),
         "sample" => Ok(meanings::put_meaning(asked.chip()?, out)?),
         "sfdp" => meanings::read_words(asked, out),
+        "sheet" => sheets::read_sheet(asked, out),
         "table" => sfdp::dwords(asked, out),
         "prefixes" => sfdp::prefixes(asked, out),
         "job" => jobs::job(asked, out),

@@ -15,6 +15,7 @@ mod layouts;
 mod meanings;
 mod plans;
 mod sfdp;
+mod sheets;
 mod targets;
 mod words;
 

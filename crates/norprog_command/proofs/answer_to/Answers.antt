@@ -91,3 +91,10 @@ returns-in-Explain-clause-answer g c = rw c.in-Explain.is (
   adds_none _,
   (refl, (c.explain.result, rw c.as_slice.ensures.value at c.explain.ensures, answer_ends g.E.ByteOut.held g.E.ByteOut.count _ _ _ c.explain.result c.answered-in-Explain.ensures.done c.answered-in-Explain.ensures.told)),
 )
+
+pub returns-in-Help-clause-answer : goal.returns-in-Help-clause-answer
+returns-in-Help-clause-answer g c = rw c.in-Help.is (
+  [],
+  adds_none _,
+  (refl, (c.help.result, rw c.as_str.ensures.value at c.help.ensures.ends, answer_ends g.E.ByteOut.held g.E.ByteOut.count _ _ _ c.help.result c.answered-in-Help.ensures.done c.answered-in-Help.ensures.told)),
+)

@@ -48,13 +48,16 @@ pub(crate) const TOPICS: &[Topic] = &[
         "file out",
         "norprog can't make or write the output, or the output is a folder, one of the\n\
          inputs, or the file that standard output goes to, by whatever name (a link\n\
-         counts). Name another file. The inputs are as they were.",
+         counts); or it holds something else than this command writes (of `run` another\n\
+         number of bytes). Name another file, or say --force to replace what it holds.\n\
+         The inputs are as they were.",
     ),
     (
         "file map",
         "norprog can't make or write the picture of the plan, or that file is a folder,\n\
          one of the inputs, or the one that standard output goes to, by whatever name (a\n\
-         link counts). Name another file.",
+         link counts); or it holds something else than a picture. Name another file, or\n\
+         say --force to replace what it holds.",
     ),
     (
         "file device",

@@ -44,6 +44,10 @@ pub(crate) const TOPICS: &[Topic] = &[
          step, however long the chip is busy.",
     ),
     (
+        "lines",
+        "How many lines the plan of flash has. --list prints them, and --dry-run too.",
+    ),
+    (
         "erases",
         "The number of blocks that the script erases.\n\
          It writes back what the job doesn't change in them.",

@@ -269,6 +269,7 @@ pub(super) static KEPTS: [Row; 4] = [
         dry: true,
         way: b"",
         line: b"",
+        saved: None,
         ..KEPT
     },
     // a program of more bytes than the device sends

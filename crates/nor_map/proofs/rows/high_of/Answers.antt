@@ -8,6 +8,6 @@ row_height-top-requires-clause-inside c = row_inside _ _ _ (omega arith) (subst 
 
 pub loop-row-preserved : goal.loop-row-preserved
 loop-row-preserved c = record {
-  high = omega (arith, c.loop-row.invariant.high, c.row_height-top.ensures.value, top_more c.args.grid.now c.args.columns c.loop-row.row);
+  high = omega (arith, c.loop-row.invariant.high, c.row_height-top.ensures.value, top_more c.args.cells.now c.args.columns c.loop-row.row);
   few = omega arith;
 }

@@ -5,6 +5,6 @@ use Rattle.nor_map.proofs.rows.high_of.Given as goal
 
 abbrev pub invariant-loop-row : goal.invariant-loop-row
 invariant-loop-row l = record {
-  high : l.top ≡ top_of l.grid l.columns l.row;
+  high : l.top ≡ top_of l.cells l.columns l.row;
   few : l.top ≤ 4 * l.row;
 }

@@ -15,8 +15,8 @@ loop-row-preserved c = record {
   each =
       c.in_ok-push.ensures.items
       ∙ ap (λ l. l ++ c.loop-row.top ∷ []) c.loop-row.invariant.each
-      ∙ ap (λ n. map (top_of c.args.grid.now c.args.columns) (range_with_len 0 c.loop-row.row) ++ n ∷ []) c.loop-row.invariant.high
-      ∙ sym (map-range_with_len_more (top_of c.args.grid.now c.args.columns) 0 c.loop-row.row c.loop-row.row (omega arith));
-  high = omega (arith, c.loop-row.invariant.high, c.row_height-top.ensures.value, top_more c.args.grid.now c.args.columns c.loop-row.row);
+      ∙ ap (λ n. map (top_of c.args.cells.now c.args.columns) (range_with_len 0 c.loop-row.row) ++ n ∷ []) c.loop-row.invariant.high
+      ∙ sym (map-range_with_len_more (top_of c.args.cells.now c.args.columns) 0 c.loop-row.row c.loop-row.row (omega arith));
+  high = omega (arith, c.loop-row.invariant.high, c.row_height-top.ensures.value, top_more c.args.cells.now c.args.columns c.loop-row.row);
   few = omega arith;
 }

@@ -5,8 +5,7 @@ use Rattle.norprog_flash.proofs.begun.hold.Goals as goal
 
 pub returns-in-Ok-clause-stops : goal.returns-in-Ok-clause-stops
 returns-in-Ok-clause-stops g c =
-    holds_not c.args.limits.now c.args.job.now (g.W.ByteOut.held c.args.to.now) (g.W.ByteOut.held c.test_line.new.to) (g.W.ByteOut.held c.read_suited.new.to)
-    (g.R.ByteIn.ahead c.args.from.now) (g.R.ByteIn.ahead c.test_line.new.from) (g.R.ByteIn.ahead c.read_suited.new.from) c.read_suited.result
+    holds_not c.args.limits.now c.args.job.now _ _ _ c.read_suited.result
     c.in-Ok.ensures.tests c.read_suited.ensures.stops c.read_suited.ensures.harmless
 
 pub returns-in-Err-clause-stops : goal.returns-in-Err-clause-stops

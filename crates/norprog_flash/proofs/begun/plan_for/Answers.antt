@@ -1,12 +1,22 @@
--- Why the work isn't planned.
-use Rattle.norprog_flash.proofs.StopsLemmas.{cant_plan, other_size}
+-- Whether the work is planned.
+use Rattle.std.proofs.Common.{refl}
+use Rattle.norprog_flash.specs.Stops.{Unplanned}
+use Rattle.norprog_flash.proofs.StopsLemmas.{other_size, over}
+use Rattle.norprog_work.specs.Refused.{RefusesWork}
+use Rattle.norprog_work.specs.Work.{IsWork, plan_of}
 use Rattle.norprog_flash.proofs.begun.plan_for.Goals as goal
 
 pub returns-in-Err-clause-refused : goal.returns-in-Err-clause-refused
-returns-in-Err-clause-refused g c =
-    cant_plan c.args.job.now c.args.reading.now _ _ _ _ _ _ c.in-Err.why c.inputs_for-inputs.ensures c.as_slice.ensures.value
-    c.as_slice-content.ensures.value c.older-old.ensures c.in-Err.ensures.refused
+returns-in-Err-clause-refused c = λ text.
+    Unplanned c.in-Err.why
+    (over (λ t content old. RefusesWork t content old c.in-Err.why) c.args.job.now c.args.reading.now _ _ _ _ c.inputs_for-inputs.ensures
+    c.as_slice.ensures.value c.as_slice-content.ensures.value c.older-old.ensures c.in-Err.ensures.refused) refl
 
 pub returns-then-old-content-clause-refused : goal.returns-then-old-content-clause-refused
-returns-then-old-content-clause-refused g c =
-    other_size c.args.job.now c.args.reading.now _ _ _ c.as_slice-content.ensures.value c.older-old.ensures c.if-old-content.true
+returns-then-old-content-clause-refused c = λ text.
+    other_size c.args.job.now c.args.reading.now text _ _ c.as_slice-content.ensures.value c.older-old.ensures c.if-old-content.true
+
+pub returns-in-Ok-clause-work : goal.returns-in-Ok-clause-work
+returns-in-Ok-clause-work c =
+    over (λ t content old. IsWork t content old (plan_of c.in-Ok.work)) c.args.job.now c.args.reading.now _ _ _ _ c.inputs_for-inputs.ensures
+    c.as_slice.ensures.value c.as_slice-content.ensures.value c.older-old.ensures c.in-Ok.ensures.work

@@ -7,20 +7,18 @@ use Rattle.norprog_flash.proofs.begun.read_suited.Goals as goal
 
 pub returns-then-not-suits-clause-stops : goal.returns-then-not-suits-clause-stops
 returns-then-not-suits-clause-stops g c =
-    closed c.args.limits.now.asked _ _ _ _ c.args.job.now c.in_ok-reading.reading c.in_ok-reading.ensures.read c.start_at-start.result c.suits.result
+    closed c.args.limits.now.asked _ _ c.args.job.now c.in_ok-reading.reading c.in_ok-reading.ensures.read c.start_at-start.result c.suits.result
     c.start_at-start.ensures
     c.suits.ensures c.if-not-suits.true
 
 pub returns-in_err-refuse_unruled-clause-stops : goal.returns-in_err-refuse_unruled-clause-stops
 returns-in_err-refuse_unruled-clause-stops g c =
-    handed_on (StopsBefore c.args.limits.now.asked _ _ _ _ c.args.job.now) _ (Refused c.in_err-refuse_unruled.field-0.0)
+    handed_on (StopsBefore c.args.limits.now.asked _ _ c.args.job.now) _ (Refused c.in_err-refuse_unruled.field-0.0)
     c.from_residual-in_err-refuse_unruled.ensures.1
-    (unruled c.args.limits.now.asked (g.W.ByteOut.held c.args.to.now) (g.W.ByteOut.held c.read_chip.new.to) (g.R.ByteIn.ahead c.args.from.now)
-    (g.R.ByteIn.ahead c.read_chip.new.from) c.args.job.now c.in_ok-reading.reading c.in_ok-reading.ensures.read c.in_err-refuse_unruled.field-0.0
+    (unruled c.args.limits.now.asked _ _ c.args.job.now c.in_ok-reading.reading c.in_ok-reading.ensures.read c.in_err-refuse_unruled.field-0.0
     c.in_err-refuse_unruled.ensures.breaks)
 
 pub returns-clause-way : goal.returns-clause-way
 returns-clause-way g c =
-    way_there c.args.limits.now.asked (g.W.ByteOut.held c.args.to.now) (g.W.ByteOut.held c.read_chip.new.to) (g.R.ByteIn.ahead c.args.from.now)
-    (g.R.ByteIn.ahead c.read_chip.new.from) c.args.job.now c.in_ok-reading.reading c.in_ok-reading.ensures.read c.said_start.result c.said_start.ensures
+    way_there c.args.limits.now.asked _ _ c.args.job.now c.in_ok-reading.reading c.in_ok-reading.ensures.read c.said_start.result c.said_start.ensures
     c.requires.asked.0 c.first_by-by.result c.first_by-by.ensures

@@ -19,7 +19,7 @@ returns-in_err-report-clause-ends g c =
       did.0,
       did.1,
       answered _ (EndsBuildAsked (g.F.Files.unread c.args.files.now) c.args.given _ did.0) _
-          (Formed (c.in-Some.request, c.in-Some-out.path.now) did.0 _ (c.in-Some.ensures.values, ap (option_map (λ t. t.now)) c.in-Some-out.is) (Unworked _ did.2 refl))
+          (Formed (c.in-Some.request, c.in-Some-out.out_file) did.0 _ (c.in-Some.ensures.values, c.in-Some-out.is) (Unworked _ did.2 refl))
           c.from_residual.ensures.1,
     )
 
@@ -28,7 +28,7 @@ returns-in-Ok-clause-ends g c =
     let did = c.in_ok-report.ensures in (
       did.0,
       did.1,
-      Formed (c.in-Some.request, c.in-Some-out.path.now) did.0 _ (c.in-Some.ensures.values, ap (option_map (λ t. t.now)) c.in-Some-out.is)
+      Formed (c.in-Some.request, c.in-Some-out.out_file) did.0 _ (c.in-Some.ensures.values, c.in-Some-out.is)
           (Printed c.in_ok-report.report did.2 c.in-Ok.ensures.bytes),
     )
 
@@ -37,6 +37,6 @@ returns-clause-ends g c =
     let did = c.in_ok-report.ensures in (
       did.0,
       did.1,
-      Formed (c.in-Some.request, c.in-Some-out.path.now) did.0 _ (c.in-Some.ensures.values, ap (option_map (λ t. t.now)) c.in-Some-out.is)
+      Formed (c.in-Some.request, c.in-Some-out.out_file) did.0 _ (c.in-Some.ensures.values, c.in-Some-out.is)
           (CutOff c.in_ok-report.report did.2 c.in-Err.ensures.bytes (omega (arith, c.in-Err.ensures.count))),
     )

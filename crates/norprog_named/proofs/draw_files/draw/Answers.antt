@@ -8,6 +8,7 @@ use Rattle.nor_waves.specs.Waves.{waves}
 use Rattle.norprog_draw.specs.Drawn.{RefusesSteps, part}
 use Rattle.norprog_files.specs.Files.{Denied, Event, Given, Loses, Loses_some, Made, Sends_all, closing}
 use Rattle.norprog_files.proofs.FilesLemmas.{adds_both, lost}
+use Rattle.norprog_files.specs.declared.replaced.OutKind.TheVariants.{Waveform}
 use Rattle.norprog_named.specs.Draw.{Drawn, EndsDraw, NoOutput, NoScript, Refused, Unsent}
 use Rattle.norprog_named.proofs.draw_files.draw.Goals as goal
 
@@ -24,7 +25,7 @@ returns-in_err-steps g c =
 pub returns-in_err-out : goal.returns-in_err-out
 returns-in_err-out g c =
     let r = c.args.request in
-    let log = Given r.script.now c.in_ok-script.script.items ∷ Denied r.out.now ∷ [] in (
+    let log = Given r.script.now c.in_ok-script.script.items ∷ Denied r.out.path.now ∷ [] in (
       log,
       adds_both c.in_ok-script.ensures.did c.in_err-out.ensures.did,
       answered _ (EndsDraw r log) _ (NoOutput _ _ c.in_err-out.ensures.refused) c.from_residual-in_err-out.ensures.1,
@@ -53,13 +54,13 @@ returns g c =
     let r = c.args.request in
     let begun = g.F.Output.ByteOut.held c.in_ok-out.out in
     let held = g.F.Output.ByteOut.held c.draw_steps-drawn.new.out in
-    let last = closing c.close-closed.result r.out.now held in
+    let last = closing c.close-closed.result r.out.path.now held in
     let cut = c.in-Err.ensures.bytes in
     let text = take cut.0 (waves (part r.from r.count c.as_slice-2.result.now)) in (
-      Given r.script.now c.in_ok-script.script.items ∷ Made r.out.now begun ∷ last ∷ [],
+      Given r.script.now c.in_ok-script.script.items ∷ Made r.out Waveform begun ∷ last ∷ [],
       adds_both c.in_ok-script.ensures.did (adds_both c.in_ok-out.ensures.did c.close-closed.ensures.did),
       Unsent c.in_ok-script.script.items text _
-          (subst (λ (e : Event). Loses r.out.now text (Made r.out.now begun ∷ e ∷ []))
-          (sym (lost c.close-closed.result r.out.now held (g.F.Output.ByteOut.count c.in_ok-out.out) (g.F.Output.ByteOut.count c.draw_steps-drawn.new.out) c.close-closed.ensures.unfailed (omega (arith, c.in-Err.ensures.count))))
+          (subst (λ (e : Event). Loses r.out Waveform text (Made r.out Waveform begun ∷ e ∷ []))
+          (sym (lost c.close-closed.result r.out.path.now held (g.F.Output.ByteOut.count c.in_ok-out.out) (g.F.Output.ByteOut.count c.draw_steps-drawn.new.out) c.close-closed.ensures.unfailed (omega (arith, c.in-Err.ensures.count))))
           (Loses_some begun held cut.2)),
     )

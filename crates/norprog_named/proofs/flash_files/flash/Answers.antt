@@ -3,7 +3,8 @@ use Rattle.std.proofs.Common.{refl}
 use Rattle.nor_base.proofs.FaultLaws.{answered}
 use Rattle.norprog_files.proofs.FilesLemmas.{adds_both}
 use Rattle.norprog_flash.specs.declared.ending.Unflashed.TheVariants.{Refused}
-use Rattle.norprog_named.specs.Flash.{EndsFlash, NoInput, Worked, prints}
+use Rattle.norprog_flash.specs.Begun.{printed}
+use Rattle.norprog_named.specs.Flash.{EndsFlash, NoInput, Worked}
 use Rattle.norprog_named.proofs.flash_files.flash.Goals as goal
 
 pub returns-in_err-texts-clause-ends : goal.returns-in_err-texts-clause-ends
@@ -11,7 +12,7 @@ returns-in_err-texts-clause-ends g c =
     let did = c.in_err-texts.ensures in (
       did.0,
       did.1,
-      answered _ (EndsFlash c.args.request.now (prints (g.O.ByteOut.held c.args.out.now) (g.O.ByteOut.held c.args.out.now)) did.0) (Refused c.in_err-texts.field-0.0)
+      answered _ (EndsFlash c.args.request.now (printed (g.O.ByteOut.held c.args.out.now) (g.O.ByteOut.held c.args.out.now)) did.0) (Refused c.in_err-texts.field-0.0)
           (NoInput did.0 _ did.2 refl) c.from_residual.ensures.1,
     )
 

@@ -4,12 +4,13 @@ use Rattle.nor_base.proofs.FaultLaws.{answered}
 use Rattle.norprog_files.specs.Files.{Denied}
 use Rattle.norprog_files.proofs.FilesLemmas.{adds_both, adds_none}
 use Rattle.norprog_flash.specs.declared.ending.Unflashed.TheVariants.{Refused}
-use Rattle.norprog_named.specs.Flash.{EndsJob, Faulty, NoDevice, OnDevice, prints}
+use Rattle.norprog_flash.specs.Begun.{printed}
+use Rattle.norprog_named.specs.Flash.{EndsJob, Faulty, NoDevice, OnDevice}
 use Rattle.norprog_named.proofs.flash_files.flash_job.Goals as goal
 
 pub returns-in_err-look_at-clause-ends : goal.returns-in_err-look_at-clause-ends
 returns-in_err-look_at-clause-ends g c =
-    let out = prints (g.O.ByteOut.held c.args.out.now) (g.O.ByteOut.held c.args.out.now) in (
+    let out = printed (g.O.ByteOut.held c.args.out.now) (g.O.ByteOut.held c.args.out.now) in (
       [],
       adds_none _,
       answered _ (EndsJob c.args.device.now c.args.before.now c.args.job.now out []) (Refused c.in_err-look_at.field-0.0)
@@ -19,7 +20,7 @@ returns-in_err-look_at-clause-ends g c =
 
 pub returns-in_err-from-clause-ends : goal.returns-in_err-from-clause-ends
 returns-in_err-from-clause-ends g c =
-    let out = prints (g.O.ByteOut.held c.args.out.now) (g.O.ByteOut.held c.args.out.now) in
+    let out = printed (g.O.ByteOut.held c.args.out.now) (g.O.ByteOut.held c.args.out.now) in
     let log = Denied c.args.device.now ∷ [] in (
       log,
       c.in_err-from.ensures.did,

@@ -4,6 +4,7 @@ use Rattle.nor_base.proofs.FaultLaws.{answered}
 use Rattle.norprog_common.specs.declared.faults.Refusal.{Refusal}
 use Rattle.norprog_files.specs.Files.{Denied, Loses_some, Made, Opened, closing}
 use Rattle.norprog_files.proofs.FilesLemmas.{adds_both, closed, lost}
+use Rattle.norprog_files.specs.declared.replaced.OutKind.TheVariants.{Hex}
 use Rattle.norprog_named.specs.Hex.{BadOutput, EndsHex, NoImage, NoOutput, TooLong}
 use Rattle.norprog_named.proofs.HexLemmas.{converted, unconverted}
 use Rattle.norprog_named.proofs.hex_files.hex.Goals as goal
@@ -19,7 +20,7 @@ returns-then-not-fits g c = (_, c.in_ok-bin.ensures.did, TooLong _ c.in_ok-bin.l
 pub returns-in_err-out : goal.returns-in_err-out
 returns-in_err-out g c =
     let r = c.args.request in
-    let log = Opened r.bin.now (g.F.Input.ByteIn.ahead c.in_ok-bin.bin) c.in_ok-bin.len ∷ Denied r.out.now ∷ [] in (
+    let log = Opened r.bin.now (g.F.Input.ByteIn.ahead c.in_ok-bin.bin) c.in_ok-bin.len ∷ Denied r.out.path.now ∷ [] in (
       log,
       adds_both c.in_ok-bin.ensures.did c.in_err-out.ensures.did,
       answered _ (EndsHex (g.F.Files.unread c.args.files.now) r log) _ (NoOutput _ c.in_ok-bin.len _ c.if-not-fits.ensures.fits c.in_err-out.ensures.refused)
@@ -46,13 +47,13 @@ returns g c =
     let image = g.F.Input.ByteIn.ahead c.in_ok-bin.bin in
     let begun = g.F.Output.ByteOut.held c.in_ok-out.out in
     let held = g.F.Output.ByteOut.held c.convert-converted.new.out in
-    let last = closing c.close-closed.result r.out.now held in
-    let log = Opened r.bin.now image c.in_ok-bin.len ∷ Made r.out.now begun ∷ last ∷ [] in (
+    let last = closing c.close-closed.result r.out.path.now held in
+    let log = Opened r.bin.now image c.in_ok-bin.len ∷ Made r.out Hex begun ∷ last ∷ [] in (
       log,
       adds_both c.in_ok-bin.ensures.did (adds_both c.in_ok-out.ensures.did c.close-closed.ensures.did),
       subst (λ (w : Refusal). EndsHex (g.F.Files.unread c.args.files.now) r log (Err w)) (sym c.refusal_of.ensures)
           (unconverted _ r image c.in_ok-bin.len begun held last c.in-Err.why
           (λ failed. g.met.F.Files.failing c.args.files.now c.convert-converted.new.bin (omega (arith, failed)))
-          (λ failed. lost c.close-closed.result r.out.now held _ _ c.close-closed.ensures.unfailed failed)
-          (closed c.close-closed.result r.out.now held) c.in-Err.ensures.stopped c.in-Err.ensures.unended),
+          (λ failed. lost c.close-closed.result r.out.path.now held _ _ c.close-closed.ensures.unfailed failed)
+          (closed c.close-closed.result r.out.path.now held) c.in-Err.ensures.stopped c.in-Err.ensures.unended),
     )

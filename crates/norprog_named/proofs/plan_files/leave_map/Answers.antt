@@ -8,7 +8,7 @@ pub returns-in-Some : goal.returns-in-Some
 returns-in-Some g c path made was =
     let map = c.in-Some.field-0 in
     let some = rw c.in-Some.is at was in
-    (_, c.close.ensures.did, left _ some (closed c.close.result map.path.now (g.F.Output.ByteOut.held map.file)))
+    (_, c.close.ensures.did, left _ some (closed c.close.result map.out.path.now (g.F.Output.ByteOut.held map.file)))
 
 pub returns-in_default : goal.returns-in_default
 returns-in_default g c path made was =

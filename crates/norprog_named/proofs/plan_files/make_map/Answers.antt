@@ -9,7 +9,7 @@ use Rattle.norprog_named.proofs.plan_files.make_map.Goals as goal
 
 pub returns-in_err-create-in-Some-clause-did : goal.returns-in_err-create-in-Some-clause-did
 returns-in_err-create-in-Some-clause-did g c =
-    let path = c.in-Some.path.now in
+    let path = c.in-Some.out.path.now in
     rw c.in-Some.is (
       Denied path ∷ [],
       c.in_err-create-in-Some.ensures.did,

@@ -7,7 +7,7 @@ use Rattle.nor_base.proofs.FaultLaws.{answered}
 use Rattle.norprog_files.proofs.FilesLemmas.{adds_both}
 use Rattle.norprog_plan.specs.Outline.{outline}
 use Rattle.norprog_common.specs.Told.{between}
-use Rattle.norprog_named.specs.Plan.{EndsPlan, NoInput, NoMap, NotTold, SendsMap, Told, Undrawn, Unprinted, map_of}
+use Rattle.norprog_named.specs.Plan.{EndsPlan, NoInput, NoMap, NotTold, SendsMap, Told, Undrawn, Unprinted}
 use Rattle.norprog_named.proofs.BuildLemmas.{job_by, wider}
 use Rattle.norprog_named.proofs.PlanLemmas.{tells_job}
 use Rattle.norprog_named.proofs.plan_files.plan.Goals as goal
@@ -37,7 +37,7 @@ pub returns-in-Err : goal.returns-in-Err
 returns-in-Err g c =
     let job = c.in_ok-texts.ensures.did in
     let made = c.in_ok-map.ensures.did in
-    let left = c.leave_map.ensures (map_of c.args.request.now) made.0 made.2 in (
+    let left = c.leave_map.ensures c.args.request.now.map made.0 made.2 in (
       _,
       adds_both job.1 (adds_both made.1 left.1),
       NotTold _ _ _ c.in_ok-texts.len job.0 (made.0 ++ left.0) _ (job_by _ _ c.inputs_of-inputs.ensures job.2) left.2
@@ -48,7 +48,7 @@ pub returns-in-Err-send_map : goal.returns-in-Err-send_map
 returns-in-Err-send_map g c =
     let job = c.in_ok-texts.ensures.did in
     let made = c.in_ok-map.ensures.did in
-    let sent = c.in-Err-send_map.ensures (map_of c.args.request.now) made.0 made.2 in
+    let sent = c.in-Err-send_map.ensures c.args.request.now.map made.0 made.2 in
     let told = c.in-Ok.ensures.told in (
       _,
       adds_both job.1 (adds_both made.1 sent.1),
@@ -60,7 +60,7 @@ pub returns-in-Ok-put_all : goal.returns-in-Ok-put_all
 returns-in-Ok-put_all g c =
     let job = c.in_ok-texts.ensures.did in
     let made = c.in_ok-map.ensures.did in
-    let map = map_of c.args.request.now in
+    let map = c.args.request.now.map in
     let sent = c.in-Ok-send_map.ensures map made.0 made.2 in
     let told = c.in-Ok.ensures.told in
     let held = g.O.ByteOut.held in
@@ -76,7 +76,7 @@ pub returns : goal.returns
 returns g c =
     let job = c.in_ok-texts.ensures.did in
     let made = c.in_ok-map.ensures.did in
-    let map = map_of c.args.request.now in
+    let map = c.args.request.now.map in
     let sent = c.in-Ok-send_map.ensures map made.0 made.2 in
     let told = c.in-Ok.ensures.told in
     let held = g.O.ByteOut.held in

@@ -6,10 +6,11 @@ use Rattle.norprog_common.specs.Setup.{setup_task}
 use Rattle.norprog_common.specs.declared.faults.FileName.TheVariants as file
 use Rattle.norprog_files.specs.Files.{Denied, Here, IsOpened, Later, Opened}
 use Rattle.norprog_files.proofs.FilesLemmas.{adds_both, stops_after, stops_before}
-use Rattle.norprog_named.specs.Play.{EndsPlay, NoInput, NoPlay, Opens_all, Played, Sources}
+use Rattle.norprog_named.specs.Play.{EndsPlay, NoInput, NoPlay, Opens_all, Played}
 use Rattle.norprog_named.proofs.JobLemmas.{tables_used}
 use Rattle.norprog_named.proofs.PlayLemmas.{content_failed, expected_so, script_failed}
-use Rattle.norprog_player.specs.Played.{play_of}
+use Rattle.norprog_player.specs.Expected.{play_of}
+use Rattle.norprog_player.specs.Job.{source, sources}
 use Rattle.norprog_player.specs.declared.unplayed.Unplayed.TheVariants.{Refused}
 use Rattle.norprog_named.proofs.play_files.play.Goals as goal
 
@@ -53,15 +54,9 @@ returns-in_err-job g c =
     let tables = c.in_ok-tables.ensures in
     let ahead = g.F.Input.ByteIn.ahead in
     let is = c.setup_inputs-inputs.ensures ∙ ap (setup_task r.setup) c.as_slice.ensures.value in
-    let s : Sources = record {
-      task = c.setup_inputs-inputs.result;
-      content = ahead c.in_ok-content.content;
-      len = c.in_ok-content.len;
-      script = ahead c.in_ok-script.script;
-      content_rest = ahead c.job_of.new.content;
-      script_rest = ahead c.job_of.new.script;
-    } in
-    let log = tables.0 ++ (Opened r.content.now s.content s.len ∷ Opened r.script.now s.script c.in_ok-script._len ∷ []) in (
+    let s = sources c.setup_inputs-inputs.result c.in_ok-content.len (source (ahead c.in_ok-script.script) (ahead c.job_of.new.script))
+    (source (ahead c.in_ok-content.content) (ahead c.job_of.new.content)) in
+    let log = tables.0 ++ (Opened r.content.now s.content.ahead s.len ∷ Opened r.script.now s.script.ahead c.in_ok-script._len ∷ []) in (
       log,
       adds_both tables.1 (adds_both c.in_ok-content.ensures.did c.in_ok-script.ensures.did),
       answered _ (EndsPlay (g.F.Files.unread c.args.files.now) r log) (Refused c.in_err-job.field-0.0)
@@ -79,14 +74,8 @@ returns g c =
     let t = c.setup_inputs-inputs.result in
     let job = c.in_ok-job.job in
     let is = c.setup_inputs-inputs.ensures ∙ ap (setup_task r.setup) c.as_slice.ensures.value in
-    let s : Sources = record {
-      task = t;
-      content = ahead c.in_ok-content.content;
-      len = c.in_ok-content.len;
-      script = ahead c.in_ok-script.script;
-      content_rest = ahead c.job_of.new.content;
-      script_rest = ahead c.job_of.new.script;
-    } in
+    let s = sources t c.in_ok-content.len (source (ahead c.in_ok-script.script) (ahead c.job_of.new.script))
+    (source (ahead c.in_ok-content.content) (ahead c.job_of.new.content)) in
     let family : r.setup.part ≡ t.part = sym (ap (λ (u : Task). u.part) c.setup_inputs-inputs.ensures) in
     let same = expected_so t r.setup.part job.start c.known_tables.result.now r.trust family c.in_ok-job.ensures.ready.0 c.known_tables.ensures.tables in
     let did = c.play_job.ensures in (

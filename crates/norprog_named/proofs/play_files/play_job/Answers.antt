@@ -7,8 +7,7 @@ use Rattle.norprog_files.specs.Files.{Denied}
 use Rattle.norprog_files.proofs.FilesLemmas.{adds_both, adds_none}
 use Rattle.norprog_named.specs.Play.{EndsPlaying, InMemory, NoDevice, NoMemory}
 use Rattle.norprog_named.proofs.PlayLemmas.{ends_playing}
-use Rattle.norprog_player.specs.Expected.{expectation_of}
-use Rattle.norprog_player.specs.Played.{play_of}
+use Rattle.norprog_player.specs.Expected.{expectation_of, play_of}
 use Rattle.norprog_player.specs.declared.unplayed.Unplayed.TheVariants.{Refused}
 use Rattle.norprog_named.proofs.play_files.play_job.Goals as goal
 

@@ -39,9 +39,16 @@ returns-in-Some-subcommand_matches-4-clause-asked c = record {
   so = c.script_in.ensures;
 }
 
-pub returns-in_ok-texts_in-in-Some-subcommand_matches-5-clause-asked : goal.returns-in_ok-texts_in-in-Some-subcommand_matches-5-clause-asked
-returns-in_ok-texts_in-in-Some-subcommand_matches-5-clause-asked c = record {
+pub returns-in-Some-2-clause-asked : goal.returns-in-Some-2-clause-asked
+returns-in-Some-2-clause-asked c = record {
   found = found_of c.in-Some-subcommand_matches-5.explain.now;
   used = used_by _ _ _ (c.in-Some-subcommand_matches-5.ensures.found.0 refl) c.in-Some-subcommand_matches-5.ensures.rows;
-  so = c.in_ok-texts_in-in-Some-subcommand_matches-5.ensures.done;
+  so = rw c.in-Some-2.is at c.in_ok-text.ensures.help;
+}
+
+pub returns-in-Some-subcommand_matches-5-clause-asked : goal.returns-in-Some-subcommand_matches-5-clause-asked
+returns-in-Some-subcommand_matches-5-clause-asked c = record {
+  found = found_of c.in-Some-subcommand_matches-5.explain.now;
+  used = used_by _ _ _ (c.in-Some-subcommand_matches-5.ensures.found.0 refl) c.in-Some-subcommand_matches-5.ensures.rows;
+  so = c.in_ok-texts_in.ensures.done;
 }

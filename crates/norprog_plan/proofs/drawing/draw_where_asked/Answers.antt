@@ -2,6 +2,4 @@
 use Rattle.norprog_plan.proofs.drawing.draw_where_asked.Goals as goal
 
 pub returns-in-Some-clause-drawn : goal.returns-in-Some-clause-drawn
-returns-in-Some-clause-drawn c lines image regions are of =
-    let marked = rw c.in-Some.is at are in
-    rw c.in-Some.is (c.draw.ensures.drawn lines image regions marked of)
+returns-in-Some-clause-drawn c = rw c.in-Some.is c.draw.ensures.drawn

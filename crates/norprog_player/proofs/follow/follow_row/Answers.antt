@@ -1,10 +1,11 @@
 -- A step alone, or a row.
-use Rattle.std.proofs.Common.{◌≡◌, ◌<◌, ◌∙◌, [], ◌∷◌, take, length, ap, subst, sym, refl, arith, rules}
+use Rattle.std.proofs.Common.{◌≡◌, ◌<◌, ◌∙◌, [], ◌∷◌, take, length, ap, subst, sym, arith, rules}
 use Rattle.std.proofs.lemmas.List.{length-take-le}
 use Rattle.std.specs.Prelude.{All}
 use Rattle.nor_base.proofs.ListLaws.{one_taken}
-use Rattle.norprog_player.specs.Moment.{moment, StopsAt}
+use Rattle.norprog_player.specs.Moment.{halt_at, moment, rules_of, StopsAt}
 use Rattle.norprog_player.specs.Together.{IsPlain}
+use Rattle.norprog_player.specs.Port.{moment_of}
 use Rattle.norprog_player.proofs.FollowedLemmas.{takes_next}
 use Rattle.norprog_player.proofs.TogetherLemmas.{are_plain, both_do, halted, stops_alone}
 use Rattle.norprog_player.proofs.follow.follow_row.Goals as goal
@@ -19,9 +20,9 @@ returns-in-Err-clause-done g c =
     let within : 0 < length c.args.steps.now = omega (arith, c.requires.row.0, c.requires.row.1) in
     let alone : take c.args.count c.args.steps.now ≡ c.index-steps-0.result ∷ [] =
     ap (λ n. take n c.args.steps.now) c.if-count-eq1.true ∙ one_taken c.args.steps.now 0 c.index-steps-0.result within c.index-steps-0.is in
-    stops_alone c.args.meaning.now c.args.port.now.limits c.args.port.now.turns
-    (moment c.args.port.now.chip (g.W.ByteOut.held c.args.port.now.to) (g.R.ByteIn.ahead c.args.port.now.from))
-    (moment c.follow_step.new.port.chip (g.W.ByteOut.held c.follow_step.new.port.to) (g.R.ByteIn.ahead c.follow_step.new.port.from))
+    stops_alone (rules_of c.args.port.now.limits c.args.port.now.turns c.args.meaning.now)
+    (moment_of c.args.port.now)
+    (moment_of c.follow_step.new.port)
     (take c.args.count c.args.steps.now) c.index-steps-0.result c.in-Err.why alone c.requires.row.2 c.in-Err.ensures.done
 
 pub returns-in-Ok-do_row-clause-done : goal.returns-in-Ok-do_row-clause-done
@@ -37,8 +38,8 @@ returns-in-Err-do_row-clause-done g c =
     let row = take c.args.count c.args.steps.now in
     let plain : All IsPlain row = are_plain row c.args.count c.requires.row.3 (length-take-le c.args.count c.args.steps.now c.requires.row.1) c.if-count-eq1.false in
     let after = moment c.take_row.new.chip (g.W.ByteOut.held c.do_row.new.to) (g.R.ByteIn.ahead c.do_row.new.from) in
-    let before = moment c.args.port.now.chip (g.W.ByteOut.held c.args.port.now.to) (g.R.ByteIn.ahead c.args.port.now.from) in
-    subst (λ n. StopsAt c.args.meaning.now c.args.port.now.limits c.args.port.now.turns before row n c.failed.result.why after) (sym c.failed.ensures.step)
-    (halted c.args.meaning.now c.args.port.now.limits c.args.port.now.turns row c.args.port.now.chip c.take_row.new.chip (g.W.ByteOut.held c.args.port.now.to)
-    (g.W.ByteOut.held c.do_row.new.to) (g.R.ByteIn.ahead c.args.port.now.from) (g.R.ByteIn.ahead c.do_row.new.from)
-    c.in-Err-do_row.halt c.failed.result.why after refl refl c.take_row.ensures.taken plain c.in-Err-do_row.ensures.done c.failed.ensures.why)
+    let before = moment_of c.args.port.now in
+    let r = rules_of c.args.port.now.limits c.args.port.now.turns c.args.meaning.now in
+    subst (λ n. StopsAt r before row (halt_at n c.failed.result.why) after) (sym c.failed.ensures.step)
+    (halted r row c.args.port.now.chip c.take_row.new.chip before.wire c.in-Err-do_row.halt c.failed.result.why after c.take_row.ensures.taken plain
+    c.in-Err-do_row.ensures.done c.failed.ensures.why)

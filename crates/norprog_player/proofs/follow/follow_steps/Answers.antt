@@ -7,7 +7,8 @@ use Rattle.nor_base.specs.Run.{played}
 use Rattle.nor_progress.specs.Come.{AreNext, HasCome}
 use Rattle.nor_progress.proofs.ReportLaws.{ended_reports, none_come}
 use Rattle.std.specs.Prelude.{None, Ok}
-use Rattle.norprog_player.specs.Moment.{moment, DoesAll}
+use Rattle.norprog_player.specs.Moment.{rules_of, DoesAll}
+use Rattle.norprog_player.specs.Port.{moment_of}
 use Rattle.norprog_failure.specs.Blame.{fault_of_failure}
 use Rattle.norprog_player.proofs.BlameLemmas.{counts_after}
 use Rattle.norprog_player.proofs.CarriedLemmas.{done_bounds, same_bounds}
@@ -74,17 +75,17 @@ returns-in-Err-clause-done g c =
     let whole : left ≡ drop c.loop-done.done steps = all_left_over c.loop-done.done steps in
     let row : List Step = take c.row_of-count.result left in
     let rest : List Step = drop c.row_of-count.result left in
-    let before = moment c.args.port.now.chip (g.W.ByteOut.held c.args.port.now.to) (g.R.ByteIn.ahead c.args.port.now.from) in
-    let now = moment c.loop-done.port.chip (g.W.ByteOut.held c.loop-done.port.to) (g.R.ByteIn.ahead c.loop-done.port.from) in
-    let after = moment c.follow_row.new.port.chip (g.W.ByteOut.held c.follow_row.new.port.to) (g.R.ByteIn.ahead c.follow_row.new.port.from) in
+    let before = moment_of c.args.port.now in
+    let now = moment_of c.loop-done.port in
+    let after = moment_of c.follow_row.new.port in
     let parts : steps ≡ front ++ (row ++ rest) =
     sym (ap (λ (l : List Step). front ++ l) (take-append-drop c.row_of-count.result left ∙ whole) ∙ take-append-drop c.loop-done.done steps) in
     let counted : c.loop-done.done + c.in-Err.halt.step ≡ length front + c.in-Err.halt.step =
     ap (λ n. n + c.in-Err.halt.step) (sym (length-take-le c.loop-done.done steps c.loop-done.invariant.within)) in
-    stops_in c.args.meaning.now c.args.port.now.limits c.args.port.now.turns before now after front row rest steps c.in-Err.halt.step
-    (c.loop-done.done + c.in-Err.halt.step) c.in-Err.halt.why parts counted c.loop-done.invariant.does
+    stops_in (rules_of c.args.port.now.limits c.args.port.now.turns c.args.meaning.now) before now after front row rest steps c.in-Err.halt
+    (c.loop-done.done + c.in-Err.halt.step) parts counted c.loop-done.invariant.does
     (same_bounds c.args.meaning.now c.args.port.now.limits c.loop-done.port.limits c.args.port.now.turns c.loop-done.port.turns now after row
-    c.in-Err.halt.step c.in-Err.halt.why c.loop-done.invariant.limits c.loop-done.invariant.turns c.in-Err.ensures.done)
+    c.in-Err.halt c.loop-done.invariant.limits c.loop-done.invariant.turns c.in-Err.ensures.done)
 
 pub returns-in-Err-clause-failures : goal.returns-in-Err-clause-failures
 returns-in-Err-clause-failures g c = (
@@ -107,9 +108,9 @@ loop-done-preserved g c =
     let whole : left ≡ drop c.loop-done.done steps = all_left_over c.loop-done.done steps in
     let row : List Step = take c.row_of-count.result left in
     let rest : List Step = drop c.row_of-count.result left in
-    let before = moment c.args.port.now.chip (g.W.ByteOut.held c.args.port.now.to) (g.R.ByteIn.ahead c.args.port.now.from) in
-    let now = moment c.loop-done.port.chip (g.W.ByteOut.held c.loop-done.port.to) (g.R.ByteIn.ahead c.loop-done.port.from) in
-    let after = moment c.follow_row.new.port.chip (g.W.ByteOut.held c.follow_row.new.port.to) (g.R.ByteIn.ahead c.follow_row.new.port.from) in
+    let before = moment_of c.args.port.now in
+    let now = moment_of c.loop-done.port in
+    let after = moment_of c.follow_row.new.port in
     let one = done_bounds c.args.port.now.limits c.loop-done.port.limits c.args.port.now.turns c.loop-done.port.turns now after row
     c.loop-done.invariant.limits c.loop-done.invariant.turns c.in_default.ensures.done in
     let few : c.row_of-count.result ≤ length left = c.row_of-count.ensures.within in

@@ -3,15 +3,16 @@ use Rattle.std.proofs.Common.{◌≡◌, ◌≤◌, ◌-◌, None, take, drop, l
 use Rattle.nor_progress.specs.Far.{HasRoom}
 use Rattle.nor_progress.specs.Come.{HasCome}
 use Rattle.norprog_device.specs.Blame.{CountsBoth}
-use Rattle.norprog_player.specs.Moment.{moment, DoesAll}
+use Rattle.norprog_player.specs.Moment.{DoesAll}
+use Rattle.norprog_player.specs.Port.{moment_of}
 use Rattle.norprog_player.proofs.FollowedLemmas.{GoesOn}
 use Rattle.norprog_player.proofs.follow.follow_steps.Given as goal
 
 abbrev pub invariant-loop-done : goal.invariant-loop-done
 invariant-loop-done g l = record {
   within : l.done ≤ length l.steps;
-  does : DoesAll l.fn.port.limits l.fn.port.turns (moment l.fn.port.chip (g.W.ByteOut.held l.fn.port.to) (g.R.ByteIn.ahead l.fn.port.from))
-      (take l.done l.steps) (moment l.port.chip (g.W.ByteOut.held l.port.to) (g.R.ByteIn.ahead l.port.from));
+  does : DoesAll l.fn.port.limits l.fn.port.turns (moment_of l.fn.port)
+      (take l.done l.steps) (moment_of l.port);
   rest : GoesOn l.fn.port.chip l.steps l.port.chip (drop l.done l.steps);
   fresh : l.port.reason ≡ None;
   count : l.port.failed ≡ l.fn.port.failed;

@@ -1,10 +1,10 @@
 -- The chip in memory is the one that the steps go well on; at the end the pins are released, unless a request was cut.
-use Rattle.std.proofs.Common.{◌≡◌, ◌∙◌, Bool, ap, refl}
+use Rattle.std.proofs.Common.{◌≡◌, ◌∙◌, ap, refl}
 use Rattle.nor_serprog.specs.declared.limits.Limits.{Limits}
 use Rattle.norprog_device.specs.Blame.{is_cut}
 use Rattle.norprog_player.specs.Blame.{fault_in}
-use Rattle.norprog_player.specs.Expected.{expectation_of}
-use Rattle.norprog_player.specs.Played.{play_of, shown_in}
+use Rattle.norprog_player.specs.Expected.{expectation_of, play_of}
+use Rattle.norprog_player.specs.Played.{shown_in}
 use Rattle.norprog_player.proofs.OpenedLemmas.{begun_by, begun_so, known_ends}
 use Rattle.norprog_player.proofs.played.play_on.Goals as goal
 
@@ -17,5 +17,5 @@ returns g c =
     let cut : c.is_cut.result ≡ is_cut (fault_in c.greet_and_play-ended.result) = rw c.is_cut.ensures (rw c.fault_in.ensures refl) in (
       _,
       known_ends p _ _ _ _ _ c.is_cut.result c.requires.may.0 undriven c.release_pins.ensures _ c.greet_and_play-ended.result c.new-port.ensures.limits.1
-          cut (begun_by _ _ _ p _ _ _ c.greet_and_play-ended.result begun (rw c.as_slice.ensures.value at c.greet_and_play-ended.ensures.ends)),
+          cut (begun_by _ _ _ p _ _ _ c.greet_and_play-ended.result begun refl (rw c.as_slice.ensures.value at c.greet_and_play-ended.ensures.ends)),
     )

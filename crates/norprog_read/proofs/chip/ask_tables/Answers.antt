@@ -1,11 +1,10 @@
 -- They came and are as the file's, there are none, or they weren't read.
-use Rattle.std.proofs.Common.{◌≡◌, ◌∙◌, ◌&&◌, Bool, true, false, ap, refl, sym, subst}
+use Rattle.std.proofs.Common.{◌≡◌, ◌∙◌, ◌&&◌, Bool, true, false, ap, refl, sym}
 use Rattle.nor_base.proofs.FaultLaws.{handed_on}
 use Rattle.nor_reader.specs.declared.tables.TablesFault.{TablesFault}
 use Rattle.nor_reader.specs.declared.tables.TablesFault.TheVariants.{Memory, NoSignature, Unread}
-use Rattle.nor_reader.specs.Tables.{StopsTables}
-use Rattle.norprog_read.specs.Chip.{is_uniform, is_unsigned, Come, GivesTables, Unsigned}
-use Rattle.norprog_read.specs.Stops.{DiffersFrom, Other, StopsAsked, Uncome}
+use Rattle.norprog_read.specs.Chip.{is_uniform, is_unsigned, Come, Unsigned}
+use Rattle.norprog_read.specs.Stops.{Other, StopsAsked, Uncome}
 use Rattle.norprog_read.proofs.chip.ask_tables.Goals as goal
 use Rattle.norprog_read.proofs.chip.ask_tables.Goals.{else-is_uniform-via-then-is_uniform+else-is_unsigned, else-is_uniform-via-else-is_uniform}
 
@@ -13,10 +12,8 @@ pub returns-in_err-compare_known-in-Ok-clause-stops : goal.returns-in_err-compar
 returns-in_err-compare_known-in-Ok-clause-stops g c =
     let why = c.in_err-compare_known-in-Ok.field-0.0 in
     let stops = c.in_err-compare_known-in-Ok.ensures.stops in
-    handed_on (StopsAsked c.args.limits.now.asked (g.W.ByteOut.held c.args.to.now) (g.W.ByteOut.held c.read_tables.new.to)
-    (g.R.ByteIn.ahead c.args.from.now) (g.R.ByteIn.ahead c.read_tables.new.from) c.args.ask.now.known c.args.id) _ why c.from_residual.ensures.1
-    (Other stops.0 c.in-Ok.tables.items why stops.1 c.in-Ok.ensures.tables
-    (subst (λ bytes. DiffersFrom bytes stops.0 why) c.as_slice.ensures.value stops.2))
+    handed_on (StopsAsked _ _ _ _ _) _ why c.from_residual.ensures.1
+    (Other stops.0 c.in-Ok.tables.items why stops.1 c.in-Ok.ensures.tables (rw c.as_slice.ensures.value at stops.2))
 
 pub returns-in_ok-compare_known-in-Ok-clause-tables : goal.returns-in_ok-compare_known-in-Ok-clause-tables
 returns-in_ok-compare_known-in-Ok-clause-tables g c = Come _ c.in-Ok.ensures.tables
@@ -33,14 +30,8 @@ none_signed (Unread why) is = cc
 
 pub returns-then-is_unsigned-clause-tables : goal.returns-then-is_unsigned-clause-tables
 returns-then-is_unsigned-clause-tables g c =
-    let most = c.args.limits.now.asked in
-    let h = g.W.ByteOut.held c.args.to.now in
-    let i = g.W.ByteOut.held c.read_tables.new.to in
-    let a = g.R.ByteIn.ahead c.args.from.now in
-    let b = g.R.ByteIn.ahead c.read_tables.new.from in
-    subst (GivesTables most h i a b c.args.ask.now.known) (sym c.new.ensures.items)
-    (Unsigned (sym c.is_uniform.ensures ∙ c.if-is_uniform.true)
-    (subst (StopsTables most h i a b) (none_signed c.in-Err.why (sym c.is_unsigned.ensures ∙ c.if-is_unsigned.true)) c.in-Err.ensures.tables))
+    let none = none_signed c.in-Err.why (sym c.is_unsigned.ensures ∙ c.if-is_unsigned.true) in
+    rw c.new.ensures.items (Unsigned (sym c.is_uniform.ensures ∙ c.if-is_uniform.true) (rw none at c.in-Err.ensures.tables))
 
 pub returns-else-is_uniform-clause-stops : goal.returns-else-is_uniform-clause-stops
 returns-else-is_uniform-clause-stops g c =

@@ -4,7 +4,7 @@ use Rattle.norprog_read.specs.End.{Alike, Lost, Other}
 use Rattle.norprog_read.proofs.end.see_end.Goals as goal
 
 pub returns-then-repeats-clause-stops : goal.returns-then-repeats-clause-stops
-returns-then-repeats-clause-stops g c = Alike refl refl c.if-not-ask.true (c.repeats.ensures.0 c.if-repeats.true)
+returns-then-repeats-clause-stops g c = Alike refl c.if-not-ask.true (c.repeats.ensures.0 c.if-repeats.true)
 
 pub returns-in-Err-Exchange-clause-stops : goal.returns-in-Err-Exchange-clause-stops
 returns-in-Err-Exchange-clause-stops g c =

@@ -1,0 +1,11 @@
+pub mod Words
+pub mod Number
+pub mod Limits
+pub mod Said
+pub mod Line
+pub mod Sheet
+pub mod View
+pub mod Opcodes
+pub mod Meaning
+pub mod Text
+pub mod Laws
