@@ -9,7 +9,7 @@ use Rattle.std.proofs.lemmas.Bool.{cases_lt}
 use Rattle.std.proofs.lemmas.Grind.{same_number_lists}
 use Rattle.std.proofs.lemmas.List.{take-append-le}
 use Rattle.std.proofs.lemmas.List.FromFn.{length-map-range_with_len, get_or-map-range_with_len}
-use Rattle.nor_base.specs.Device.{Ahead, Unknown, Finite, Endless, Gives, first_of, Cuts, Writes}
+use Rattle.nor_base.specs.Device.{Ahead, Unknown, Finite, Endless, Gives, first_of, Cuts, Writes, one_more, raised}
 
 pub Appends-append : (a b c : Option (List ℕ)) (xs ys : List ℕ) → Appends a b xs → Appends b c ys → Appends a c (xs ++ ys)
 Appends-append None b c xs ys p q = tt
@@ -124,3 +124,13 @@ first_in_parts (Endless a) (Finite b) bytes content n p h = absurd p
 first_in_parts (Endless a) (Endless b) bytes content n p h =
     let whole : map a (range_with_len 0 (length bytes + n)) ≡ content = cc in
     (map b (range_with_len 0 n), refl, sym whole ∙ first_of_endless a b bytes n p)
+
+-- a count that has risen isn't 0
+pub risen_some : (before after : ℕ) → after ≡ one_more before → 0 < after
+unfolding one_more
+risen_some before after h = omega (arith, h)
+
+-- and one that is 0 still hasn't risen
+pub never_raised : (times : ℕ) → 0 ≡ raised 0 times → times ≡ 0
+never_raised zero h = refl
+never_raised (suc k) h = absurd (let some = risen_some 0 0 h in omega (arith, some))

@@ -1,9 +1,8 @@
 -- What the lanes do at a symbol is what they do at its clock.
-use Rattle.std.proofs.Common.{◌≡◌, ℕ, ◌-◌, ◌<◌, ◌≤◌, ◌==◌, nat_le, Bool, true, false, cond, ◌&&◌, if◌then◌else◌, List, [], ◌∷◌, Option, Some, None, option_map, refl, sym, ◌∙◌, ap, subst, arith, eqb-true, inl, inr}
+use Rattle.std.proofs.Common.{◌≡◌, ℕ, ◌<◌, ◌≤◌, ◌==◌, nat_le, Bool, true, false, ◌&&◌, Option, Some, None, option_map, refl, sym, ◌∙◌, ap, arith, eqb-true, inl, inr}
 use Rattle.std.specs.Prelude.{nat_lt, is_some}
-use Rattle.std.specs.List.{find}
 use Rattle.std.proofs.Math.Bool.{and-false}
-use Rattle.std.proofs.lemmas.Bool.{agree_below, agree_below_at, and_parts, false_from_ne_true, ltb-true, lt-leb, cases_lt}
+use Rattle.std.proofs.lemmas.Bool.{agree_below_at, and_parts, false_from_ne_true, ltb-true, lt-leb, cases_lt}
 use Rattle.nor_base.specs.declared.clock.Clock.{Clock}
 use Rattle.nor_base.specs.declared.clock.Sample.{Sample}
 use Rattle.nor_base.specs.Sample.{symbol, sample, clocks, clock_at, sample_at, is_symbol}

@@ -1,5 +1,5 @@
 -- What is known of the bytes of a device (this project's).
-use Rattle.std.specs.Prelude.{◌≡◌, ◌≤◌, ◌<◌, ◌-◌, ◌^◌, ℕ, zero, suc, ◌+◌, IsErr, List, [], ◌++◌, length, take, map, slice_index, Option, Some, None, Result, Ok, Err, ⊤}
+use Rattle.std.specs.Prelude.{◌≡◌, ◌≤◌, ◌<◌, ◌-◌, ◌^◌, ℕ, zero, suc, ◌+◌, min, IsErr, List, [], ◌++◌, length, take, map, slice_index, Option, Some, None, Result, Ok, Err, ⊤}
 use Rattle.std.specs.List.{range_with_len}
 use Rattle.std.specs.Io.KnownBytes.{Appends}
 use Rattle.nor_base.specs.declared.device.Failed.{Failed}
@@ -42,10 +42,19 @@ abbrev pub Puts : Option (List ℕ) → Option (List ℕ) → Result ℕ Failed 
 Puts before after (Ok n) bytes = (0 < n) × (n ≤ length bytes) × Appends before after (take n bytes)
 Puts before after (Err failed) bytes = Appends before after []
 
+-- a count of failures once more: it stops at 2^64 - 1
+unfoldable pub one_more : ℕ → ℕ
+one_more n = min (n + 1) (2 ^ 64 - 1)
+
+-- a count of failures, once more where there was one
+abbrev pub raised : ℕ → ℕ → ℕ
+raised before zero = before
+raised before (suc k) = one_more before
+
 -- a count of failures rises by one exactly where Failed is answered
 abbrev pub Counts : {T : Type 0} → ℕ → ℕ → Result T Failed → Type 0
 Counts before after (Ok x) = after ≡ before
-Counts before after (Err failed) = after ≡ before + 1
+Counts before after (Err failed) = after ≡ one_more before
 
 -- a proper prefix of a byte string was taken
 abbrev pub Cuts : Option (List ℕ) → Option (List ℕ) → List ℕ → Type 0
@@ -69,9 +78,5 @@ ahead_of (Some bytes) = Finite bytes
 
 -- what a standard write of so many bytes is to a device: a failure where it took none
 abbrev pub CountsWrite : ℕ → ℕ → ℕ → Result ℕ Failed → Type 0
-CountsWrite before after zero result = IsErr result × (after ≡ before + 1)
+CountsWrite before after zero result = IsErr result × (after ≡ one_more before)
 CountsWrite before after (suc taken) result = (result ≡ Ok (suc taken)) × (after ≡ before)
-
--- a reader and a writer that have failed so often: one more failure of each can be counted
-abbrev pub HaveRoom : ℕ → ℕ → Type 0
-HaveRoom reads writes = (reads < 2 ^ 64 - 1) × (writes < 2 ^ 64 - 1)

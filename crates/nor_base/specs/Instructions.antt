@@ -4,7 +4,7 @@
 use Rattle.std.specs.Prelude.{◌≡◌, ℕ, Bool, true, false, ◌&&◌, ◌==◌, if◌then◌else◌, List, [], ◌∷◌, ◌++◌, flat_map, Option, is_some, option_and_then, Contains, find}
 use Rattle.std.specs.Option.{option_map_or}
 use Rattle.nor_base.specs.declared.instruction.What.{What}
-use Rattle.nor_base.specs.declared.instruction.What.TheVariants.{Enable, Disable, Status, Enter, Leave, Erase, Program, QuadProgram, Read, QuadRead, Broken}
+use Rattle.nor_base.specs.declared.instruction.What.TheVariants.{Enable, Disable, Status, Enter, Leave, Erase, Program, QuadProgram, Read, QuadRead}
 use Rattle.nor_base.specs.declared.meaning.Switch.{Switch}
 use Rattle.nor_base.specs.declared.meaning.Switch.TheVariants.{Absent}
 use Rattle.nor_base.specs.Parameters.{Parameters, erase_kind, is_live}

@@ -1,5 +1,6 @@
 -- What a device that shows a chip answers.
-use Rattle.std.specs.Prelude.{◌≡◌, ℕ, ◌+◌, List, Result, Ok, Err, ⊤}
+use Rattle.std.specs.Prelude.{◌≡◌, ℕ, List, Result, Ok, Err, ⊤}
+use Rattle.nor_base.specs.Device.{one_more}
 use Rattle.nor_base.specs.declared.wrong.PortFault.{PortFault}
 use Rattle.nor_base.specs.declared.wrong.PortFault.TheVariants as fault
 use Rattle.nor_base.specs.Chip.{Setting, Chip}
@@ -23,4 +24,4 @@ Transacts before after (Err fault.Failed) clocks out = ⊤
 abbrev pub CountsTransact : ℕ → ℕ → Result (Unit {0}) PortFault → Type 0
 CountsTransact before after (Ok u) = after ≡ before
 CountsTransact before after (Err (fault.Wrong why)) = after ≡ before
-CountsTransact before after (Err fault.Failed) = after ≡ before + 1
+CountsTransact before after (Err fault.Failed) = after ≡ one_more before

@@ -1,5 +1,5 @@
 -- Which steps a script may have (this project's).
-use Rattle.std.specs.Prelude.{◌≡◌, ℕ, Bool, false, true, ◌&&◌, List, [], ◌∷◌}
+use Rattle.std.specs.Prelude.{◌≡◌, ℕ, Bool, false, true, ◌&&◌, List, []}
 use Rattle.std.specs.List.{list_all}
 use Rattle.nor_base.specs.declared.step.Step.{Step}
 use Rattle.nor_base.specs.declared.step.Step.TheVariants.{Send, Poll, Verify}

@@ -1,12 +1,13 @@
 //! Devices that give and take bytes: the content of a chip comes through a [`ByteIn`], a script
 //! goes out through a [`ByteOut`].
 
-ghost use Rattle.std.specs.Prelude.{◌≡◌, ◌<◌, ◌^◌, ◌-◌, ℕ, Option, List, length};
+ghost use Rattle.std.specs.Prelude.{◌≡◌, ◌<◌, ℕ, Option, List, length};
 ghost use Rattle.nor_base.specs.Device.{Ahead, Takes, Puts, Counts};
 
 use thiserror::Error;
 
-/// A device failed. It says nothing of how: the device's own count of failures has risen by one.
+/// A device failed. It says nothing of how: the device's own count of failures has risen by one,
+/// unless it stood at 2^64 - 1, where it stays.
 #[derive(Clone, Copy, Debug, PartialEq, Eq, Drop, Error)]
 #[error("the device failed")]
 pub struct Failed;
@@ -24,7 +25,6 @@ pub trait ByteIn {
     ///
     /// `Failed` took none, and the count of failures rose by one.
     fn take(&mut self, out: &mut [u8]) -> Result<usize, Failed>
-        requires { count self.old < 2 ^ 64 - 1 }
         ensures bytes { Takes (ahead self.old) (ahead self.new) result out.new }
         ensures count { Counts (count self.old) (count self.new) result };
 
@@ -47,7 +47,6 @@ pub trait ByteOut {
     /// `Failed` took none, and the count of failures rose by one.
     fn put(&mut self, bytes: &[u8]) -> Result<usize, Failed>
         requires some { 0 < length bytes.now }
-        requires room { count self.old < 2 ^ 64 - 1 }
         ensures bytes { Puts (held self.old) (held self.new) result bytes.now }
         ensures count { Counts (count self.old) (count self.new) result };
 

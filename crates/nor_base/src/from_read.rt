@@ -1,6 +1,7 @@
 //! Standard readers as devices.
 
-ghost use Rattle.std.specs.Prelude.{◌≡◌, ◌<◌, ◌+◌, ◌-◌, ◌^◌, IsErr, MatchResult};
+ghost use Rattle.std.specs.Prelude.{◌≡◌, IsErr, MatchResult};
+ghost use Rattle.nor_base.specs.Device.{one_more};
 
 use crate::device::{ByteIn, Failed};
 use std::io::{self, Read};
@@ -49,15 +50,15 @@ impl<R: Read + Drop> ByteIn for FromRead<R> {
 }
 
 /// Any error is a failure, and is counted once.
+#[tactic(auto, unfolding(crate::specs::Device::one_more))]
 fn counted(answer: io::Result<usize>, failed: &mut u64) -> Result<usize, Failed>
-    requires { failed.old < 2 ^ 64 - 1 }
     ensures { MatchResult answer (λ given. (result ≡ Ok given) × (failed.new ≡ failed.old))
-        (λ error. IsErr result × (failed.new ≡ failed.old + 1)) }
+        (λ error. IsErr result × (failed.new ≡ one_more failed.old)) }
 {
     match answer {
         Ok(given) => Ok(given),
         Err(_) => {
-            *failed += 1;
+            *failed = failed.saturating_add(1);
             Err(Failed)
         }
     }

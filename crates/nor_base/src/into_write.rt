@@ -1,7 +1,7 @@
 //! Standard writers as devices.
 
-ghost use Rattle.std.specs.Prelude.{◌≡◌, ◌<◌, ◌+◌, ◌-◌, ◌^◌, IsErr, MatchResult};
-ghost use Rattle.nor_base.specs.Device.{CountsWrite};
+ghost use Rattle.std.specs.Prelude.{◌≡◌, IsErr, MatchResult};
+ghost use Rattle.nor_base.specs.Device.{CountsWrite, one_more};
 
 use crate::device::{ByteOut, Failed};
 use std::io::{self, Write};
@@ -49,15 +49,15 @@ impl<W: Write + Drop> ByteOut for IntoWrite<W> {
 }
 
 /// Any error is a failure, and so is a write of no bytes; each is counted once.
+#[tactic(auto, unfolding(crate::specs::Device::one_more))]
 fn counted(answer: io::Result<usize>, failed: &mut u64) -> Result<usize, Failed>
-    requires { failed.old < 2 ^ 64 - 1 }
     ensures { MatchResult answer (λ taken. CountsWrite failed.old failed.new taken result)
-        (λ error. IsErr result × (failed.new ≡ failed.old + 1)) }
+        (λ error. IsErr result × (failed.new ≡ one_more failed.old)) }
 {
     match answer {
         Ok(taken) if taken > 0 => Ok(taken),
         _ => {
-            *failed += 1;
+            *failed = failed.saturating_add(1);
             Err(Failed)
         }
     }

@@ -1,6 +1,6 @@
 //! Whole byte strings through devices that move any number of bytes at a call.
 
-ghost use Rattle.std.specs.Prelude.{◌<◌, ◌^◌, ◌-◌, flat_map};
+ghost use Rattle.std.specs.Prelude.{flat_map};
 ghost use Rattle.nor_base.specs.Device.{Writes, Fills, Counts};
 
 use crate::device::{ByteIn, ByteOut, Failed};
@@ -10,7 +10,6 @@ use crate::device::{ByteIn, ByteOut, Failed};
 /// At `Failed` a proper prefix was taken. It comes only from the writer, whose count of failures
 /// rose by one.
 pub fn put_all<W: ByteOut>(writer: &mut W, bytes: &[u8]) -> Result<(), Failed>
-    requires { W.count writer.old < 2 ^ 64 - 1 }
     ensures bytes { Writes (W.held writer.old) (W.held writer.new) result bytes.now }
     ensures count { Counts (W.count writer.old) (W.count writer.new) result }
 {
@@ -26,7 +25,6 @@ pub fn put_all<W: ByteOut>(writer: &mut W, bytes: &[u8]) -> Result<(), Failed>
 /// At `Failed` a proper prefix of the parts joined was taken. It comes only from the writer, whose
 /// count of failures rose by one.
 pub fn put_parts<W: ByteOut>(writer: &mut W, parts: &[&[u8]]) -> Result<(), Failed>
-    requires { W.count writer.old < 2 ^ 64 - 1 }
     ensures bytes { Writes (W.held writer.old) (W.held writer.new) result
         (flat_map (λ part. part.now) parts.now) }
     ensures count { Counts (W.count writer.old) (W.count writer.new) result }
@@ -43,7 +41,6 @@ pub fn put_parts<W: ByteOut>(writer: &mut W, parts: &[&[u8]]) -> Result<(), Fail
 /// At `Failed` fewer than the buffer has room for came. It comes only from the reader, whose count
 /// of failures rose by one.
 pub fn fill_from<R: ByteIn>(reader: &mut R, buffer: &mut [u8]) -> Result<usize, Failed>
-    requires { R.count reader.old < 2 ^ 64 - 1 }
     ensures bytes { Fills (R.ahead reader.old) (R.ahead reader.new) result buffer.new }
     ensures count { Counts (R.count reader.old) (R.count reader.new) result }
 {

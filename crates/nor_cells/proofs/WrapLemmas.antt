@@ -1,13 +1,12 @@
 -- The bytes by which a smaller chip shows.
-use Rattle.std.proofs.Common.{◌≡◌, Bool, ℕ, ◌+◌, ◌*◌, ◌%◌, ◌^◌, ◌<◌, ◌≤◌, ◌⊎◌, inl, inr, List, length, refl, sym, ◌∙◌, ap, subst, arith}
-use Rattle.std.specs.Prelude.{slice_index}
+use Rattle.std.proofs.Common.{◌≡◌, Bool, ℕ, ◌+◌, ◌*◌, ◌%◌, ◌^◌, ◌<◌, ◌≤◌, ◌⊎◌, inl, inr, List, length, ◌∙◌, ap, subst, arith}
 use Rattle.std.proofs.Math.Nat.{pow-le-pow_right}
 use Rattle.std.proofs.lemmas.Bool.{cases_lt}
 use Rattle.std.proofs.lemmas.Nat.{pow_below}
 use Rattle.nor_cells.specs.Marks.{MarkedBy}
 use Rattle.nor_cells.specs.Touched.{LiesBetween}
-use Rattle.nor_cells.specs.Wrap.{IsFirstUnlike, Repeats, TellsApart, ShowsWrap}
-use Rattle.nor_cells.proofs.TouchedLemmas.{none_marked, marked_alike, marked_then}
+use Rattle.nor_cells.specs.Wrap.{IsFirstUnlike, TellsApart, ShowsWrap}
+use Rattle.nor_cells.proofs.TouchedLemmas.{marked_alike, marked_then}
 
 -- there is one such address at most
 pub one_unlike : (content : List ℕ) (far a b : ℕ) → IsFirstUnlike content far a → IsFirstUnlike content far b → a ≡ b
@@ -15,11 +14,6 @@ one_unlike content far a b one other = elim (cases_lt a b) [
   | inl below ↦ absurd (one.unlike (other.alike a below))
   | inr past ↦ elim (cases_lt b a) [ inl above ↦ absurd (other.unlike (one.alike b above)) | inr same ↦ omega (arith, past, same) ]
 ]
-
--- and none where each byte is the one so far on
-pub none_unlike : (content : List ℕ) (far : ℕ) (marks : List Bool) → Repeats content far → MarkedBy (TellsApart content far) marks marks
-none_unlike content far marks all = none_marked (TellsApart content far) marks
-    (λ a h. elim h [ inl first ↦ first.unlike (all a first.within) | inr other ↦ other.1.unlike (all other.0 other.1.within) ])
 
 -- both bytes are marked
 pub both_marked : (content : List ℕ) (far at : ℕ) (old now new : List Bool) → IsFirstUnlike content far at → MarkedBy (LiesBetween at (at + 1)) old now
@@ -40,9 +34,6 @@ both_marked content far at old now new first one other =
 -- the sizes so far
 abbrev pub ShowsWrapBelow : List ℕ → ℕ → ℕ → Type 0
 ShowsWrapBelow content below a = (k : ℕ) × (12 ≤ k) × (k < below) × TellsApart content (2 ^ k) a
-
-pub wrap_none : (content : List ℕ) (marks : List Bool) → MarkedBy (ShowsWrapBelow content 12) marks marks
-wrap_none content marks = none_marked (ShowsWrapBelow content 12) marks (λ a h. absurd (omega (arith, h.1, h.2)))
 
 pub wrap_next : (content : List ℕ) (k : ℕ) (old now new : List Bool) → 12 ≤ k → MarkedBy (ShowsWrapBelow content k) old now
     → MarkedBy (TellsApart content (2 ^ k)) now new → MarkedBy (ShowsWrapBelow content (k + 1)) old new

@@ -3,13 +3,12 @@ use Rattle.std.proofs.Common.{◌≡◌, ℕ, zero, suc, ◌+◌, ◌<◌, ◌�
 use Rattle.std.specs.Prelude.{slice_set}
 use Rattle.std.proofs.lemmas.Bool.{cases_lt, lt-ltb, le-ltb}
 use Rattle.std.proofs.lemmas.List.{drop_more, take_more_set, drop-set-lt}
-use Rattle.std.proofs.Math.ListN.{drop_of_length-le}
 use Rattle.nor_base.specs.declared.step.Step.{Step}
 use Rattle.nor_base.specs.declared.wrong.Wrong.{Wrong}
 use Rattle.nor_check.specs.Order.{rank_of}
 use Rattle.nor_check.specs.Chips.{Kind, Together}
 use Rattle.nor_check.specs.Judged.{StepsAll, all_step}
-use Rattle.nor_check.specs.Pages.{StepsEach, each_step, first_cause, first_of, joined}
+use Rattle.nor_check.specs.Pages.{each_step, first_cause, first_of, joined}
 
 -- the answer to a step of the first of them, and the first as they are then, before the others
 abbrev pub in_front : Result (Unit {0}) Wrong → List Together → Result (List Together) Wrong → Result (List Together) Wrong
@@ -90,10 +89,3 @@ take_whole (t ∷ ts) (suc i) all = ap (λ l. t ∷ l) (take_whole ts i (omega a
 
 take_all : (items : List Together) (i : ℕ) → length items ≤ i → take i items ++ [] ≡ items
 take_all items i all = append-nil (take i items) ∙ take_whole items i all
-
-pub all_moved : (before : List Together) (own : Together) (items : List Together) (i : ℕ) (x : Step) (a : Result (Unit {0}) Wrong) → length items ≤ i
-    → each_step before x ≡ in_front a (own ∷ take i items) (each_step (drop i items) x) → StepsEach before (own ∷ items) a x
-all_moved before own items i x (Ok u) all h =
-    h ∙ ap (λ l. in_front (Ok u) (own ∷ take i items) (each_step l x)) (drop_of_length-le items all) ∙ ap (λ l. Ok (own ∷ l)) (take_all items i all)
-all_moved before own items i x (Err cause) all h =
-    h ∙ ap (λ l. in_front (Err cause) (own ∷ take i items) (each_step l x)) (drop_of_length-le items all)

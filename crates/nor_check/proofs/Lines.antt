@@ -9,10 +9,6 @@ abbrev pub NotBelow : {A : Type 0} → ℕ → Result A Wrong → Type 0
 NotBelow n (Ok x) = Unit {0}
 NotBelow n (Err v) = n ≤ rank_of v
 
-pub zero_below : {A : Type 0} (r : Result A Wrong) → NotBelow 0 r
-zero_below (Ok x) = tt
-zero_below (Err v) = omega arith
-
 line_takes : {A B : Type 0} (b c : Bool) (v : Wrong) (rest : Result A Wrong) (other : Result B Wrong) (x : A) (y : B) → (c ≡ true → b ≡ true)
     → (rest ≡ Ok x → other ≡ Ok y) → (if b then Err v else rest) ≡ Ok x → (if c then Err v else other) ≡ Ok y
 line_takes true c v rest other x y only more h = cc

@@ -142,14 +142,6 @@ size_on size own (q ∷ pages) same = (same, size_on size own pages same)
 pub size_each : (size : ℕ) (own : Together) → size ≡ own.kind.meaning.size → HaveSize size (on_each own)
 size_each size own same = size_on size own (pages_of own.kind.meaning) same
 
-pub own_size : (size : ℕ) (b : Bool) (own : Together) (rest : List Together) → HaveSize size (page_by_page b own rest) → size ≡ own.kind.meaning.size
-own_size size true own rest have = have.0
-own_size size false own rest have = have.0
-
-pub rest_size : (size : ℕ) (b : Bool) (own : Together) (rest : List Together) → b ≡ false → HaveSize size (page_by_page b own rest) → HaveSize size rest
-rest_size size true own rest apart have = cc
-rest_size size false own rest apart have = have.1
-
 -- by what stands for all
 pub view_step : (b : Bool) (own after : Together) (rest now : List Together) (x : Step) (r : Result (Unit {0}) Wrong) → b ≡ true → page_by_page b own rest ≡ now
     → IsAccepted own.kind.meaning → own.kind.page ≡ own.kind.meaning.page → tells_apart own.kind.meaning own.chips.mode4 x ≡ false → StepsAll own after r x

@@ -1,5 +1,5 @@
 -- The page that shows a verdict, fed step by step.
-use Rattle.std.proofs.Common.{◌≡◌, ℕ, zero, suc, ◌+◌, ◌<◌, ◌≤◌, ◌==◌, Bool, true, false, not, if◌then◌else◌, List, [], ◌∷◌, ◌++◌, length, get_or, drop, map, Option, Some, None, Result, Ok, Err, refl, sym, ◌∙◌, ap, arith, subst, inl, inr, eq-eqb}
+use Rattle.std.proofs.Common.{◌≡◌, ℕ, zero, suc, ◌+◌, ◌<◌, ◌≤◌, ◌==◌, Bool, true, false, not, if◌then◌else◌, List, [], ◌∷◌, length, get_or, drop, map, Option, Some, None, Result, Ok, Err, refl, sym, ◌∙◌, ap, arith, subst, inl, inr, eq-eqb}
 use Rattle.std.specs.Prelude.{slice_set, is_some}
 use Rattle.std.proofs.lemmas.Bool.{and_parts, or_left}
 use Rattle.std.proofs.lemmas.List.{drop_more, drop-set-lt, drop-drop}
@@ -23,16 +23,6 @@ use Rattle.nor_check.specs.Pages.{IsOneOf, IsRefusedBy, IsToldBy, IsJudgedBy, St
 use Rattle.nor_check.specs.Fed.{Fed, IsShown, IsShownBy, after_steps, reads_after, reached, to_come, verdict_at}
 use Rattle.nor_check.specs.Witness.{in_a_row, is_status_read, reads_from, reads_before, Witnesses}
 use Rattle.nor_check.proofs.Shows.{on_page}
-
--- one of the first of some, or of the others
-first_of_both : (t : Together) (xs ys : List Together) → IsOneOf t xs → IsOneOf t (xs ++ ys)
-first_of_both t [] ys h = absurd h
-first_of_both t (u ∷ us) ys (inl here) = inl here
-first_of_both t (u ∷ us) ys (inr there) = inr (first_of_both t us ys there)
-
-second_of_both : (t : Together) (xs ys : List Together) → IsOneOf t ys → IsOneOf t (xs ++ ys)
-second_of_both t [] ys h = h
-second_of_both t (u ∷ us) ys h = inr (second_of_both t us ys h)
 
 -- one of the rest of some is one of them
 of_rest : (t : Together) (xs : List Together) (i : ℕ) → IsOneOf t (drop i xs) → IsOneOf t xs

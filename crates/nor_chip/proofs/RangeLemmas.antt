@@ -1,5 +1,5 @@
 -- What lies on the chip.
-use Rattle.std.proofs.Common.{◌≡◌, ℕ, ◌+◌, ◌-◌, ◌*◌, ◌/◌, ◌%◌, ◌^◌, ◌<◌, ◌≤◌, ◌==◌, nat_le, nat_lt, Bool, true, false, ◌&&◌, ◌||◌, Option, Some, None, option_map, refl, sym, ◌∙◌, ap, subst, arith, inl, inr, eqb-true, eq-eqb}
+use Rattle.std.proofs.Common.{◌≡◌, ℕ, ◌+◌, ◌-◌, ◌*◌, ◌/◌, ◌%◌, ◌^◌, ◌<◌, ◌≤◌, ◌==◌, nat_le, nat_lt, Bool, true, false, ◌&&◌, ◌||◌, Option, Some, None, option_map, refl, sym, ◌∙◌, ap, subst, arith, inl, inr, eqb-true}
 use Rattle.std.specs.List.{list_any}
 use Rattle.std.specs.Option.{option_map_or}
 use Rattle.std.proofs.lemmas.Bool.{and_parts, cases_lt, leb-false, ltb-false, not-false, or_cases, or_parts}
@@ -42,9 +42,6 @@ page_is_power m page accepted may = elim (or_cases (page == m.page) _ may) [
   | inl own ↦ subst (IsPowerOfTwo 4 12) (sym (eqb-true page m.page own)) accepted.page
   | inr larger ↦ page_size_is_power page (and_parts (nat_le m.page page) _ (and_parts m.open_page _ larger).1).1
 ]
-
-pub may_own_page : (m : Parameters) → may_page m m.page ≡ true
-may_own_page m = rw (eq-eqb m.page m.page refl) refl
 
 pub page_not_empty : (page : ℕ) → IsPowerOfTwo 4 12 page → 0 < page
 page_not_empty page e = subst (λ n. 0 < n) (sym e.value) (pow_pos e.exponent)

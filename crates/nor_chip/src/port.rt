@@ -1,6 +1,6 @@
 //! What a device that shows a chip promises.
 
-ghost use Rattle.std.specs.Prelude.{◌≡◌, ◌<◌, ◌^◌, ◌-◌, ℕ, length};
+ghost use Rattle.std.specs.Prelude.{◌≡◌, ℕ, length};
 ghost use Rattle.nor_base.specs.Sample.{sampled_count};
 ghost use Rattle.nor_base.specs.Chip.{is_settled};
 ghost use Rattle.nor_base.specs.Port.{Shown, Transacts, CountsTransact};
@@ -27,7 +27,6 @@ pub trait Port {
     /// device failed, and nothing is promised of the chip.
     fn transact(&mut self, clocks: &[u8], out: &mut [u8]) -> Result<(), PortFault>
         requires out { length out.old ≡ sampled_count clocks.now }
-        requires room { count self.old < 2 ^ 64 - 1 }
         ensures effect { Transacts (shown self.old) (shown self.new) result clocks.now out.new }
         ensures count { CountsTransact (count self.old) (count self.new) result }
         ensures asked { AsksMore (asked self.old) (asked self.new) 1 };

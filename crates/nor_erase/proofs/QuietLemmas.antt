@@ -1,12 +1,11 @@
 -- Bytes side by side of which none is due.
-use Rattle.std.proofs.Common.{◌≡◌, ℕ, zero, suc, ◌+◌, ◌-◌, ◌<◌, ◌≤◌, Bool, true, false, not, ◌&&◌, ◌||◌, ◌==◌, eqb, List, [], ◌∷◌, length, get_or, refl, sym, ◌∙◌, ap, arith, eqb-true, inl, inr}
-use Rattle.std.specs.Int.Bits.{and_self}
+use Rattle.std.proofs.Common.{◌≡◌, ℕ, zero, suc, ◌+◌, ◌-◌, ◌<◌, ◌≤◌, Bool, false, ◌||◌, List, [], ◌∷◌, length, get_or, refl, sym, ◌∙◌, ap, arith, inl, inr}
 use Rattle.std.specs.Simd.Lanes.{chunk}
 use Rattle.std.proofs.lemmas.Bool.{or_parts, cases_lt}
 use Rattle.std.proofs.lemmas.Simd.{length-chunk, get_or-chunk}
 use Rattle.nor_base.specs.Parameters.{Parameters}
 use Rattle.nor_base.specs.Need.{is_due}
-use Rattle.nor_erase.specs.Bytes.{raises_bit, is_kept, is_due_over, any_pair}
+use Rattle.nor_erase.specs.Bytes.{is_due_over, any_pair}
 
 none_in : (test : ℕ → ℕ → Bool) (xs ys : List ℕ) (k : ℕ) → any_pair test (xs, ys) ≡ false → k < length xs → k < length ys
     → test (get_or xs k 0) (get_or ys k 0) ≡ false
@@ -41,15 +40,3 @@ same_any : (f g : ℕ → ℕ → Bool) → ((x y : ℕ) → f x y ≡ g x y) �
 same_any f g same [] ys = refl
 same_any f g same (x ∷ xs) [] = refl
 same_any f g same (x ∷ xs) (y ∷ ys) = ap (λ b. b || any_pair f (xs, ys)) (same x y) ∙ ap (λ b. g x y || b) (same_any f g same xs ys)
-
-rises_if : (x y : ℕ) (b : Bool) → eqb x y ≡ b → raises_bit x y ≡ (not b && raises_bit x y)
-rises_if x y false is = refl
-rises_if x y true is =
-    let same : x ≡ y = eqb-true x y is in
-    ap (λ n. raises_bit n y) same ∙ ap (λ n. not (n == y)) (and_self y) ∙ ap (λ b. not b) (ap (λ n. n == y) (sym same) ∙ is)
-
-pub due_by_rise : (m : Parameters) (xs ys : List ℕ) → m.erased_only ≡ false → any_pair raises_bit (xs, ys) ≡ any_pair (is_due_over m) (xs, ys)
-due_by_rise m xs ys is = rw is (same_any raises_bit (λ x y. not (eqb x y) && raises_bit x y) (λ x y. rises_if x y (eqb x y) refl) xs ys)
-
-pub due_by_kept : (m : Parameters) (xs ys : List ℕ) → m.erased_only ≡ true → any_pair is_kept (xs, ys) ≡ any_pair (is_due_over m) (xs, ys)
-due_by_kept m xs ys is = rw is refl

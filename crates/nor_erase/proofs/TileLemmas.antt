@@ -130,9 +130,6 @@ pub record IsTiledTo (m : Parameters) (by : Strategy) (low high start : ℕ) (be
   pub added : now ≡ before ++ map unit.Block blocks
   pub goes_on : (rest : List Block) → IsTiling m by start high rest → IsTiling m by low high (blocks ++ rest)
 
-pub none_tiled : (m : Parameters) (by : Strategy) (low high : ℕ) (before : List PlanUnit) → IsTiledTo m by low high low before before
-none_tiled m by low high before = record { blocks = []; added = sym (append-nil before); goes_on = λ rest h. h }
-
 pub one_tiled : (m : Parameters) (by : Strategy) (low high start : ℕ) (before now items : List PlanUnit) (b : Block) → IsTiledTo m by low high start before now
     → IsLargestAt m by start high b → items ≡ now ++ unit.Block b ∷ [] → IsTiledTo m by low high (start + b.size) before items
 one_tiled m by low high start before now items b t largest is = record {
@@ -162,9 +159,6 @@ pub record ArePaged (have want : List ℕ) (at page low high start : ℕ) (befor
   pub upto : low + count * page ≡ start
   pub within : start ≤ high
   pub added : now ≡ before ++ flat_map (page_if have want at page) (pages page low count)
-
-pub none_paged : (have want : List ℕ) (at page low high : ℕ) (before : List PlanUnit) → low ≤ high → ArePaged have want at page low high low before before
-none_paged have want at page low high before rises = record { count = 0; upto = omega arith; within = rises; added = sym (append-nil before) }
 
 pages_end : (page n at : ℕ) → pages page at (suc n) ≡ pages page at n ++ (at + n * page) ∷ []
 pages_end page zero at = let same : at ≡ at + 0 * page = omega arith in ap (λ a. a ∷ []) same

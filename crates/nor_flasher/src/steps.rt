@@ -1,8 +1,7 @@
 //! Steps done by a device.
 
-ghost use Rattle.std.specs.Prelude.{◌≡◌, ◌≤◌, ◌<◌, ◌+◌, ◌-◌, ◌^◌, ◌↔◌, length, All, IsTrue};
+ghost use Rattle.std.specs.Prelude.{◌↔◌, length, All, IsTrue};
 ghost use Rattle.std.specs.Prelude.{MatchResult};
-ghost use Rattle.nor_base.specs.Device.{HaveRoom};
 ghost use Rattle.nor_serprog.specs.declared.fault.Fault.TheVariants.{Read, Write};
 ghost use Rattle.nor_serprog.specs.Done.{IsDoable, HasDoneAll};
 ghost use Rattle.nor_progress.specs.Text.{Reports};
@@ -34,8 +33,6 @@ pub fn do_steps<R: ByteIn, W: ByteOut, P: ByteOut>(
     progress: &mut P,
 ) -> Result<(), Halt>
     requires form { All IsDoable steps.now }
-    requires room { HaveRoom (R.count from.old) (W.count to.old) }
-    requires told { P.count progress.old < 2 ^ 64 - 1 }
     ensures done { MatchResult result
         (λ _. HasDoneAll (W.held to.old) (W.held to.new) (R.ahead from.old) (R.ahead from.new)
         limits.now turns steps.now)
@@ -50,8 +47,7 @@ pub fn do_steps<R: ByteIn, W: ByteOut, P: ByteOut>(
         (P.count progress.old)
         (P.count progress.new)) }
     ensures counts { CountsHalt Read (R.count from.old) (R.count from.new) result
-        × CountsHalt Write (W.count to.old) (W.count to.new) result
-        × (R.count from.new ≤ R.count from.old + 1) × (W.count to.new ≤ W.count to.old + 1) }
+        × CountsHalt Write (W.count to.old) (W.count to.new) result }
 {
     rows();
     let mut far = Progress::of(steps);

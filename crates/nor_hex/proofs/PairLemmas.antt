@@ -1,8 +1,8 @@
 -- Lemmas on bytes as pairs of hexadecimal digits.
 use Prim.Native.Nat.{zero}
-use Rattle.std.proofs.Math.Seq.{drop-cons, take-suc, take-suc-set}
+use Rattle.std.proofs.Math.Seq.{take-suc, take-suc-set}
 use Rattle.std.proofs.lemmas.List.Sums.{sum_by_more}
-use Rattle.std.proofs.Common.{◌≡◌, ℕ, suc, sum, ◌%◌, take, drop, ◌+◌, ◌*◌, ◌/◌, ◌<◌, Bool, true, false, ◌&&◌, List, [], ◌∷◌, length, slice_index, refl, set, arith}
+use Rattle.std.proofs.Common.{◌≡◌, ℕ, suc, sum, ◌%◌, take, ◌+◌, ◌*◌, ◌/◌, ◌<◌, Bool, true, false, ◌&&◌, List, [], ◌∷◌, length, slice_index, refl, set, arith}
 use Rattle.std.specs.List.{list_all}
 use Rattle.nor_hex.specs.Record.{pair_bytes, digit}
 
@@ -26,14 +26,6 @@ pair_bytes-at (a ∷ b ∷ rest) (suc i) h =
 pub both : (a b : Bool) → (a && b) ≡ true → (a ≡ true) × (b ≡ true)
 both true b e = (refl, e)
 both false b e = absurd cc
-
--- the two elements from a place on
-pub two_from : (xs : List ℕ) (k n : ℕ) → n ≡ 2 → k + 1 < length xs → take n (drop k xs) ≡ slice_index xs k ∷ slice_index xs (k + 1) ∷ []
-two_from xs k n e h =
-    let first : k < length xs = omega arith in
-    let second : suc k < length xs = omega arith in
-    let f : k + 1 ≡ suc k = omega arith in
-    rw (e, f, drop-cons xs k 0 first, drop-cons xs (suc k) 0 second) refl
 
 -- each element of a list that passes
 pub passes_at : (test : ℕ → Bool) (xs : List ℕ) (i : ℕ) → list_all test xs ≡ true → i < length xs → test (slice_index xs i) ≡ true

@@ -7,7 +7,7 @@ use Rattle.std.specs.Map.{lookup}
 use Rattle.std.proofs.lemmas.Bool.{ne_eqb}
 use Rattle.std.proofs.lemmas.Bool.Decides.{eqb_tells, leb_tells}
 use Rattle.nor_hex.specs.declared.pieces.Piece.{Piece}
-use Rattle.nor_hex.specs.Pieces.{Gives, IsPieces, IsFree, IsNext, LaysRun, AddsRun, ClashesRun, DiffersIn, Opens}
+use Rattle.nor_hex.specs.Pieces.{Gives, IsPieces, IsFree, LaysRun, AddsRun, ClashesRun, DiffersIn, Opens}
 use Rattle.nor_hex.proofs.ListLemmas.{some_same, none_some, get-below, get-left, get-left_back, get-right, get-take, get_taken, get-drop, get_part, get-part, length-part, differ_at}
 use Rattle.nor_hex.proofs.ImageLemmas.{equal_keys}
 
@@ -225,24 +225,6 @@ module _ (old new : ℕ → Option Piece) (bytes run : List ℕ) (address last :
     kept = λ at byte g. kept at byte g (added.kept g.last g.piece g.here);
     laid = laid;
   }
-
--- ---- where nothing is given
-pub free_before : (at_last : ℕ → Option Piece) (bytes : List ℕ) (address last n : ℕ) (piece : Piece) → IsPieces at_last bytes → IsNext at_last address last piece → address + n ≤ piece.first → IsFree at_last address n
-free_before at_last bytes address last n piece pieces next before k q e = by (leb_tells address k)
-  where
-    later : address ≤ k → Tells k last → address + n ≤ q.first
-    later h (inl same) = let first = ap (λ (x : Piece). x.first) (some_same q piece (at_last last) (ap at_last (sym same.1) ∙ e) next.found) in omega arith
-    later h (inr apart) =
-        let least = next.least k q e h in
-        let other = apart.1 in
-        let lt : last < k = omega arith in
-        let past = pieces.apart last piece k q next.found e lt in
-        let rises = pieces.rises last piece next.found in
-        omega arith
-
-    by : ((leb address k ≡ true) × (address ≤ k)) ⊎ ((leb address k ≡ false) × (k < address)) → (k < address) ⊎ (address + n ≤ q.first)
-    by (inl p) = inr (later p.1 (eqb_tells k last))
-    by (inr p) = inl p.1
 
 -- ---- a run over a piece
 pub repeats : (at_last : ℕ → Option Piece) (given run : List ℕ) (address last count : ℕ) (piece : Piece) → at_last last ≡ Some piece → piece.first ≤ address → address + count ≤ last + 1 → take count (drop (piece.place + (address - piece.first)) given) ≡ take count run → AddsRun (Gives at_last given) (Gives at_last given) address (take count run)

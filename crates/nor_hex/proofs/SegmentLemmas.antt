@@ -189,17 +189,6 @@ module _ (xs : List Segment) (bytes run : List ℕ) (first : ℕ) (some : 0 < le
       by (inl f) = let h = right.apart i s (length rest) before e last_in_xs (get-below rest i s f) in let up = right.rises (length rest) before last_in_xs in omega arith
       by (inr p) = subst (λ (s : Segment). s.last + 1 < first) p.1 last_gap
 
-pub no_segments : (bytes : List ℕ) → IsSegments [] bytes
-no_segments bytes = record {
-  rises = λ i s e. absurd (none i s e);
-  fits = λ i s e. absurd (none i s e);
-  inside = λ i s e. absurd (none i s e);
-  apart = λ i s j t e f h. absurd (none i s e);
-}
-  where
-    none : (i : ℕ) (s : Segment) → slice_get [] i ≡ Some s → ⊥
-    none i s e = cc
-
 -- ---- segments made of the pieces that end below an address
 pub record IsMade (at_last : ℕ → Option Piece) (given : List ℕ) (list : List Segment) (made : List ℕ) (from : ℕ) : Type 0 where
   pub fits : from ≤ 2 ^ 32
@@ -210,25 +199,6 @@ pub record IsMade (at_last : ℕ → Option Piece) (given : List ℕ) (list : Li
   pub clear : (last : ℕ) (piece : Piece) → at_last last ≡ Some piece → from ≤ last → from ≤ piece.first
   pub of_pieces : (at byte : ℕ) → Holds list made at byte → Gives at_last given at byte
   pub all : (at byte : ℕ) (g : Gives at_last given at byte) → g.last < from → Holds list made at byte
-
-pub made_none : (at_last : ℕ → Option Piece) (given : List ℕ) → IsMade at_last given [] [] 0
-made_none at_last given = record {
-  fits = omega arith;
-  right = no_segments [];
-  below = λ i s e. absurd (none i s e);
-  ends = λ before s e. absurd (apart before s e);
-  whole = refl;
-  clear = λ last piece e h. omega arith;
-  of_pieces = λ at byte h. absurd (none h.index h.segment h.here);
-  all = λ at byte g h. absurd (omega arith);
-}
-  where
-    none : (i : ℕ) (s : Segment) → slice_get [] i ≡ Some s → ⊥
-    none i s e = cc
-
-    apart : (before : List Segment) (s : Segment) → [] ≡ before ++ s ∷ [] → ⊥
-    apart [] s e = cc
-    apart (x ∷ before) s e = cc
 
 pub made_more : (at_last : ℕ → Option Piece) (given : List ℕ) (list new : List Segment) (made new_made : List ℕ) (from last n : ℕ) (piece : Piece) → IsPieces at_last given → IsNext at_last from last piece → n ≡ last - piece.first + 1 → IsMade at_last given list made from → IsJoined list made new new_made piece.first (take n (drop piece.place given)) → IsMade at_last given new new_made (last + 1)
 made_more at_last given list new made new_made from last n piece pieces next n_is so_far joined = record {

@@ -1,5 +1,5 @@
 -- Lemmas on one record that is added to the bytes given so far.
-use Rattle.std.proofs.Common.{◌≡◌, ◌≢◌, ◌⊎◌, inl, inr, ℕ, ◌+◌, ◌-◌, ◌<◌, ◌≤◌, true, false, leb, min, List, length, take, drop, slice_get, Some, refl, sym, subst, ap, ◌∙◌, arith}
+use Rattle.std.proofs.Common.{◌≡◌, ◌⊎◌, inl, inr, ℕ, ◌+◌, ◌-◌, ◌<◌, ◌≤◌, true, false, leb, min, List, length, take, drop, slice_get, Some, refl, sym, subst, ap, ◌∙◌, arith}
 use Rattle.std.proofs.lemmas.Bool.Decides.{leb_tells}
 use Rattle.nor_hex.proofs.ListLemmas.{get-below, get_taken, get-take, get-drop}
 use Rattle.nor_hex.specs.declared.base.Base.{Base}
@@ -7,14 +7,6 @@ use Rattle.nor_hex.specs.Record.{Record}
 use Rattle.nor_hex.specs.Image.{Lays, address_of}
 use Rattle.nor_hex.specs.Pieces.{LaysRun, AddsRun, ClashesRun}
 use Rattle.nor_hex.specs.Steps.{AddsRecord, Clashes}
-
--- a record that is no data record adds nothing
-pub adds_nothing : (base : Base) (line : Record) (old : ℕ → ℕ → Type 0) → line.kind ≢ 0 → AddsRecord base line old old
-adds_nothing base line old other = record {
-  given = λ a b e. inl e;
-  kept = λ a b e. e;
-  laid = λ a b l. absurd (other l.is_data);
-}
 
 -- two runs are the data of a record
 pub record IsCut (base : Base) (line : Record) (start again : ℕ) (front rest : List ℕ) : Type 0 where

@@ -3,7 +3,7 @@
 ghost use Rattle.std.specs.Prelude.{◌≡◌, ◌⊎◌, ◌+◌, ◌-◌, ◌<◌, ◌≤◌, ◌%◌, ◌^◌, [], length, IfOk};
 ghost use Rattle.std.specs.Prelude.{IfErr, OnOk};
 ghost use Rattle.std.specs.Bool.{OnFalse, OnTrue};
-ghost use Rattle.nor_base.specs.Device.{Gives, HaveRoom, IsAtEnd};
+ghost use Rattle.nor_base.specs.Device.{Gives, IsAtEnd, one_more};
 ghost use Rattle.nor_hex_out.specs.Converted.{HasMore, HasOtherLength, IsConverted, IsCutPart};
 ghost use Rattle.nor_hex_out.specs.Converted.{IsShort, IsUnended, Stops, WasRead};
 ghost use Rattle.nor_hex_out.specs.declared.image.Unconverted.TheVariants.{Image};
@@ -54,12 +54,12 @@ pub fn convert<R: ByteIn, W: ByteOut>(
     out: &mut W,
 ) -> Result<(), Unconverted>
     requires fits { at + len ≤ 2 ^ 32 }
-    requires room { HaveRoom (R.count bin.old) (W.count out.old) }
     ensures converted { IfOk result
         (λ _. IsConverted at len (R.ahead bin.old) (W.held out.old) (W.held out.new)) }
     ensures stopped { IfErr result
-        (Stops ((R.count bin.old < R.count bin.new) ⊎ HasOtherLength len (R.ahead bin.old))
-        (W.count out.old < W.count out.new)) }
+        (Stops ((R.count bin.new ≡ one_more (R.count bin.old))
+        ⊎ HasOtherLength len (R.ahead bin.old))
+        (W.count out.new ≡ one_more (W.count out.old))) }
     ensures unended { IfErr result (λ _. IsUnended at (W.held out.old) (W.held out.new)) }
 {
     parts_join();
@@ -83,15 +83,15 @@ fn write_parts<R: ByteIn, W: ByteOut>(
     out: &mut W,
 ) -> Result<(), Unconverted>
     requires buffer { (at + len ≤ 2 ^ 32) × (length buffer.old ≡ 65536) }
-    requires room { HaveRoom (R.count bin.old) (W.count out.old) }
     ensures read { IfOk result
         (λ _. WasRead at len (R.ahead bin.old) (R.ahead bin.new) (W.held out.old)
         (W.held out.new)) }
     ensures counts { OnOk result
         ((R.count bin.new ≡ R.count bin.old) × (W.count out.new ≡ W.count out.old)) }
     ensures stopped { IfErr result
-        (Stops ((R.count bin.old < R.count bin.new) ⊎ IsShort len (R.ahead bin.old))
-        (W.count out.old < W.count out.new)) }
+        (Stops ((R.count bin.new ≡ one_more (R.count bin.old))
+        ⊎ IsShort len (R.ahead bin.old))
+        (W.count out.new ≡ one_more (W.count out.old))) }
     ensures unended { IfErr result (λ _. IsUnended at (W.held out.old) (W.held out.new)) }
 {
     parts_join();
@@ -120,15 +120,15 @@ fn write_part<R: ByteIn, W: ByteOut>(
     out: &mut W,
 ) -> Result<(), Unconverted>
     requires inside { at % 65536 + length part.old ≤ 65536 }
-    requires room { HaveRoom (R.count bin.old) (W.count out.old) }
     ensures read { IfOk result
         (λ _. WasRead at (length part.old) (R.ahead bin.old) (R.ahead bin.new) (W.held out.old)
         (W.held out.new)) }
     ensures counts { OnOk result
         ((R.count bin.new ≡ R.count bin.old) × (W.count out.new ≡ W.count out.old)) }
     ensures stopped { IfErr result
-        (Stops ((R.count bin.old < R.count bin.new) ⊎ IsShort (length part.old) (R.ahead bin.old))
-        (W.count out.old < W.count out.new)) }
+        (Stops ((R.count bin.new ≡ one_more (R.count bin.old))
+        ⊎ IsShort (length part.old) (R.ahead bin.old))
+        (W.count out.new ≡ one_more (W.count out.old))) }
     ensures cut { IfErr result (λ _. IsCutPart at (W.held out.old) (W.held out.new)) }
 {
     read_part(bin, part)?;
@@ -140,11 +140,11 @@ fn write_part<R: ByteIn, W: ByteOut>(
 
 /// Fills a part from a reader. `Image` where it fails or has fewer bytes.
 fn read_part<R: ByteIn>(bin: &mut R, part: &mut [u8]) -> Result<(), Unconverted>
-    requires { R.count bin.old < 2 ^ 64 - 1 }
     ensures given { IfOk result (λ _. Gives (R.ahead bin.old) part.new (R.ahead bin.new)) }
     ensures count { OnOk result (R.count bin.new ≡ R.count bin.old) }
     ensures short { IfErr result (λ why. (why ≡ Image)
-        × ((R.count bin.old < R.count bin.new) ⊎ IsShort (length part.old) (R.ahead bin.old))) }
+        × ((R.count bin.new ≡ one_more (R.count bin.old))
+        ⊎ IsShort (length part.old) (R.ahead bin.old))) }
 {
     match fill_from(bin, part) {
         Ok(count) if count == part.len() => Ok(()),
@@ -154,11 +154,10 @@ fn read_part<R: ByteIn>(bin: &mut R, part: &mut [u8]) -> Result<(), Unconverted>
 
 /// Refuses a reader that fails or has more bytes, by `Image`.
 fn only_end<R: ByteIn>(bin: &mut R) -> Result<(), Unconverted>
-    requires { R.count bin.old < 2 ^ 64 - 1 }
     ensures ended { IfOk result
         (λ _. Gives (R.ahead bin.old) [] (R.ahead bin.new) × IsAtEnd (R.ahead bin.new)) }
     ensures more { IfErr result (λ why. (why ≡ Image)
-        × ((R.count bin.old < R.count bin.new) ⊎ HasMore (R.ahead bin.old))) }
+        × ((R.count bin.new ≡ one_more (R.count bin.old)) ⊎ HasMore (R.ahead bin.old))) }
 {
     match fill_from(bin, &mut [0]) {
         Ok(0) => Ok(()),

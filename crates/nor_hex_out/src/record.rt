@@ -1,6 +1,6 @@
 //! One record.
 
-ghost use Rattle.std.specs.Prelude.{◌≡◌, ◌+◌, ◌-◌, ◌<◌, ◌≤◌, ◌%◌, ◌^◌, ◌∷◌, ◌++◌, [], length, sum};
+ghost use Rattle.std.specs.Prelude.{◌≡◌, ◌-◌, ◌<◌, ◌≤◌, ◌%◌, ◌∷◌, ◌++◌, [], length, sum};
 ghost use Rattle.std.specs.Prelude.{slice_index};
 ghost use Rattle.arrayvec.specs.ArrayVec.{array_vec_len};
 ghost use Rattle.hex.specs.Hex.{encode_upper, upper_digits};
@@ -31,7 +31,6 @@ pub(crate) fn put_record<W: ByteOut>(
     out: &mut W,
 ) -> Result<(), Failed>
     requires few { length data.now ≤ 32 }
-    requires room { W.count out.old < 2 ^ 64 - 1 }
     ensures bytes { Writes (W.held out.old) (W.held out.new) result
         (record_text (record { kind = kind; offset = offset; bytes = data.now })) }
     ensures count { Counts (W.count out.old) (W.count out.new) result }

@@ -1,6 +1,6 @@
 //! The writer.
 
-ghost use Rattle.std.specs.Prelude.{◌≡◌, ◌+◌, ◌-◌, ◌<◌, ◌≤◌, ◌%◌, ◌^◌, length};
+ghost use Rattle.std.specs.Prelude.{◌≡◌, ◌+◌, ◌-◌, ◌≤◌, ◌%◌, ◌^◌, length};
 ghost use Rattle.nor_base.specs.Device.{Writes, Counts};
 ghost use Rattle.nor_hex_out.specs.Records.{end_record, record_text};
 ghost use Rattle.nor_hex_out.specs.Segments.{rows, image_records, text_of, hex_text};
@@ -18,7 +18,6 @@ const SEGMENT: usize = 1 << 16;
 /// rose by one.
 pub fn write_hex<W: ByteOut>(at: u32, bytes: &[u8], out: &mut W) -> Result<(), Failed>
     requires fits { at + length bytes.now ≤ 2 ^ 32 }
-    requires room { W.count out.old < 2 ^ 64 - 1 }
     ensures bytes { Writes (W.held out.old) (W.held out.new) result (hex_text at bytes.now) }
     ensures count { Counts (W.count out.old) (W.count out.new) result }
 {
@@ -46,7 +45,6 @@ fn room(at: u32) -> usize
 /// rose by one.
 pub fn write_data<W: ByteOut>(at: u32, bytes: &[u8], out: &mut W) -> Result<(), Failed>
     requires inside { at % 65536 + length bytes.now ≤ 65536 }
-    requires room { W.count out.old < 2 ^ 64 - 1 }
     ensures bytes { Writes (W.held out.old) (W.held out.new) result
         (text_of (image_records at bytes.now)) }
     ensures count { Counts (W.count out.old) (W.count out.new) result }
@@ -66,7 +64,6 @@ pub fn write_data<W: ByteOut>(at: u32, bytes: &[u8], out: &mut W) -> Result<(), 
 /// Writes the data records of bytes from this load offset on.
 fn put_rows<W: ByteOut>(offset: u16, bytes: &[u8], out: &mut W) -> Result<(), Failed>
     requires inside { offset + length bytes.now ≤ 65536 }
-    requires room { W.count out.old < 2 ^ 64 - 1 }
     ensures bytes { Writes (W.held out.old) (W.held out.new) result
         (text_of (rows offset bytes.now)) }
     ensures count { Counts (W.count out.old) (W.count out.new) result }
@@ -84,7 +81,6 @@ fn put_rows<W: ByteOut>(offset: u16, bytes: &[u8], out: &mut W) -> Result<(), Fa
 /// At `Failed` a proper prefix was taken. It comes only from the writer, whose count of failures
 /// rose by one.
 pub fn write_end<W: ByteOut>(out: &mut W) -> Result<(), Failed>
-    requires { W.count out.old < 2 ^ 64 - 1 }
     ensures bytes { Writes (W.held out.old) (W.held out.new) result (record_text end_record) }
     ensures count { Counts (W.count out.old) (W.count out.new) result }
 {

@@ -1,4 +1,5 @@
 pub mod FaultLemmas
 pub mod LayoutLemmas
 pub mod TargetLemmas
+pub mod ChipLemmas
 pub mod OneLemmas

@@ -8,12 +8,11 @@ use Rattle.nor_hex.specs.Faults.{IsImage}
 use Rattle.nor_hex.specs.Record.{Record}
 use Rattle.nor_hex.specs.declared.fault.HexFault.{HexFault}
 use Rattle.nor_layout.specs.Region.{Region}
-use Rattle.nor_sfdp.specs.declared.fault.SfdpFault.{SfdpFault}
 use Rattle.nor_target.specs.Shares.{share, share_in, chosen_regions, first_empty}
 use Rattle.nor_job.specs.Causes.{LayoutSays, AreAccepted}
-use Rattle.nor_job.specs.Chip.{chip_says}
 use Rattle.nor_job.specs.Shares.{HasFirstEmpty, first_empty_of}
 use Rattle.nor_job.specs.Task.{Task}
+use Rattle.nor_job.proofs.ChipLemmas.{one_chip}
 
 -- records are told by their list
 records_same : (xs ys : List Record) → ◌≡◌ {A = List (Result Record HexFault)} (map Ok xs) (map Ok ys) → xs ≡ ys
@@ -40,9 +39,6 @@ image_same text a b is_a is_b address =
 pub regions_same : (o : Option (List ℕ)) (a b : List Region) → LayoutSays o a → LayoutSays o b → a ≡ b
 regions_same None a b is_a is_b = is_a ∙ sym is_b
 regions_same (Some text) a b is_a is_b = is_a.spelled ∙ sym is_b.spelled
-
-meaning_same : (r : Result Parameters SfdpFault) (m n : Parameters) → r ≡ Ok m → r ≡ Ok n → m ≡ n
-meaning_same r m n is_m is_n = cc
 
 -- what an image gives is told by the bytes that it has
 filter_same : (f g : ℕ → Option ℕ) (base : ℕ) → ((a : ℕ) → f a ≡ g a) → (xs : List ℕ) → filter (λ a. is_some (f (base + a))) xs ≡ filter (λ a. is_some (g (base + a))) xs
@@ -76,7 +72,7 @@ one_first t len image regions m chosen index accepted same is = record {
 
 pub only_first : (t : Task) (len : ℕ) (index other : Option ℕ) → HasFirstEmpty t len index → HasFirstEmpty t len other → index ≡ other
 only_first t len index other a b =
-    let means = meaning_same (chip_says t) a.m b.m a.accepted.means b.accepted.means in
+    let means = one_chip a.accepted.means b.accepted.means in
     let named = regions_same t.layout a.regions b.regions a.accepted.named.layout b.accepted.named.layout in
     let bytes = image_same t.hex a.image b.image a.accepted.named.imaged.spelled b.accepted.named.imaged.spelled in
     sym a.empty

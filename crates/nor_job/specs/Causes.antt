@@ -12,7 +12,7 @@ use Rattle.nor_layout.specs.Text.{IsLayout, IsFirstFault}
 use Rattle.nor_layout.specs.Chosen.{first_unknown}
 use Rattle.nor_job.specs.declared.fault.BuildFault.{BuildFault}
 use Rattle.nor_job.specs.declared.fault.BuildFault.TheVariants as fault
-use Rattle.nor_job.specs.Chip.{chip_says, HasChip, RefusesChip}
+use Rattle.nor_job.specs.Chip.{ChipSays, HasChip, RefusesChip}
 use Rattle.nor_job.specs.Status.{start_of, status_fault}
 use Rattle.nor_job.specs.Task.{Task, contradiction}
 
@@ -36,7 +36,7 @@ pub record HasRegions (t : Task) (image : Pairs) (regions : List Region) : Type 
 -- in, and as many bytes as the content
 pub record AreAccepted (t : Task) (len : ℕ) (image : Pairs) (regions : List Region) (m : Parameters) : Type 0 where
   pub named : HasRegions t image regions
-  pub means : chip_says t ≡ Ok m
+  pub means : ChipSays t m
   pub idle : status_fault t.status ≡ None
   pub possible : IsPossible m (start_of t)
   pub size : len ≡ m.size
@@ -59,6 +59,7 @@ RefusesInputs t len (fault.Contradiction number) = contradiction t ≡ Some numb
 RefusesInputs t len (fault.Hex why) = (contradiction t ≡ None) × (why ≢ hex.Memory) × IsFault t.hex why
 RefusesInputs t len (fault.Layout why) = ((image : Pairs) × HasImage t image) × RefusesLayout t why
 RefusesInputs t len (fault.Sfdp why) = AreNamed t × RefusesChip t (fault.Sfdp why)
+RefusesInputs t len (fault.Sheet why) = AreNamed t × RefusesChip t (fault.Sheet why)
 RefusesInputs t len (fault.Status number) = AreNamed t × RefusesChip t (fault.Status number)
 RefusesInputs t len fault.ModeImpossible = AreNamed t × RefusesChip t fault.ModeImpossible
 RefusesInputs t len fault.ContentSize = AreNamed t × ((m : Parameters) × HasChip t m × (len ≢ m.size))

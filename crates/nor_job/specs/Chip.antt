@@ -8,37 +8,59 @@ use Rattle.nor_base.specs.Uniform.{uniform_of}
 use Rattle.nor_sfdp.specs.declared.fault.SfdpFault.{SfdpFault}
 use Rattle.nor_sfdp.specs.declared.fault.SfdpFault.TheVariants.{Density}
 use Rattle.nor_sfdp.specs.Reading.{meaning_of}
-use Rattle.nor_sfdp.specs.Tables.{◌>>=◌}
+use Rattle.nor_sheet.specs.declared.fault.SheetFault.{SheetFault}
+use Rattle.nor_sheet.specs.Text.{IsSheet, Refuses}
 use Rattle.nor_job.specs.declared.fault.BuildFault.{BuildFault}
 use Rattle.nor_job.specs.declared.fault.BuildFault.TheVariants as fault
 use Rattle.nor_job.specs.Status.{start_of, status_fault}
-use Rattle.nor_job.specs.Task.{Task, Origin, Sfdp, Uniform}
+use Rattle.nor_job.specs.Task.{Task, Origin, Sfdp, Uniform, Sheet}
 
 -- what a size alone says of a chip: it is a multiple of 4096 from 4096 to 16 MiB
 unfoldable pub uniform_says : ℕ → Result Parameters SfdpFault
 uniform_says size = if nat_le 4096 size && (nat_le size (2 ^ 24) && (size % 4096 == 0)) then Ok (uniform_of size) else Err Density
 
-abbrev pub origin_says : Origin → Part → Result Parameters SfdpFault
-origin_says (Sfdp bytes bits) part = meaning_of bytes bits part
-origin_says (Uniform size) part = uniform_says size
+-- the chip has this meaning by its SFDP bytes, its size or its sheet
+abbrev pub OriginSays : Origin → Part → Parameters → Type 0
+OriginSays (Sfdp bytes bits) part m = meaning_of bytes bits part ≡ Ok m
+OriginSays (Uniform size) part m = uniform_says size ≡ Ok m
+OriginSays (Sheet text) part m = IsSheet text m
 
--- the chip's parameters by its SFDP bytes or its size, under the profile that programs erased bytes alone where it is asked for; or
--- why it has none
-abbrev pub chip_says : Task → Result Parameters SfdpFault
-chip_says t = do
-  m ← origin_says t.chip t.part
-  Ok (if t.erased_only then record m { erased_only = true } else m)
+-- a meaning, under the profile that programs erased bytes alone where it is asked for
+abbrev pub profiled : Bool → Parameters → Parameters
+profiled erased_only m = if erased_only then record m { erased_only = true } else m
+
+-- a chip of this origin has these parameters, under that profile where it is asked for
+pub record IsMeaning (origin : Origin) (part : Part) (erased_only : Bool) (m : Parameters) : Type 0 where
+  pub own : Parameters
+  pub says : OriginSays origin part own
+  pub profile : m ≡ profiled erased_only own
+
+abbrev pub ChipSays : Task → Parameters → Type 0
+ChipSays t m = IsMeaning t.chip t.part t.erased_only m
 
 -- the inputs give the chip these parameters, it is idle and unprotected as far as its status is told, and it has the mode that it begins in
 pub record HasChip (t : Task) (m : Parameters) : Type 0 where
-  pub means : chip_says t ≡ Ok m
+  pub means : ChipSays t m
   pub idle : status_fault t.status ≡ None
   pub possible : IsPossible m (start_of t)
 
+-- why SFDP bytes or a size give no meaning
+abbrev pub RefusesTables : Origin → Part → SfdpFault → Type 0
+RefusesTables (Sfdp bytes bits) part why = meaning_of bytes bits part ≡ Err why
+RefusesTables (Uniform size) part why = uniform_says size ≡ Err why
+RefusesTables (Sheet text) part why = ⊥
+
+-- why a sheet gives none
+abbrev pub RefusesSheet : Origin → SheetFault → Type 0
+RefusesSheet (Sfdp bytes bits) why = ⊥
+RefusesSheet (Uniform size) why = ⊥
+RefusesSheet (Sheet text) why = Refuses text why
+
 -- what a refusal for the chip says of the inputs; no earlier cause of these three holds
 abbrev pub RefusesChip : Task → BuildFault → Type 0
-RefusesChip t (fault.Sfdp why) = chip_says t ≡ Err why
-RefusesChip t (fault.Status number) = ((m : Parameters) × (chip_says t ≡ Ok m)) × (status_fault t.status ≡ Some number)
+RefusesChip t (fault.Sfdp why) = RefusesTables t.chip t.part why
+RefusesChip t (fault.Sheet why) = RefusesSheet t.chip why
+RefusesChip t (fault.Status number) = ((m : Parameters) × ChipSays t m) × (status_fault t.status ≡ Some number)
 RefusesChip t fault.ModeImpossible =
-    (m : Parameters) × (chip_says t ≡ Ok m) × (status_fault t.status ≡ None) × ((start_of t).mode4 ≡ true) × (m.width ≡ Three)
+    (m : Parameters) × ChipSays t m × (status_fault t.status ≡ None) × ((start_of t).mode4 ≡ true) × (m.width ≡ Three)
 RefusesChip t fault = ⊥

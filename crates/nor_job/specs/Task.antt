@@ -7,14 +7,16 @@ use Rattle.nor_job.specs.declared.inputs.Source.{Source}
 use Rattle.nor_job.specs.declared.inputs.Source.TheVariants as source
 use Rattle.nor_job.specs.declared.inputs.Inputs.TheInside.{Inside}
 
--- where the meaning of a chip comes from: its SFDP bytes and configuration bits, or a size
+-- where the meaning of a chip comes from: its SFDP bytes and configuration bits, a size, or a sheet
 pub data Origin : Type 0 where
   Sfdp : List ℕ → List ℕ → Origin
   Uniform : ℕ → Origin
+  Sheet : List ℕ → Origin
 
 abbrev pub origin_of : Source → Origin
 origin_of (source.Sfdp bytes bits) = Sfdp bytes.now bits.now
 origin_of (source.Uniform size) = Uniform size
+origin_of (source.Sheet text) = Sheet text.now
 
 pub record Task : Type 0 where
   pub hex : List ℕ
@@ -44,16 +46,17 @@ task_of inputs = record {
   erased_only = inputs.erased_only;
 }
 
-abbrev pub is_uniform : Origin → Bool
-is_uniform (Sfdp bytes bits) = false
-is_uniform (Uniform size) = true
+abbrev pub has_no_tables : Origin → Bool
+has_no_tables (Sfdp bytes bits) = false
+has_no_tables (Uniform size) = true
+has_no_tables (Sheet text) = true
 
 -- the first contradiction of the inputs: regions without a layout; a status with part Generic; a status together with
--- `mode4` or `quad`; a uniform chip of another part
+-- `mode4` or `quad`; a chip without SFDP bytes of another part
 unfoldable pub contradiction : Task → Option ℕ
 contradiction t =
     if not (is_some t.layout) && is_filled t.regions then Some 1
     else if is_some t.status && is_generic t.part then Some 2
     else if is_some t.status && (t.mode4 || t.quad) then Some 3
-    else if is_uniform t.chip && not (is_generic t.part) then Some 4
+    else if has_no_tables t.chip && not (is_generic t.part) then Some 4
     else None

@@ -1,8 +1,9 @@
 //! The chip that a build is for.
 
-ghost use Rattle.std.specs.Prelude.{◌≡◌, true, if◌then◌else◌, IsOk, IfOk, IfErr};
+ghost use Rattle.std.specs.Prelude.{◌≡◌, IsOk, IfOk, IfErr};
 ghost use Rattle.nor_base.specs.Parameters.{Parameters};
-ghost use Rattle.nor_job.specs.Chip.{HasChip, RefusesChip, chip_says, uniform_says};
+ghost use Rattle.nor_job.specs.Chip.{ChipSays, HasChip, OriginSays, RefusesChip};
+ghost use Rattle.nor_job.specs.Chip.{profiled, uniform_says};
 ghost use Rattle.nor_job.specs.Status.{start_of};
 
 use crate::fault::BuildFault;
@@ -14,8 +15,8 @@ use nor_sfdp::SfdpFault;
 /// What the inputs say of the chip, and how it begins. It looks neither at image nor layout, nor
 /// for a contradiction, and takes no memory.
 ///
-/// `Sfdp` where the chip's meaning is refused; else `Status` where the status says that it isn't
-/// idle and unprotected; else `ModeImpossible`.
+/// `Sfdp` or `Sheet` where the chip's meaning is refused; else `Status` where the status says that
+/// it isn't idle and unprotected; else `ModeImpossible`.
 pub fn chip_of(inputs: &Inputs<'_>) -> Result<(Meaning, Start), BuildFault>
     ensures chip { IfOk result (λ chip. HasChip inputs.now chip.0) }
     ensures start { IfOk result (λ chip. chip.1 ≡ start_of inputs.now) }
@@ -33,15 +34,28 @@ pub fn chip_of(inputs: &Inputs<'_>) -> Result<(Meaning, Start), BuildFault>
     Ok((meaning, start))
 }
 
-/// The chip's meaning, by its SFDP bytes or its size, under the profile that is asked for.
-fn meaning_of(inputs: &Inputs<'_>) -> Result<Meaning, SfdpFault>
-    ensures { result ≡ chip_says inputs.now }
+/// The chip's meaning, under the profile that is asked for.
+fn meaning_of(inputs: &Inputs<'_>) -> Result<Meaning, BuildFault>
+    ensures says { IfOk result (λ m. ChipSays inputs.now m) }
+    ensures refused { IfErr result (RefusesChip inputs.now) }
+    ensures accepted { (m : Parameters) → ChipSays inputs.now m → IsOk result }
 {
-    let meaning = match inputs.chip {
-        Source::Sfdp { bytes, bits } => nor_sfdp::read(bytes, bits, inputs.part)?,
-        Source::Uniform(size) => uniform(size)?,
-    };
+    let meaning = own_meaning(inputs)?;
     Ok(profiled(meaning, inputs.erased_only))
+}
+
+/// The chip's meaning, by its SFDP bytes, its size or its sheet.
+fn own_meaning(inputs: &Inputs<'_>) -> Result<Meaning, BuildFault>
+    ensures says { IfOk result (λ m. OriginSays inputs.now.chip inputs.now.part m) }
+    ensures refused { IfErr result (RefusesChip inputs.now) }
+    ensures accepted { (m : Parameters) → OriginSays inputs.now.chip inputs.now.part m
+        → IsOk result }
+{
+    match inputs.chip {
+        Source::Sfdp { bytes, bits } => Ok(nor_sfdp::read(bytes, bits, inputs.part)?),
+        Source::Uniform(size) => Ok(uniform(size)?),
+        Source::Sheet(text) => Ok(nor_sheet::read(text)?),
+    }
 }
 
 /// The uniform chip of a size.
@@ -54,7 +68,7 @@ fn uniform(size: u32) -> Result<Meaning, SfdpFault>
 
 /// The meaning under the profile that programs only erased bytes, where that is asked for.
 fn profiled(meaning: Meaning, erased_only: bool) -> Meaning
-    ensures { result ≡ (if erased_only then record meaning { erased_only = true } else meaning) }
+    ensures { result ≡ profiled erased_only meaning }
 {
     if erased_only {
         return meaning.erased_only_set();

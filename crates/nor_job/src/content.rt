@@ -1,6 +1,5 @@
 //! What a chip holds, as its reader gives it.
 
-ghost use Rattle.std.specs.Prelude.{◌<◌, ◌-◌, ◌^◌};
 ghost use Rattle.nor_job.specs.Filled.{FillsWindow};
 ghost use Rattle.nor_job.specs.Written.{CountsReader};
 
@@ -12,7 +11,6 @@ use nor_base::{ByteIn, fill_from};
 /// `ContentShort` where the reader ends before the array does, `Read` where it fails. It takes no
 /// memory.
 pub fn fill_window<R: ByteIn>(content: &mut R, window: &mut [u8]) -> Result<(), BuildFault>
-    requires { R.count content.old < 2 ^ 64 - 1 }
     ensures bytes { FillsWindow (R.ahead content.old) (R.ahead content.new) result window.new }
     ensures count { CountsReader (R.count content.old) (R.count content.new) result }
 {

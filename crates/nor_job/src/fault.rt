@@ -2,12 +2,13 @@
 
 ghost use Rattle.std.specs.Prelude.{◌≡◌};
 ghost use Rattle.nor_job.specs.Lifted.{lifted_hex, lifted_layout};
-ghost use Rattle.nor_job.specs.declared.fault.BuildFault.TheVariants.{Memory, Sfdp};
+ghost use Rattle.nor_job.specs.declared.fault.BuildFault.TheVariants.{Memory, Sfdp, Sheet};
 
 use nor_geometry::PlanFault;
 use nor_hex::HexFault;
 use nor_layout::LayoutFault;
 use nor_sfdp::SfdpFault;
+use nor_sheet::SheetFault;
 use std::alloc::{AllocError, AllocFailed};
 use thiserror::Error;
 
@@ -19,8 +20,8 @@ use thiserror::Error;
 #[derive(Clone, Copy, Debug, PartialEq, Eq, Error)]
 pub enum BuildFault {
     /// The inputs contradict one another: 1 regions are named without a layout; 2 a status with
-    /// part Generic; 3 a status together with `mode4` or `quad`; 4 a uniform chip of part
-    /// W25q256jv. The first of these is reported.
+    /// part Generic; 3 a status together with `mode4` or `quad`; 4 a chip that isn't said
+    /// by its SFDP, of part W25q256jv. The first of these is reported.
     #[error("the inputs contradict one another ({0})")]
     Contradiction(u8),
     /// The image is refused.
@@ -32,6 +33,9 @@ pub enum BuildFault {
     /// The chip's meaning is refused; `Density` for a uniform chip of a size that none has.
     #[error(transparent)]
     Sfdp(SfdpFault),
+    /// The chip's sheet is refused.
+    #[error(transparent)]
+    Sheet(SheetFault),
     /// The status says that the chip isn't idle and unprotected: 1 it is busy (S0); 2 its write
     /// enable latch is set (S1); 3 an erase or program is suspended (S15); 4 something is or may be
     /// protected (any of S2 to S5, S14, S18). The first of these is reported.
@@ -87,6 +91,14 @@ impl From<SfdpFault> for BuildFault {
 
     fn from(fault: SfdpFault) -> BuildFault {
         BuildFault::Sfdp(fault)
+    }
+}
+
+impl From<SheetFault> for BuildFault {
+    ghost from_gives = { λ fault lifted. lifted ≡ Sheet fault };
+
+    fn from(fault: SheetFault) -> BuildFault {
+        BuildFault::Sheet(fault)
     }
 }
 

@@ -1,7 +1,7 @@
 //! What a build is asked for.
 
 ghost use Rattle.std.specs.Prelude.{◌≡◌};
-ghost use Rattle.nor_job.specs.Task.{contradiction, is_uniform};
+ghost use Rattle.nor_job.specs.Task.{contradiction, has_no_tables};
 
 use nor_base::{Bytes, Part};
 use std::marker::Model;
@@ -18,6 +18,8 @@ pub enum Source<'a> {
     },
     /// No SFDP: a chip of this many bytes with 4 KiB sectors ([`nor_base::Meaning::uniform`]).
     Uniform(u32),
+    /// No SFDP: the text of a sheet ([`nor_sheet::read`]).
+    Sheet(&'a [u8]),
 }
 
 /// What a build is asked for.
@@ -56,8 +58,8 @@ impl<'a> Model for Inputs<'a> {
 }
 
 /// The first contradiction of the inputs, by its number: 1 regions are named without a layout; 2 a
-/// status with part Generic; 3 a status together with `mode4` or `quad`; 4 a uniform chip of part
-/// W25q256jv.
+/// status with part Generic; 3 a status together with `mode4` or `quad`; 4 a chip that isn't said
+/// by its SFDP, of part W25q256jv.
 #[tactic(auto, unfolding(crate::specs::Task::contradiction))]
 pub fn contradiction(inputs: &Inputs<'_>) -> Option<u8>
     ensures { result ≡ contradiction inputs.now }
@@ -71,18 +73,18 @@ pub fn contradiction(inputs: &Inputs<'_>) -> Option<u8>
     if inputs.status.is_some() && (inputs.mode4 || inputs.quad) {
         return Some(3);
     }
-    if is_uniform(inputs) && inputs.part == Part::W25q256jv {
+    if has_no_tables(inputs) && inputs.part == Part::W25q256jv {
         return Some(4);
     }
     None
 }
 
-/// The chip is one without SFDP.
-fn is_uniform(inputs: &Inputs<'_>) -> bool
-    ensures { result ≡ is_uniform inputs.now.chip }
+/// The chip isn't said by its SFDP.
+fn has_no_tables(inputs: &Inputs<'_>) -> bool
+    ensures { result ≡ has_no_tables inputs.now.chip }
 {
     match inputs.chip {
-        Source::Uniform(_) => true,
+        Source::Uniform(_) | Source::Sheet(_) => true,
         Source::Sfdp { .. } => false,
     }
 }

@@ -1,7 +1,7 @@
 -- What the call that lists a script's steps as they come does (this project's).
 use Rattle.std.specs.Prelude.{◌≡◌, ◌⊎◌, ℕ, ◌+◌, Bool, List, [], Option, Result, Ok, Err}
 use Rattle.std.specs.Io.KnownBytes.{Appends}
-use Rattle.nor_base.specs.Device.{Ahead, Cuts}
+use Rattle.nor_base.specs.Device.{Ahead, Cuts, one_more}
 use Rattle.nor_base.specs.Parameters.{Parameters}
 use Rattle.nor_base.specs.Script.{IsScript}
 use Rattle.nor_base.specs.declared.step.Step.{Step}
@@ -75,9 +75,9 @@ abbrev pub CountsStop : ℕ → ℕ → Result (Unit {0}) Stop → Type 0
 CountsStop before after (Ok done) = after ≡ before
 CountsStop before after (Err (stop.Out failed)) = after ≡ before
 CountsStop before after (Err (stop.Script (read.Script why))) = after ≡ before
-CountsStop before after (Err (stop.Script (read.Device failed))) = after ≡ before + 1
+CountsStop before after (Err (stop.Script (read.Device failed))) = after ≡ one_more before
 
 abbrev pub CountsOut : {T : Type 0} → ℕ → ℕ → Result T Stop → Type 0
 CountsOut before after (Ok done) = after ≡ before
-CountsOut before after (Err (stop.Out failed)) = after ≡ before + 1
+CountsOut before after (Err (stop.Out failed)) = after ≡ one_more before
 CountsOut before after (Err (stop.Script why)) = after ≡ before

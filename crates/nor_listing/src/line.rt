@@ -1,6 +1,6 @@
 //! The line of a step.
 
-ghost use Rattle.std.specs.Prelude.{◌≡◌, ◌<◌, ◌-◌, ◌^◌, ◌++◌, codes, if◌then◌else◌, IfOk};
+ghost use Rattle.std.specs.Prelude.{◌≡◌, ◌++◌, codes, if◌then◌else◌, IfOk};
 ghost use Rattle.std.specs.Str.{bytes_eq};
 ghost use Rattle.nor_base.specs.Device.{Writes, Counts};
 ghost use Rattle.nor_base.specs.Run.{poll_clocks};
@@ -26,7 +26,6 @@ pub fn write_line<W: ByteOut>(
     step: &Step,
     out: &mut W,
 ) -> Result<bool, Failed>
-    requires { W.count out.old < 2 ^ 64 - 1 }
     ensures bytes { Writes (W.held out.old) (W.held out.new) result
         (line meaning.now number mode4 step.now) }
     ensures mode { IfOk result (λ after. after ≡ mode_past meaning.now mode4 step.now) }
@@ -44,7 +43,6 @@ pub(crate) fn put_words<W: ByteOut>(
     step: &Step,
     out: &mut W,
 ) -> Result<bool, Failed>
-    requires { W.count out.old < 2 ^ 64 - 1 }
     ensures bytes { Writes (W.held out.old) (W.held out.new) result
         (closed (words meaning.now mode4 step.now)) }
     ensures mode { IfOk result (λ after. after ≡ mode_past meaning.now mode4 step.now) }
@@ -66,7 +64,6 @@ pub(crate) fn put_words<W: ByteOut>(
 /// Puts what clocks are that are sent until the chip is idle.
 #[tactic(auto, unfolding(nor_base::specs::Script::step_line))]
 fn put_poll<W: ByteOut>(clocks: &[u8], out: &mut W) -> Result<(), Failed>
-    requires { W.count out.old < 2 ^ 64 - 1 }
     ensures bytes { Writes (W.held out.old) (W.held out.new) result
         (closed (if bytes_eq clocks.now poll_clocks then codes "poll 05"
         else codes "unknown " ++ step_line (Poll clocks.now))) }

@@ -23,11 +23,12 @@ impl ByteOut for Held {
 
     ghost count = { λ h. h.refused };
 
+    #[tactic(auto, unfolding(nor_base::specs::Device::one_more))]
     fn put(&mut self, bytes: &[u8]) -> Result<usize, Failed> {
         match self.bytes.extend_from_slice(bytes) {
             Ok(()) => Ok(bytes.len()),
             Err(_) => {
-                self.refused += 1;
+                self.refused = self.refused.saturating_add(1);
                 Err(Failed)
             }
         }

@@ -1,6 +1,6 @@
 //! The words of clocks that are sent.
 
-ghost use Rattle.std.specs.Prelude.{◌≡◌, ◌<◌, ◌≤◌, ◌+◌, ◌-◌, ◌^◌, ◌++◌, true, codes, length, take};
+ghost use Rattle.std.specs.Prelude.{◌≡◌, ◌<◌, ◌≤◌, ◌+◌, ◌^◌, ◌++◌, true, codes, length, take};
 ghost use Rattle.std.specs.Prelude.{drop, flat_map, IfOk};
 ghost use Rattle.nor_base.specs.Device.{Writes, Counts};
 ghost use Rattle.nor_base.specs.Decoding.{decode, instruction, opcode};
@@ -27,7 +27,6 @@ pub(crate) fn put_sent<W: ByteOut>(
     clocks: &[u8],
     out: &mut W,
 ) -> Result<bool, Failed>
-    requires { W.count out.old < 2 ^ 64 - 1 }
     ensures bytes { Writes (W.held out.old) (W.held out.new) result
         (closed (send_words meaning.now clocks.now (decode meaning.now mode4 clocks.now))) }
     ensures mode { IfOk result (λ after. after
@@ -49,7 +48,6 @@ pub(crate) fn put_sent<W: ByteOut>(
 /// Puts a word and the script's line of clocks that are sent.
 #[tactic(auto, unfolding(nor_base::specs::Script::step_line))]
 fn put_line<W: ByteOut>(word: &[u8], clocks: &[u8], out: &mut W) -> Result<(), Failed>
-    requires { W.count out.old < 2 ^ 64 - 1 }
     ensures bytes { Writes (W.held out.old) (W.held out.new) result
         (closed (word.now ++ step_line (Send clocks.now))) }
     ensures count { Counts (W.count out.old) (W.count out.new) result }
@@ -76,7 +74,6 @@ fn put_seen<W: ByteOut>(
     out: &mut W,
 ) -> Result<(), Failed>
     requires opcode { 8 ≤ length clocks.now }
-    requires room { W.count out.old < 2 ^ 64 - 1 }
     ensures bytes { Writes (W.held out.old) (W.held out.new) result
         (closed (sent_words meaning.now clocks.now (instruction (transaction_of seen.now))
         seen.now.what)) }
@@ -113,7 +110,6 @@ pub(crate) fn opcode(clocks: &[u8]) -> u8
 
 /// Puts a word and an opcode.
 fn put_plain<W: ByteOut>(word: &[u8], op: u8, out: &mut W) -> Result<(), Failed>
-    requires { W.count out.old < 2 ^ 64 - 1 }
     ensures bytes { Writes (W.held out.old) (W.held out.new) result
         (closed (word.now ++ hex_pair op)) }
     ensures count { Counts (W.count out.old) (W.count out.new) result }
@@ -123,7 +119,6 @@ fn put_plain<W: ByteOut>(word: &[u8], op: u8, out: &mut W) -> Result<(), Failed>
 
 /// Puts a status read of so many bytes.
 fn put_status<W: ByteOut>(op: u8, count: usize, out: &mut W) -> Result<(), Failed>
-    requires { W.count out.old < 2 ^ 64 - 1 }
     ensures bytes { Writes (W.held out.old) (W.held out.new) result
         (closed (codes "status " ++ (hex_pair op ++ counted count))) }
     ensures count { Counts (W.count out.old) (W.count out.new) result }
@@ -135,7 +130,6 @@ fn put_status<W: ByteOut>(op: u8, count: usize, out: &mut W) -> Result<(), Faile
 
 /// Puts an erase: address and size of its block.
 fn put_erase<W: ByteOut>(op: u8, address: u32, size: u32, out: &mut W) -> Result<(), Failed>
-    requires { W.count out.old < 2 ^ 64 - 1 }
     ensures bytes { Writes (W.held out.old) (W.held out.new) result
         (closed (codes "erase " ++ (hex_pair op ++ (in_eight address ++ in_eight size)))) }
     ensures count { Counts (W.count out.old) (W.count out.new) result }
@@ -157,7 +151,6 @@ fn put_erase<W: ByteOut>(op: u8, address: u32, size: u32, out: &mut W) -> Result
 /// Puts a program and its bytes.
 fn put_program<W: ByteOut>(word: &[u8], op: u8, seen: &Seen<'_>, out: &mut W) -> Result<(), Failed>
     requires program { is_program seen.now.what ≡ true }
-    requires room { W.count out.old < 2 ^ 64 - 1 }
     ensures bytes { Writes (W.held out.old) (W.held out.new) result
         (closed (word.now ++ (hex_pair op ++ (in_eight seen.now.address
         ++ (counted (length (instruction (transaction_of seen.now)).sent)
@@ -178,7 +171,6 @@ pub(crate) fn put_place<W: ByteOut>(
     end: &[u8],
     out: &mut W,
 ) -> Result<(), Failed>
-    requires { W.count out.old < 2 ^ 64 - 1 }
     ensures bytes { Writes (W.held out.old) (W.held out.new) result
         (word.now ++ (hex_pair op ++ (in_eight address ++ (counted count ++ end.now)))) }
     ensures count { Counts (W.count out.old) (W.count out.new) result }
@@ -202,7 +194,6 @@ pub(crate) fn put_place<W: ByteOut>(
 /// Puts the digits of the bytes that a program sends.
 fn put_bytes<W: ByteOut>(seen: &Seen<'_>, out: &mut W) -> Result<(), Failed>
     requires program { is_program seen.now.what ≡ true }
-    requires room { W.count out.old < 2 ^ 64 - 1 }
     ensures bytes { Writes (W.held out.old) (W.held out.new) result
         (flat_map hex_pair (instruction (transaction_of seen.now)).sent) }
     ensures count { Counts (W.count out.old) (W.count out.new) result }
@@ -235,7 +226,6 @@ fn put_some<W: ByteOut>(
     requires few { count ≤ 128 }
     requires inside { from + count ≤ length (instruction (transaction_of seen.now)).sent }
     requires fits { from + count < 2 ^ 64 }
-    requires room { W.count out.old < 2 ^ 64 - 1 }
     ensures bytes { Writes (W.held out.old) (W.held out.new) result
         (flat_map hex_pair (take count (drop from (instruction (transaction_of seen.now)).sent))) }
     ensures count { Counts (W.count out.old) (W.count out.new) result }

@@ -1,6 +1,6 @@
 //! The listing of a script that comes step by step.
 
-ghost use Rattle.std.specs.Prelude.{◌≡◌, ◌<◌, ◌-◌, ◌^◌, IfOk, IfErr};
+ghost use Rattle.std.specs.Prelude.{◌≡◌, IfOk, IfErr};
 ghost use Rattle.nor_listing.specs.Listing.{line, mode_past};
 ghost use Rattle.nor_script.specs.View.{step_of};
 ghost use Rattle.nor_script.specs.declared.fault.ScriptFault.TheVariants.{Memory};
@@ -52,8 +52,6 @@ pub fn list_steps<R: ByteIn, W: ByteOut>(
     script: &mut R,
     out: &mut W,
 ) -> Result<(), Stop>
-    requires script { R.count script.old < 2 ^ 64 - 1 }
-    requires out { W.count out.old < 2 ^ 64 - 1 }
     ensures lists { Lists meaning.now first (R.ahead script.old) (R.ahead script.new)
         (W.held out.old) (W.held out.new) result }
     ensures source { CountsStop (R.count script.old) (R.count script.new) result }
@@ -85,7 +83,6 @@ fn put_step<W: ByteOut>(
     step: StepView<'_>,
     out: &mut W,
 ) -> Result<bool, Stop>
-    requires { W.count out.old < 2 ^ 64 - 1 }
     ensures line { PutsLine (W.held out.old) (W.held out.new) result
         (line meaning.now number mode4 (step_of step.entry)) }
     ensures mode { IfOk result (λ after. after ≡ mode_past meaning.now mode4 (step_of step.entry)) }

@@ -1,6 +1,6 @@
 //! The words of clocks that are to read the bytes expected.
 
-ghost use Rattle.std.specs.Prelude.{◌<◌, ◌≤◌, ◌-◌, ◌^◌, ◌++◌, if◌then◌else◌, None, length};
+ghost use Rattle.std.specs.Prelude.{◌≤◌, ◌++◌, if◌then◌else◌, None, length};
 ghost use Rattle.nor_base.specs.Device.{Writes, Counts};
 ghost use Rattle.nor_base.specs.Decoding.{decode, instruction, opcode};
 ghost use Rattle.nor_base.specs.Run.{is_verify};
@@ -22,7 +22,6 @@ pub(crate) fn put_verified<W: ByteOut>(
     expect: &[u8],
     out: &mut W,
 ) -> Result<(), Failed>
-    requires { W.count out.old < 2 ^ 64 - 1 }
     ensures bytes { Writes (W.held out.old) (W.held out.new) result
         (closed (verify_words clocks.now expect.now
         (if is_verify clocks.now then decode meaning.now mode4 clocks.now else None))) }
@@ -44,7 +43,6 @@ fn put_line<W: ByteOut>(
     expect: &[u8],
     out: &mut W,
 ) -> Result<(), Failed>
-    requires { W.count out.old < 2 ^ 64 - 1 }
     ensures bytes { Writes (W.held out.old) (W.held out.new) result
         (closed (word.now ++ step_line (Verify clocks.now expect.now))) }
     ensures count { Counts (W.count out.old) (W.count out.new) result }
@@ -61,7 +59,6 @@ fn put_seen<W: ByteOut>(
     out: &mut W,
 ) -> Result<(), Failed>
     requires opcode { 8 ≤ length clocks.now }
-    requires room { W.count out.old < 2 ^ 64 - 1 }
     ensures bytes { Writes (W.held out.old) (W.held out.new) result
         (closed (read_words clocks.now expect.now (instruction (transaction_of seen.now))
         seen.now.what)) }
@@ -85,7 +82,6 @@ fn put_read<W: ByteOut>(
     expect: &[u8],
     out: &mut W,
 ) -> Result<(), Failed>
-    requires { W.count out.old < 2 ^ 64 - 1 }
     ensures bytes { Writes (W.held out.old) (W.held out.new) result
         (closed (word.now ++ (hex_pair op
         ++ (in_eight address ++ (counted count ++ spelled expect.now))))) }

@@ -1,6 +1,5 @@
 //! The writer of listings.
 
-ghost use Rattle.std.specs.Prelude.{◌<◌, ◌-◌, ◌^◌};
 ghost use Rattle.nor_base.specs.Chip.{begins4};
 ghost use Rattle.nor_base.specs.Device.{Writes, Counts};
 ghost use Rattle.nor_base.specs.Script.{end_line};
@@ -20,7 +19,6 @@ pub fn write_listing<W: ByteOut>(
     steps: &[Step],
     out: &mut W,
 ) -> Result<(), Failed>
-    requires { W.count out.old < 2 ^ 64 - 1 }
     ensures bytes { Writes (W.held out.old) (W.held out.new) result
         (listing meaning.now (begins4 meaning.now start.now) steps.now) }
     ensures count { Counts (W.count out.old) (W.count out.new) result }
@@ -40,7 +38,6 @@ pub fn write_unended<W: ByteOut>(
     steps: &[Step],
     out: &mut W,
 ) -> Result<(), Failed>
-    requires { W.count out.old < 2 ^ 64 - 1 }
     ensures bytes { Writes (W.held out.old) (W.held out.new) result
         (unended_listing meaning.now (begins4 meaning.now start.now) steps.now) }
     ensures count { Counts (W.count out.old) (W.count out.new) result }
@@ -57,7 +54,6 @@ pub fn write_unended<W: ByteOut>(
 /// rose by one.
 #[tactic(auto, unfolding(crate::specs::Listing::chip_line))]
 pub fn begin<W: ByteOut>(meaning: &Meaning, mode4: bool, out: &mut W) -> Result<(), Failed>
-    requires { W.count out.old < 2 ^ 64 - 1 }
     ensures bytes { Writes (W.held out.old) (W.held out.new) result (chip_line meaning.now mode4) }
     ensures count { Counts (W.count out.old) (W.count out.new) result }
 {
@@ -75,7 +71,6 @@ pub fn begin<W: ByteOut>(meaning: &Meaning, mode4: bool, out: &mut W) -> Result<
 /// At `Failed` a proper prefix was taken; it comes only from the writer, whose count of failures
 /// rose by one.
 pub fn finish<W: ByteOut>(steps: u64, out: &mut W) -> Result<(), Failed>
-    requires { W.count out.old < 2 ^ 64 - 1 }
     ensures bytes { Writes (W.held out.old) (W.held out.new) result (end_line steps) }
     ensures count { Counts (W.count out.old) (W.count out.new) result }
 {
@@ -89,7 +84,6 @@ fn put_lines<W: ByteOut>(
     steps: &[Step],
     out: &mut W,
 ) -> Result<(), Failed>
-    requires { W.count out.old < 2 ^ 64 - 1 }
     ensures bytes { Writes (W.held out.old) (W.held out.new) result
         (lines_from meaning.now 0 mode4 steps.now) }
     ensures count { Counts (W.count out.old) (W.count out.new) result }

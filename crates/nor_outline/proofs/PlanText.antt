@@ -5,13 +5,13 @@ use Rattle.std.specs.Io.KnownBytes.{Appends}
 use Rattle.std.proofs.lemmas.Grind.{flat_map-append}
 use Rattle.std.proofs.lemmas.List.{take-append-drop}
 use Rattle.nor_base.specs.declared.meaning.Strategy.{Strategy}
-use Rattle.nor_base.specs.Device.{Cuts}
+use Rattle.nor_base.specs.Device.{Cuts, raised}
 use Rattle.nor_base.specs.Need.{is_due}
 use Rattle.nor_base.specs.Operations.{unit_ops}
 use Rattle.nor_base.specs.Parameters.{Parameters}
 use Rattle.nor_base.specs.Script.{closed}
 use Rattle.nor_base.specs.Units.{WorkUnit}
-use Rattle.nor_base.proofs.DeviceLaws.{Appends-none}
+use Rattle.nor_base.proofs.DeviceLaws.{Appends-none, never_raised}
 use Rattle.nor_outline.specs.Outline.{unit_plan, unit_lines, IsStretchPlan, RefusesLines}
 use Rattle.nor_outline.specs.Told.{AreLines, AreBegun, unit_outline}
 use Rattle.nor_plan_read.specs.declared.line.PlanLine.{PlanLine}
@@ -63,16 +63,16 @@ plan_text w at have want lines is content target has has' =
     }
 
 -- what never fails didn't
-never_failed : (why : StepsFault) → 0 ≡ 0 + of_writer why → IsOfWriting why → why ≡ fault.Memory
+never_failed : (why : StepsFault) → 0 ≡ raised 0 (of_writer why) → IsOfWriting why → why ≡ fault.Memory
 never_failed fault.Memory count is = refl
-never_failed fault.Write count is = absurd (omega (arith, count))
+never_failed fault.Write count is = absurd (let none = never_raised 1 count in omega (arith, none))
 never_failed (fault.Plan why) count is = absurd is
 
 -- where the steps aren't all counted, there are no lines
-pub uncounted : (w : Writing) (at : ℕ) (have want : List ℕ) (why : StepsFault) → 0 ≡ 0 + of_writer why → StopsStretch w None None at have want why
+pub uncounted : (w : Writing) (at : ℕ) (have want : List ℕ) (why : StepsFault) → 0 ≡ raised 0 (of_writer why) → StopsStretch w None None at have want why
     → RefusesLines w.streaming.meaning w.streaming.by at have want why
 uncounted w at have want (fault.Plan why) count stops = stops.0
-uncounted w at have want fault.Write count stops = absurd (omega (arith, count))
+uncounted w at have want fault.Write count stops = absurd (let none = never_raised 1 count in omega (arith, none))
 uncounted w at have want fault.Memory count stops = tt
 
 -- where there are no lines, none was written
@@ -81,11 +81,6 @@ pub refused : (w : Writing) (x : Option (List ℕ)) (at : ℕ) (have want : List
 refused w x at have want (fault.Plan why) is = (is, Appends-none x)
 refused w x at have want fault.Write is = absurd is
 refused w x at have want fault.Memory is = inr (Appends-none x)
-
-pub not_of_writer : (m : Parameters) (by : Strategy) (at : ℕ) (have want : List ℕ) (why : StepsFault) → RefusesLines m by at have want why → of_writer why ≡ 0
-not_of_writer m by at have want (fault.Plan why) is = refl
-not_of_writer m by at have want fault.Write is = absurd is
-not_of_writer m by at have want fault.Memory is = refl
 
 -- the steps were counted
 pub counted : (w v : Writing) (x y : Option (List ℕ)) (at : ℕ) (have want : List ℕ) (told : Tally) → WroteStretch w v x y at have want told → IsTold w v at have want told

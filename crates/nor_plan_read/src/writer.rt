@@ -1,6 +1,6 @@
 //! Writes the lines of a plan.
 
-ghost use Rattle.std.specs.Prelude.{◌≡◌, ◌<◌, ◌-◌, ◌^◌};
+ghost use Rattle.std.specs.Prelude.{◌≡◌};
 ghost use Rattle.nor_base.specs.Device.{Writes, Counts};
 ghost use Rattle.nor_base.specs.Script.{closed};
 ghost use Rattle.nor_plan_read.specs.declared.line.PlanLine.TheVariants.{Erase, Because, Program};
@@ -15,7 +15,6 @@ use nor_script::{hex_number, hex_pair};
 ///
 /// It takes no memory. At `Failed` a proper prefix was taken; it comes only from the writer.
 pub fn write_lines<W: ByteOut>(lines: &[PlanLine], out: &mut W) -> Result<(), Failed>
-    requires { W.count out.old < 2 ^ 64 - 1 }
     ensures bytes { Writes (W.held out.old) (W.held out.new) result (lines_text lines.now) }
     ensures count { Counts (W.count out.old) (W.count out.new) result }
 {
@@ -30,7 +29,6 @@ pub fn write_lines<W: ByteOut>(lines: &[PlanLine], out: &mut W) -> Result<(), Fa
 ///
 /// It takes no memory. `Failed` comes only from the writer.
 pub fn write_line<W: ByteOut>(line: PlanLine, out: &mut W) -> Result<(), Failed>
-    requires { W.count out.old < 2 ^ 64 - 1 }
     ensures bytes { Writes (W.held out.old) (W.held out.new) result (line_text line) }
     ensures count { Counts (W.count out.old) (W.count out.new) result }
     ensures words { line_text line ≡ closed (line_words line) }
@@ -48,7 +46,6 @@ pub fn write_line<W: ByteOut>(line: PlanLine, out: &mut W) -> Result<(), Failed>
 
 /// Puts the line of a block that is erased.
 fn put_erase<W: ByteOut>(start: u32, size: u32, opcode: u8, out: &mut W) -> Result<(), Failed>
-    requires { W.count out.old < 2 ^ 64 - 1 }
     ensures bytes { Writes (W.held out.old) (W.held out.new) result
         (line_text (Erase start size opcode)) }
     ensures count { Counts (W.count out.old) (W.count out.new) result }
@@ -69,7 +66,6 @@ fn put_erase<W: ByteOut>(start: u32, size: u32, opcode: u8, out: &mut W) -> Resu
 
 /// Puts the line that says why.
 fn put_because<W: ByteOut>(start: u32, cause: u32, out: &mut W) -> Result<(), Failed>
-    requires { W.count out.old < 2 ^ 64 - 1 }
     ensures bytes { Writes (W.held out.old) (W.held out.new) result
         (line_text (Because start cause)) }
     ensures count { Counts (W.count out.old) (W.count out.new) result }
@@ -88,7 +84,6 @@ fn put_because<W: ByteOut>(start: u32, cause: u32, out: &mut W) -> Result<(), Fa
 
 /// Puts the line of a run that is programmed.
 fn put_program<W: ByteOut>(start: u32, count: u32, out: &mut W) -> Result<(), Failed>
-    requires { W.count out.old < 2 ^ 64 - 1 }
     ensures bytes { Writes (W.held out.old) (W.held out.new) result
         (line_text (Program start count)) }
     ensures count { Counts (W.count out.old) (W.count out.new) result }

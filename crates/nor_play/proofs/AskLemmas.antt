@@ -1,6 +1,5 @@
 -- How often the port is asked.
 use Rattle.std.proofs.Common.{◌≡◌, ℕ, zero, suc, ◌+◌, ◌-◌, ◌<◌, ◌≤◌, Bool, true, false, if◌then◌else◌, List, [], ◌∷◌, ◌++◌, take, drop, length, get_or, Result, Ok, Err, refl, sym, ◌∙◌, ap, subst, arith}
-use Rattle.std.specs.Prelude.{MatchResult}
 use Rattle.std.specs.Str.{bytes_eq}
 use Rattle.nor_base.specs.declared.step.Step.{Step}
 use Rattle.nor_base.specs.declared.step.Step.TheVariants.{Send, Poll, Verify}
@@ -19,7 +18,7 @@ use Rattle.nor_play.specs.declared.fault.Halt.{Halt as Stopped}
 use Rattle.nor_play.specs.declared.fault.Halt.TheVariants as halt
 use Rattle.nor_play.specs.declared.fault.PlayFault.{PlayFault}
 use Rattle.nor_play.specs.declared.fault.PlayFault.TheVariants as fault
-use Rattle.nor_play.specs.Halt.{halt_of, play_fault}
+use Rattle.nor_play.specs.Halt.{halt_of}
 use Rattle.nor_play.specs.Numbered.{PlaysNumbered}
 use Rattle.nor_play.specs.Asks.{turns_on, turns_for, asks_of, asks_after, asks, AsksPart, AsksOnce, AsksStep, AsksNumbered, AsksPlay}
 use Rattle.nor_play.proofs.PollLemmas.{IsPolling}
@@ -156,14 +155,6 @@ asks_all before now P Q limit clocks asking is =
     let turns = asking.turns in
     let whole = poll_all before limit clocks is in
     as_many P Q limit _ (omega (arith, turns, last, whole)) asking.asked
-
--- a step's answer with its number
-pub numbered_asks : (before : Shown) (P Q : ℕ → Type 0) (limit number : ℕ) (x : Step) (r : Result ℕ Stopped) (t : Result ℕ PlayFault) → AsksStep before P Q limit x r
-    → MatchResult r (λ n. t ≡ Ok n) (λ e. t ≡ Err (play_fault e number)) → AsksNumbered before P Q limit x t
-numbered_asks before P Q limit number x (Ok n) t asked told = subst (AsksNumbered before P Q limit x) (sym told) asked
-numbered_asks before P Q limit number x (Err (halt.Wrong why)) t asked told = subst (AsksNumbered before P Q limit x) (sym told) asked
-numbered_asks before P Q limit number x (Err halt.Failed) t asked told = subst (AsksNumbered before P Q limit x) (sym told) asked
-numbered_asks before P Q limit number x (Err halt.Memory) t asked told = subst (AsksNumbered before P Q limit x) (sym told) asked
 
 -- what follows steps that were played
 asks_then : (s : Setting) (limit : ℕ) (c d : Chip) (xs ys : List Step) → played s limit c xs ≡ Ok d

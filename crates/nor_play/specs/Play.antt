@@ -1,5 +1,6 @@
 -- What a player does to what a port shows.
 use Rattle.std.specs.Prelude.{◌≡◌, ℕ, ◌+◌, ◌<◌, if◌then◌else◌, List, length, take, Result, Ok, Err}
+use Rattle.nor_base.specs.Device.{one_more}
 use Rattle.nor_base.specs.declared.step.Step.{Step}
 use Rattle.nor_base.specs.declared.wrong.Wrong.{Wrong}
 use Rattle.nor_base.specs.declared.wrong.Wrong.TheVariants as wrong
@@ -53,5 +54,5 @@ Plays before after limit steps (Err fault.Memory) = LeavesPlay before after limi
 abbrev pub CountsPlay : ℕ → ℕ → Result ℕ PlayFault → Type 0
 CountsPlay before after (Ok count) = after ≡ before
 CountsPlay before after (Err (fault.Wrong at why)) = after ≡ before
-CountsPlay before after (Err (fault.PortFailed at)) = after ≡ before + 1
+CountsPlay before after (Err (fault.PortFailed at)) = after ≡ one_more before
 CountsPlay before after (Err fault.Memory) = after ≡ before

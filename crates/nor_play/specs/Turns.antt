@@ -1,5 +1,6 @@
 -- What the transactions of one step do to what a port shows.
 use Rattle.std.specs.Prelude.{◌≡◌, ℕ, ◌+◌, ◌≤◌, ⊤, List, length, Result, Ok, Err}
+use Rattle.nor_base.specs.Device.{one_more}
 use Rattle.nor_base.specs.declared.step.Step.{Step}
 use Rattle.nor_base.specs.declared.wrong.Wrong.{Wrong}
 use Rattle.nor_base.specs.Effect.{effect}
@@ -38,5 +39,5 @@ PlaysStep before after limit step_played (Err halt.Memory) = after ≡ before
 abbrev pub CountsHalt : {A : Type 0} → ℕ → ℕ → Result A Halt → Type 0
 CountsHalt before after (Ok x) = after ≡ before
 CountsHalt before after (Err (halt.Wrong why)) = after ≡ before
-CountsHalt before after (Err halt.Failed) = after ≡ before + 1
+CountsHalt before after (Err halt.Failed) = after ≡ one_more before
 CountsHalt before after (Err halt.Memory) = after ≡ before

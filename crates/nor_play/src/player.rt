@@ -27,7 +27,6 @@ pub fn play<P: Port>(
     limit: u64,
 ) -> Result<u128, PlayFault>
     requires limit { 0 < limit }
-    requires room { P.count port.old < 2 ^ 64 - 1 }
     ensures played { Plays (P.shown port.old) (P.shown port.new) limit steps.now result }
     ensures count { CountsPlay (P.count port.old) (P.count port.new) result }
     ensures asked { AsksPlay (P.shown port.old) (P.asked port.old) (P.asked port.new) limit
@@ -90,7 +89,6 @@ impl StepPlayer {
         port: &mut P,
     ) -> Result<u64, PlayFault>
         requires number { self.old.number < 2 ^ 64 - 1 }
-        requires room { P.count port.old < 2 ^ 64 - 1 }
         ensures player { self.new ≡ past self.old result }
         ensures played { PlaysNumbered (P.shown port.old) (P.shown port.new) self.old.limit
             self.old.number (Send clocks.now) result }
@@ -109,7 +107,6 @@ impl StepPlayer {
     /// number of the step. After one the player is as it was.
     pub fn poll<P: Port>(&mut self, clocks: &[u8], port: &mut P) -> Result<u64, PlayFault>
         requires number { self.old.number < 2 ^ 64 - 1 }
-        requires room { P.count port.old < 2 ^ 64 - 1 }
         ensures player { self.new ≡ past self.old result }
         ensures played { PlaysNumbered (P.shown port.old) (P.shown port.new) self.old.limit
             self.old.number (Poll clocks.now) result }
@@ -134,7 +131,6 @@ impl StepPlayer {
         port: &mut P,
     ) -> Result<u64, PlayFault>
         requires number { self.old.number < 2 ^ 64 - 1 }
-        requires room { P.count port.old < 2 ^ 64 - 1 }
         ensures player { self.new ≡ past self.old result }
         ensures played { PlaysNumbered (P.shown port.old) (P.shown port.new) self.old.limit
             self.old.number
@@ -168,7 +164,6 @@ impl StepPlayer {
     /// Plays a step.
     fn step<P: Port>(&mut self, alloc: Global, step: &Step, port: &mut P) -> Result<u64, PlayFault>
         requires number { self.old.number < 2 ^ 64 - 1 }
-        requires room { P.count port.old < 2 ^ 64 - 1 }
         ensures player { self.new ≡ past self.old result }
         ensures played { PlaysNumbered (P.shown port.old) (P.shown port.new) self.old.limit
             self.old.number step.now result }

@@ -1,6 +1,6 @@
 //! One step, on a port.
 
-ghost use Rattle.std.specs.Prelude.{◌≡◌, ◌<◌, ◌-◌, ◌^◌};
+ghost use Rattle.std.specs.Prelude.{◌≡◌, ◌<◌};
 ghost use Rattle.nor_base.specs.declared.step.Step.TheVariants.{Send, Poll, Verify};
 ghost use Rattle.nor_base.specs.Sample.{sampled_count};
 ghost use Rattle.nor_play.specs.Turns.{Gives, PlaysStep, CountsHalt};
@@ -22,7 +22,6 @@ pub(crate) fn send<P: Port>(
     limit: u64,
 ) -> Result<u64, Halt>
     requires limit { 0 < limit }
-    requires room { P.count port.old < 2 ^ 64 - 1 }
     ensures played { PlaysStep (P.shown port.old) (P.shown port.new) limit (Send clocks.now)
         result }
     ensures count { CountsHalt (P.count port.old) (P.count port.new) result }
@@ -42,7 +41,6 @@ pub(crate) fn verify<P: Port>(
     limit: u64,
 ) -> Result<u64, Halt>
     requires limit { 0 < limit }
-    requires room { P.count port.old < 2 ^ 64 - 1 }
     ensures played { PlaysStep (P.shown port.old) (P.shown port.new) limit
         (Verify clocks.now expect.now) result }
     ensures count { CountsHalt (P.count port.old) (P.count port.new) result }
@@ -64,7 +62,6 @@ pub(crate) fn verify<P: Port>(
 /// Reads the status until it says idle, at most so many times.
 pub(crate) fn poll<P: Port>(clocks: &[u8], port: &mut P, limit: u64) -> Result<u64, Halt>
     requires limit { 0 < limit }
-    requires room { P.count port.old < 2 ^ 64 - 1 }
     ensures played { PlaysStep (P.shown port.old) (P.shown port.new) limit (Poll clocks.now)
         result }
     ensures count { CountsHalt (P.count port.old) (P.count port.new) result }
@@ -87,7 +84,6 @@ pub(crate) fn poll<P: Port>(clocks: &[u8], port: &mut P, limit: u64) -> Result<u
 
 /// One transaction, and the bytes that its clocks sample.
 fn transact<P: Port>(alloc: Global, clocks: &[u8], port: &mut P) -> Result<Vec<u8>, Halt>
-    requires { P.count port.old < 2 ^ 64 - 1 }
     ensures given { Gives (λ v. v.items) (P.shown port.old) (P.shown port.new) clocks.now result }
     ensures count { CountsHalt (P.count port.old) (P.count port.new) result }
     ensures asked { AsksOnce (P.asked port.old) (P.asked port.new) result }

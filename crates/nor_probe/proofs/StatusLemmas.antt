@@ -1,5 +1,5 @@
 -- Status reads, turn by turn.
-use Rattle.std.proofs.Common.{◌≡◌, ℕ, zero, suc, Bool, ◌+◌, ◌<◌, ◌%◌, ◌==◌, ◌||◌, true, false, List, [], ◌∷◌, ◌++◌, length, get_or, Option, Err, refl, sym, ◌∙◌, ap, subst, append-nil, arith, length-append}
+use Rattle.std.proofs.Common.{◌≡◌, ℕ, zero, suc, Bool, ◌+◌, ◌<◌, ◌%◌, ◌==◌, ◌||◌, true, false, List, [], ◌∷◌, ◌++◌, length, get_or, Option, refl, sym, ◌∙◌, ap, subst, append-nil, arith, length-append}
 use Rattle.std.specs.Prelude.{flat_map}
 use Rattle.std.specs.Io.KnownBytes.{Appends}
 use Rattle.std.proofs.lemmas.Grind.{flat_map-append}
@@ -8,7 +8,7 @@ use Rattle.nor_base.specs.Device.{Ahead, Unknown, Finite, Endless, Gives}
 use Rattle.nor_base.proofs.DeviceLaws.{Appends-append, Appends-none, Gives-append}
 use Rattle.nor_serprog.specs.declared.fault.Fault.{Fault}
 use Rattle.nor_serprog.specs.Protocol.{request, answer}
-use Rattle.nor_serprog.specs.Exchange.{Talked, Answers, Asks}
+use Rattle.nor_serprog.specs.Exchange.{Talked}
 use Rattle.nor_serprog.specs.Follow.{HasRead, are_busy, StaysBusy, status_request}
 use Rattle.nor_probe.specs.Status.{StopsAtFirst, ends_wait, HasReadRegister, StopsRegister, HasSettled}
 
@@ -45,14 +45,6 @@ pub register_read : {h h' : Option (List ℕ)} {a a' : Ahead} (opcode n : ℕ) (
 register_read {h} {h'} {a} {a'} opcode n got n_is one out back = record {
   out = subst (λ k. Appends h h' (request (opcode ∷ []) k)) n_is out;
   back = subst (λ (bytes : List ℕ). Gives a (answer bytes) a') (single got one) back;
-}
-
-pub register_stopped : {h h' : Option (List ℕ)} {a a' : Ahead} (opcode n : ℕ) (got : List ℕ) (why : Fault) → n ≡ 1 → length got ≡ 1
-    → Asks h h' a a' (Err why) (request (opcode ∷ []) n) (Answers a a' (Err why) got) → StopsRegister h h' a a' opcode why
-register_stopped {h} {h'} {a} {a'} opcode n got why n_is one stop = record {
-  got = got;
-  one = one;
-  stop = subst (λ k. Asks h h' a a' (Err why) (request (opcode ∷ []) k) (Answers a a' (Err why) got)) n_is stop;
 }
 
 -- some status reads, of which each said busy

@@ -1,8 +1,8 @@
 -- How far the headers reach, header by header.
-use Rattle.std.proofs.Common.{◌≡◌, ℕ, ◌+◌, ◌*◌, ◌<◌, ◌≤◌, List, [], ◌∷◌, ◌++◌, length, map, max, min, cond, true, false, refl, sym, ◌∙◌, ap, arith}
+use Rattle.std.proofs.Common.{◌≡◌, ℕ, ◌+◌, ◌*◌, ◌≤◌, List, [], ◌∷◌, ◌++◌, length, map, max, min, cond, false, sym, ◌∙◌, ap, arith}
 use Rattle.std.specs.Prelude.{nat_lt}
 use Rattle.std.specs.List.{range_with_len}
-use Rattle.std.proofs.lemmas.Bool.{lt-ltb, le-ltb}
+use Rattle.std.proofs.lemmas.Bool.{le-ltb}
 use Rattle.std.proofs.lemmas.List.FromFn.{map-range_with_len_more}
 use Rattle.nor_probe.specs.Tables.{greatest, ends, header_count, table_end, tables_reach}
 
@@ -34,12 +34,3 @@ pub reach_all : (bytes : List ℕ) (i reach result : ℕ) → 8 ≤ length bytes
 reach_all bytes i reach result some last so_far is =
     let e : reach ≡ greatest (ends bytes) = so_far ∙ ap (λ n. greatest (ends_before bytes n)) last in
     let w = whole_reach bytes some in omega (arith, e, w, is)
-
-pub reach_past : (bytes : List ℕ) → 8 ≤ length bytes → length bytes < 8 + 8 * header_count bytes → length bytes ≡ tables_reach bytes
-reach_past bytes some past =
-    let w = whole_reach bytes some in
-    let m : greatest (ends bytes) ≡ max (8 + 8 * header_count bytes) (greatest (map (table_end bytes) (range_with_len 0 (header_count bytes)))) = refl in
-    omega (arith, w, m, past)
-
-pub reach_none : (bytes : List ℕ) → length bytes < 8 → 0 ≡ tables_reach bytes
-reach_none bytes few = let is : nat_lt (length bytes) 8 ≡ true = lt-ltb (length bytes) 8 few in rw is refl

@@ -3,7 +3,7 @@
 use Rattle.std.specs.Prelude.{◌≡◌, ◌⊎◌, ◌<◌, ◌%◌, ◌+◌, ◌*◌, ◌==◌, ◌&&◌, ◌||◌, not, ℕ, Bool, true, is_none, List, [], ◌∷◌, ◌++◌, length, Option, Some, Result, Ok, Err}
 use Rattle.std.specs.List.{list_any}
 use Rattle.std.proofs.Math.Bool.{beq}
-use Rattle.nor_base.specs.Device.{Ahead}
+use Rattle.nor_base.specs.Device.{Ahead, one_more}
 use Rattle.nor_base.specs.declared.meaning.Part.{Part}
 use Rattle.nor_base.specs.declared.meaning.Part.TheVariants.{Generic, W25q256jv}
 use Rattle.nor_base.specs.declared.meaning.Start.{Start}
@@ -131,8 +131,8 @@ ReadsStatus W25q256jv held_before held_after ahead_before ahead_after (Err other
 -- the reader's count of failures rises by one exactly where the reason is Read, the writer's where it is Write
 abbrev pub CountsReason : {T : Type 0} → Fault → ℕ → ℕ → Result T Reason → Type 0
 CountsReason device before after (Ok x) = after ≡ before
-CountsReason fault.Read before after (Err (reason.Exchange fault.Read)) = after ≡ before + 1
-CountsReason fault.Write before after (Err (reason.Exchange fault.Write)) = after ≡ before + 1
+CountsReason fault.Read before after (Err (reason.Exchange fault.Read)) = after ≡ one_more before
+CountsReason fault.Write before after (Err (reason.Exchange fault.Write)) = after ≡ one_more before
 CountsReason device before after (Err other) = after ≡ before
 
 -- of S7 to S0: the write enable latch (S1) is set, or some bit of block protection (S2 to S5)

@@ -1,8 +1,7 @@
 //! The status registers of the chip behind a device (W25Q256JV datasheet: Read Status Register-1
 //! 05h, -2 35h, -3 15h).
 
-ghost use Rattle.std.specs.Prelude.{◌≡◌, ◌<◌, ◌-◌, ◌^◌};
-ghost use Rattle.nor_base.specs.Device.{HaveRoom};
+ghost use Rattle.std.specs.Prelude.{◌≡◌, ◌<◌};
 ghost use Rattle.nor_sfdp.specs.Bits.{is_set};
 ghost use Rattle.nor_serprog.specs.declared.fault.Fault.TheVariants.{Read, Write};
 ghost use Rattle.nor_serprog.specs.Exchange.{CountsReads, CountsWrites};
@@ -41,7 +40,6 @@ pub fn idle_status<R: ByteIn, W: ByteOut>(
     to: &mut W,
     turns: u64,
 ) -> Result<u8, Reason>
-    requires room { HaveRoom (R.count from.old) (W.count to.old) }
     ensures settles { Settles (W.held to.old) (W.held to.new) (R.ahead from.old) (R.ahead from.new)
         result turns }
     ensures counts { CountsReason Read (R.count from.old) (R.count from.new) result
@@ -74,7 +72,6 @@ pub fn chip_status<R: ByteIn, W: ByteOut>(
     part: Part,
     turns: u64,
 ) -> Result<u32, Reason>
-    requires room { HaveRoom (R.count from.old) (W.count to.old) }
     ensures status { ReadsStatus part (W.held to.old) (W.held to.new) (R.ahead from.old)
         (R.ahead from.new) result turns }
     ensures counts { CountsReason Read (R.count from.old) (R.count from.new) result
@@ -99,7 +96,6 @@ pub fn read_register<R: ByteIn, W: ByteOut>(
     to: &mut W,
     opcode: u8,
 ) -> Result<u8, Fault>
-    requires room { HaveRoom (R.count from.old) (W.count to.old) }
     ensures register { ReadsRegister (W.held to.old) (W.held to.new) (R.ahead from.old)
         (R.ahead from.new) result opcode }
     ensures counts { CountsReads (R.count from.old) (R.count from.new) result

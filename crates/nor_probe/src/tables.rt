@@ -1,8 +1,7 @@
 //! The SFDP tables of the chip behind a device (JESD216: Read SFDP 5Ah; the header and the
 //! parameter headers).
 
-ghost use Rattle.std.specs.Prelude.{◌≡◌, ◌≤◌, ◌<◌, ◌+◌, ◌-◌, ◌*◌, ◌^◌, length};
-ghost use Rattle.nor_base.specs.Device.{HaveRoom};
+ghost use Rattle.std.specs.Prelude.{◌≡◌, ◌≤◌, ◌<◌, ◌+◌, ◌*◌, ◌^◌, length};
 ghost use Rattle.nor_serprog.specs.declared.fault.Fault.TheVariants.{Read, Write};
 ghost use Rattle.nor_probe.specs.Compared.{CountsMismatch};
 ghost use Rattle.nor_probe.specs.Tables.{tables_reach, table_end, Compares, ComparesPiece};
@@ -66,7 +65,6 @@ pub fn compare_tables<R: ByteIn, W: ByteOut>(
     tables: &[u8],
 ) -> Result<(), Mismatch>
     requires size { length tables.now ≤ 2 ^ 24 }
-    requires room { HaveRoom (R.count from.old) (W.count to.old) }
     ensures compared { Compares (W.held to.old) (W.held to.new) (R.ahead from.old)
         (R.ahead from.new) result limits.now tables.now }
     ensures counts { CountsMismatch Read (R.count from.old) (R.count from.new) result
@@ -94,7 +92,6 @@ fn compare_piece<R: ByteIn, W: ByteOut>(
 ) -> Result<(), Mismatch>
     requires size { length piece.now ≤ 256 }
     requires address { address < 2 ^ 24 }
-    requires room { HaveRoom (R.count from.old) (W.count to.old) }
     ensures compared { ComparesPiece (W.held to.old) (W.held to.new) (R.ahead from.old)
         (R.ahead from.new) result address piece.now }
     ensures counts { CountsMismatch Read (R.count from.old) (R.count from.new) result

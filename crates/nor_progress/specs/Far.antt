@@ -38,10 +38,6 @@ is_due far = far.works && ((far.steps % 100 == 0) || (far.steps == far.all_steps
 abbrev pub line_of : Progress → List ℕ
 line_of far = progress_line far.steps far.all_steps far.bytes far.all_bytes
 
--- while no line failed the writer's count has room for one more failure
-abbrev pub HasRoom : Progress → ℕ → Type 0
-HasRoom far count = far.works ≡ true → count < 2 ^ 64 - 1
-
 -- nothing was written
 pub record IsSilent (held_before held_after : Option (List ℕ)) (count_before count_after : ℕ) : Type 0 where
   pub held : held_after ≡ held_before

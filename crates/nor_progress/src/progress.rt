@@ -1,9 +1,9 @@
 //! How far work has come.
 
-ghost use Rattle.std.specs.Prelude.{◌≡◌, ◌<◌, ◌-◌, ◌^◌, length};
+ghost use Rattle.std.specs.Prelude.{◌≡◌, ◌<◌, ◌^◌, length};
 ghost use Rattle.nor_base.specs.Device.{Writes, Counts};
 ghost use Rattle.nor_progress.specs.Come.{MovesOn};
-ghost use Rattle.nor_progress.specs.Far.{begun, bus_bytes, is_due, line_of, HasRoom, StepTold};
+ghost use Rattle.nor_progress.specs.Far.{begun, bus_bytes, is_due, line_of, StepTold};
 ghost use Rattle.nor_progress.specs.Far.{Ended};
 
 use itoa::Buffer;
@@ -49,11 +49,9 @@ impl Progress {
     /// One more step is done. A line is written after each hundred and at the end, until the writer
     /// fails.
     pub fn step_done<P: ByteOut>(&mut self, step: &Step, out: &mut P)
-        requires { HasRoom self.old (P.count out.old) }
         ensures done { StepTold self.old self.new step.now (P.held out.old) (P.held out.new)
             (P.count out.old)
             (P.count out.new) }
-        ensures room { HasRoom self.new (P.count out.new) }
     {
         self.steps = self.steps.saturating_add(1);
         self.bytes = self.bytes.saturating_add(bytes(step));
@@ -66,11 +64,9 @@ impl Progress {
     /// These steps are done, one after the other: of whatever steps they are the next, what was
     /// written so far is what is due after the first so many and these.
     pub fn row_done<P: ByteOut>(&mut self, row: &[Step], out: &mut P)
-        requires { HasRoom self.old (P.count out.old) }
         ensures moves { MovesOn self.old self.new row.now (P.held out.old) (P.held out.new)
             (P.count out.old)
             (P.count out.new) }
-        ensures room { HasRoom self.new (P.count out.new) }
     {
         for step in row {
             self.step_done(step, out);
@@ -79,7 +75,6 @@ impl Progress {
 
     /// Closes the line, where one was written and none failed.
     pub fn end<P: ByteOut>(self, out: &mut P)
-        requires { HasRoom self (P.count out.old) }
         ensures { Ended self (P.held out.old) (P.held out.new) (P.count out.old) (P.count out.new) }
     {
         if self.works && self.shown {
@@ -96,7 +91,6 @@ impl Progress {
 
     /// Writes over the line that reports it: `step N of M, B of C bytes`.
     fn write_line<P: ByteOut>(&self, out: &mut P) -> Result<(), Failed>
-        requires { P.count out.old < 2 ^ 64 - 1 }
         ensures bytes { Writes (P.held out.old) (P.held out.new) result (line_of self.now) }
         ensures count { Counts (P.count out.old) (P.count out.new) result }
     {

@@ -98,11 +98,6 @@ again_cut first most next h i j a b c by bytes done len within is some cut more 
     (cut_on first most next (length bytes) done len h i j a b c by 0 (take done bytes) piece within is long some cut
     (subst (λ n. HasLogged i j b c (read_op by n piece ∷ [])) front more))
 
--- all of them came
-pub again_all : (first most next : ℕ) (h i : Option (List ℕ)) (a b : Ahead) (by : ReadBy) (bytes : List ℕ) (done : ℕ) → length bytes ≤ done
-    → IsCutTo first most next (length bytes) done h i a b by 0 (take done bytes) → HasReadCut first most h i a b by 0 bytes
-again_all first most next h i a b by bytes done ends cut = subst (HasReadCut first most h i a b by 0) (take_all done bytes ends) (cut.ends ends)
-
 -- one piece more was read, after those from an address on
 pub read_cut : (most size : ℕ) (h i j : Option (List ℕ)) (a b c : Ahead) (by : ReadBy) (start : ℕ) (old new piece : List ℕ) (done : ℕ) → start ≤ done
     → done ≤ length old → done < size → length piece ≡ min (size - done) most → 0 < most → take (done + length piece) new ≡ take done old ++ piece
@@ -116,11 +111,6 @@ read_cut most size h i j a b c by start old new piece done after within left is 
     subst (λ (l : List ℕ). IsCutTo most most most size (done + length piece) h j a c by start l) joined
     (cut_on most most most size done (length piece) h i j a b c by start (drop start (take done old)) piece left is refl some cut
     (subst (λ n. HasLogged i j b c (read_op by n piece ∷ [])) front more))
-
-pub read_all_cut : (most size : ℕ) (h i : Option (List ℕ)) (a b : Ahead) (by : ReadBy) (start : ℕ) (bytes : List ℕ) (done : ℕ) → length bytes ≤ done
-    → size ≤ done → IsCutTo most most most size done h i a b by start (drop start (take done bytes)) → HasReadCut most most h i a b by start (drop start bytes)
-read_all_cut most size h i a b by start bytes done ends all cut =
-    subst (λ (l : List ℕ). HasReadCut most most h i a b by start (drop start l)) (take_all done bytes ends) (cut.ends all)
 
 -- nothing after an address yet
 pub nothing_cut : (start : ℕ) (bytes : List ℕ) → drop start (take start bytes) ≡ []

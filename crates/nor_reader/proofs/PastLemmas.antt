@@ -1,6 +1,5 @@
 -- Bytes that are read past the end.
-use Rattle.std.proofs.Common.{◌≡◌, ℕ, Bool, true, false, ◌+◌, ◌-◌, ◌%◌, ◌^◌, ◌<◌, ◌≤◌, List, [], ◌∷◌, ◌++◌, length, take, Option, sym, ◌∙◌, ap, subst, arith, append-nil, append_assoc, length-append, leb-true, refl}
-use Rattle.std.specs.Prelude.{if◌then◌else◌, min, max, nat_le}
+use Rattle.std.proofs.Common.{◌≡◌, ℕ, ◌+◌, ◌-◌, ◌<◌, ◌≤◌, List, [], ◌∷◌, ◌++◌, length, take, Option, sym, ◌∙◌, ap, subst, arith, append-nil, append_assoc, length-append}
 use Rattle.std.specs.List.{slice_range}
 use Rattle.std.proofs.lemmas.List.{length-take-le}
 use Rattle.nor_base.specs.Device.{Ahead}
@@ -8,8 +7,7 @@ use Rattle.nor_probe.specs.declared.difference.Mismatch.{Mismatch}
 use Rattle.nor_loop.specs.Log.{HasLogged}
 use Rattle.nor_reader.specs.declared.by.ReadBy.{ReadBy}
 use Rattle.nor_reader.specs.Again.{MissesPiece}
-use Rattle.nor_reader.specs.declared.by.ReadBy.TheVariants.{Tables, Content, FourBytes, Entered}
-use Rattle.nor_reader.specs.Past.{past_end, reach, telling_past, MissesPast}
+use Rattle.nor_reader.specs.Past.{past_end, MissesPast}
 use Rattle.nor_reader.specs.Reads.{read_op, HasReadOn}
 use Rattle.nor_reader.proofs.AgainLemmas.{slice_long, take_on, misses_within}
 use Rattle.nor_reader.proofs.PassLemmas.{nothing_read, read_both, one_piece}
@@ -17,17 +15,6 @@ use Rattle.nor_reader.proofs.PassLemmas.{nothing_read, read_both, one_piece}
 -- no more than the chip has
 pub past_few : (by : ReadBy) (size : ℕ) → past_end by size ≤ size
 past_few by size = omega arith
-
--- each is an address of four bytes
-reach_far : (by : ReadBy) → reach by ≤ 2 ^ 32
-reach_far Tables = omega arith
-reach_far (Content true) = omega arith
-reach_far (Content false) = omega arith
-reach_far FourBytes = omega arith
-reach_far (Entered enter leave) = omega arith
-
-pub past_near : (by : ReadBy) (size : ℕ) → 0 < past_end by size → size + past_end by size ≤ 2 ^ 32
-past_near by size some = omega (arith, some, reach_far by)
 
 -- none was read yet
 pub none_past : (most : ℕ) (h : Option (List ℕ)) (a : Ahead) (by : ReadBy) (content : List ℕ) → HasReadOn most h h a a by content (content ++ take 0 content)

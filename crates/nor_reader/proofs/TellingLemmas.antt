@@ -2,7 +2,7 @@
 use Rattle.std.proofs.Common.{◌≡◌, ◌<◌, ◌≤◌, ◌⊎◌, inl, inr, ℕ, zero, suc, Bool, true, false, ◌+◌, ◌-◌, ◌*◌, ◌^◌, List, [], ◌∷◌, ◌++◌, length, take, drop, length-take, length-drop, append-nil, get_or, refl, sym, ◌∙◌, ap, subst, arith}
 use Rattle.std.specs.Prelude.{not, if◌then◌else◌, min, replicate, nat_lt}
 use Rattle.std.specs.List.{AllByRecursion}
-use Rattle.std.proofs.lemmas.Bool.{cases_lt, le-ltb, le-leb, lt-ltb, leb-true}
+use Rattle.std.proofs.lemmas.Bool.{cases_lt, le-ltb, lt-ltb, leb-true}
 use Rattle.std.proofs.Math.Nat.{mul-le-mul_right}
 use Rattle.std.proofs.lemmas.List.{get_or-drop, get_or-take, drop-drop, take_all, length-replicate}
 use Rattle.nor_base.specs.Array.{are_bytes}
@@ -410,12 +410,6 @@ one_number most n k low high = elim (cases_lt k n) [
     below : {a b : ℕ} → a < b → suc a ≤ b
     below h = omega arith
 
--- what is near before is so
-pub nearer_before : (mode4 : Bool) (at on most size : ℕ) → at ≤ on → is_near mode4 on most size ≡ true → is_near mode4 at most size ≡ true
-nearer_before true at on most size later near = refl
-nearer_before false at on most size later near =
-    le-leb (min (at + 2 + most) size) (2 ^ 24) (omega (arith, later, leb-true (min (on + 2 + most) size) (2 ^ 24) near))
-
 -- the piece of a reading from an address on
 pub piece_there : (most done len : ℕ) (content : List ℕ) → done < length content → len ≡ min (length content - done) most
     → take (done + len - done) (drop done content) ≡ take most (drop done content)
@@ -461,24 +455,3 @@ none_shows mode4 most done content ends none shows = elim (cases_lt (shows.numbe
   | inr more ↦ few_tell (take most (drop (shows.number * most) content))
       (omega (arith, length-take most (drop (shows.number * most) content), length-drop (shows.number * most) content, ends, more)) shows.telling
 ]
-
-pub far_shows : (mode4 : Bool) (most done : ℕ) (content : List ℕ) → is_near mode4 done most (length content) ≡ false → NoneTells most content done
-    → ShowsMode mode4 most content → ⊥
-far_shows mode4 most done content far none shows = elim (cases_lt (shows.number * most) done) [
-  | inl less ↦ none shows.number less shows.telling
-  | inr more ↦ clash (sym far ∙ nearer_before mode4 done (shows.number * most) most (length content) more shows.near)
-]
-  where
-    clash : ◌≡◌ {A = Bool} false true → ⊥
-    clash h = cc
-
--- or this piece shows it
-pub this_shows : (mode4 : Bool) (most done len : ℕ) (content : List ℕ) → done < length content → len ≡ min (length content - done) most
-    → IsCutAt most content done → is_near mode4 done most (length content) ≡ true → IsTelling (take (done + len - done) (drop done content))
-    → ShowsMode mode4 most content
-this_shows mode4 most done len content within is (inr ends) near telling = absurd (omega (arith, ends, within))
-this_shows mode4 most done len content within is (inl at) near telling = record {
-  number = at.0;
-  near = subst (λ n. is_near mode4 n most (length content) ≡ true) at.1 near;
-  telling = subst IsTelling (piece_there most done len content within is ∙ ap (λ n. take most (drop n content)) at.1) telling;
-}

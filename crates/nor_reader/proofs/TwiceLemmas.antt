@@ -1,25 +1,18 @@
 -- A reading, and then another.
-use Rattle.std.proofs.Common.{◌≡◌, inl, inr, ℕ, List, [], ◌++◌, Option, Result, Ok, Err, refl, subst}
+use Rattle.std.proofs.Common.{inl, inr, ℕ, List, [], ◌++◌, Option, Result, Ok, Err, refl}
 use Rattle.std.specs.Prelude.{MatchResult}
-use Rattle.nor_base.specs.declared.meaning.Switch.{Switch}
 use Rattle.nor_base.specs.Device.{Ahead}
 use Rattle.nor_probe.specs.declared.difference.Mismatch.{Mismatch}
 use Rattle.nor_probe.specs.declared.difference.Mismatch.TheVariants.{Exchange, Differs}
 use Rattle.nor_serprog.specs.declared.fault.Fault.{Fault}
 use Rattle.nor_loop.specs.Log.{HasLogged}
-use Rattle.nor_loop.specs.Reads.{switch_ops}
 use Rattle.nor_loop.proofs.DeviceLemmas.{logged_none, logged_both}
 use Rattle.nor_reader.specs.declared.by.ReadBy.{ReadBy}
 use Rattle.nor_reader.specs.declared.by.ReadBy.TheVariants.{Tables}
-use Rattle.nor_reader.specs.Switched.{enter_ops, leave_ops, Operates}
+use Rattle.nor_reader.specs.Switched.{enter_ops, leave_ops}
 use Rattle.nor_reader.specs.Reads.{ops_from, ReadsBy, HasReadOn, StopsOn}
 use Rattle.nor_reader.specs.Again.{MissesOn, ReadsAgain}
 use Rattle.nor_reader.specs.Twice.{HasReadWhole, MissesWhole, ReadTwice, ReadsWhole, StopsFirst, StopsTwice}
-
--- what is said of operations is said of those of the switch that was found
-pub switched_by : (h i : Option (List ℕ)) (a b : Ahead) (r : Result (Unit {0}) Fault) (op : ℕ) (found is : Switch) → found ≡ is
-    → Operates h i a b r (switch_ops found op) → Operates h i a b r (switch_ops is op)
-switched_by h i a b r op found is same p = subst (λ (w : Switch). Operates h i a b r (switch_ops w op)) same p
 
 -- a reading is a log
 whole_logged : (most : ℕ) (h i : Option (List ℕ)) (a b : Ahead) (by : ReadBy) (bytes : List ℕ) → (read : HasReadWhole most h i a b by bytes)

@@ -1,6 +1,6 @@
 -- A chip's SFDP tables (JESD216B: the header with its signature, the parameter headers).
 use Rattle.std.specs.Prelude.{◌≡◌, ℕ, ◌+◌, ◌*◌, ◌^◌, min, take, List, [], length, codes, Option, Result, Ok, Err}
-use Rattle.nor_base.specs.Device.{Ahead}
+use Rattle.nor_base.specs.Device.{Ahead, one_more}
 use Rattle.nor_probe.specs.Tables.{header_count, greatest, ends}
 use Rattle.nor_reader.specs.declared.by.ReadBy.TheVariants.{Tables}
 use Rattle.nor_reader.specs.declared.tables.TablesFault.{TablesFault}
@@ -55,6 +55,6 @@ Grows most held_before held_after ahead_before ahead_after (Err other) old new e
 -- the reader's count of failures rises by one exactly where the exchange ended in Read, the writer's where it ended in Write
 abbrev pub CountsTables : {T : Type 0} → Fault → ℕ → ℕ → Result T TablesFault → Type 0
 CountsTables device before after (Ok x) = after ≡ before
-CountsTables fault.Read before after (Err (Unread (Exchange fault.Read))) = after ≡ before + 1
-CountsTables fault.Write before after (Err (Unread (Exchange fault.Write))) = after ≡ before + 1
+CountsTables fault.Read before after (Err (Unread (Exchange fault.Read))) = after ≡ one_more before
+CountsTables fault.Write before after (Err (Unread (Exchange fault.Write))) = after ≡ one_more before
 CountsTables device before after (Err other) = after ≡ before

@@ -1,7 +1,5 @@
 //! The identification of the chip behind a device.
 
-ghost use Rattle.std.specs.Prelude.{◌<◌, ◌-◌, ◌^◌};
-ghost use Rattle.nor_base.specs.Device.{HaveRoom};
 ghost use Rattle.nor_serprog.specs.Exchange.{CountsReads, CountsWrites};
 ghost use Rattle.nor_reader.specs.Id.{Identifies};
 
@@ -16,7 +14,6 @@ const READ_ID: u8 = 0x9F;
 ///
 /// An error where the exchange ended early, as of [`operate`].
 pub fn read_id<R: ByteIn, W: ByteOut>(from: &mut R, to: &mut W) -> Result<[u8; 3], Fault>
-    requires room { HaveRoom (R.count from.old) (W.count to.old) }
     ensures identifies { Identifies (W.held to.old) (W.held to.new) (R.ahead from.old)
         (R.ahead from.new) result }
     ensures counts { CountsReads (R.count from.old) (R.count from.new) result

@@ -1,8 +1,7 @@
 //! The chip behind a device, read piece by piece.
 
-ghost use Rattle.std.specs.Prelude.{◌≡◌, ◌≤◌, ◌<◌, ◌-◌, ◌^◌, min, [], length, take, drop, IfOk};
+ghost use Rattle.std.specs.Prelude.{◌≡◌, ◌≤◌, ◌<◌, ◌^◌, min, [], length, take, drop, IfOk};
 ghost use Rattle.std.specs.Prelude.{MatchResult};
-ghost use Rattle.nor_base.specs.Device.{HaveRoom};
 ghost use Rattle.nor_probe.specs.Compared.{CountsMismatch};
 ghost use Rattle.nor_serprog.specs.declared.fault.Fault.TheVariants.{Read, Write};
 ghost use Rattle.nor_serprog.specs.Exchange.{CountsReads, CountsWrites};
@@ -35,7 +34,6 @@ pub fn read_content<R: ByteIn, W: ByteOut>(
     content: &mut [u8],
 ) -> Result<(), Mismatch>
     requires size { length content.old ≤ 2 ^ 32 }
-    requires room { HaveRoom (R.count from.old) (W.count to.old) }
     ensures twice { MatchResult result
         (λ _. ReadTwice limits.now.asked (W.held to.old) (W.held to.new) (R.ahead from.old)
         (R.ahead from.new) by again content.new)
@@ -63,7 +61,6 @@ fn read_first<R: ByteIn, W: ByteOut>(
     bytes: &mut [u8],
 ) -> Result<(), Fault>
     requires size { length bytes.old ≤ 2 ^ 32 }
-    requires room { HaveRoom (R.count from.old) (W.count to.old) }
     ensures read { MatchResult result
         (λ _. HasReadWhole limits.now.asked (W.held to.old) (W.held to.new) (R.ahead from.old)
         (R.ahead from.new) by bytes.new)
@@ -97,7 +94,6 @@ pub fn read_again<R: ByteIn, W: ByteOut>(
     bytes: &[u8],
 ) -> Result<(), Mismatch>
     requires size { length bytes.now ≤ 2 ^ 32 }
-    requires room { HaveRoom (R.count from.old) (W.count to.old) }
     ensures again { ReadsWhole limits.now.asked (W.held to.old) (W.held to.new) (R.ahead from.old)
         (R.ahead from.new) result by bytes.now }
     ensures cut { IfOk result
@@ -135,7 +131,6 @@ pub(crate) fn read_on<R: ByteIn, W: ByteOut>(
 ) -> Result<(), Fault>
     requires start { start ≤ length bytes.old }
     requires size { length bytes.old ≤ 2 ^ 32 }
-    requires room { HaveRoom (R.count from.old) (W.count to.old) }
     ensures read { MatchResult result
         (λ _. HasReadOn limits.now.asked (W.held to.old) (W.held to.new) (R.ahead from.old)
         (R.ahead from.new) by (take start bytes.old) bytes.new)
@@ -174,7 +169,6 @@ pub(crate) fn compare_all<R: ByteIn, W: ByteOut>(
     requires some { 0 < first }
     requires few { first ≤ limits.now.asked }
     requires size { length bytes.now ≤ 2 ^ 32 }
-    requires room { HaveRoom (R.count from.old) (W.count to.old) }
     ensures again { ReadsAgain limits.now.asked (W.held to.old) (W.held to.new) (R.ahead from.old)
         (R.ahead from.new) result by bytes.now }
     ensures cut { IfOk result

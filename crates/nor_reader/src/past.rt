@@ -1,7 +1,6 @@
 //! What a chip gives past its end.
 
-ghost use Rattle.std.specs.Prelude.{◌≡◌, ◌≤◌, ◌<◌, ◌-◌, ◌^◌, length, MatchResult};
-ghost use Rattle.nor_base.specs.Device.{HaveRoom};
+ghost use Rattle.std.specs.Prelude.{◌≡◌, ◌≤◌, length, MatchResult};
 ghost use Rattle.nor_probe.specs.Compared.{CountsMismatch};
 ghost use Rattle.nor_serprog.specs.declared.fault.Fault.TheVariants.{Read, Write};
 ghost use Rattle.nor_reader.specs.Harmless.{HasSentHarmless, SendsHarmless};
@@ -32,7 +31,6 @@ pub fn read_past<R: ByteIn, W: ByteOut>(
     by: ReadBy,
     content: &[u8],
 ) -> Result<(), Mismatch>
-    requires room { HaveRoom (R.count from.old) (W.count to.old) }
     ensures past { ReadsPast limits.now.asked (W.held to.old) (W.held to.new) (R.ahead from.old)
         (R.ahead from.new) result by content.now }
     ensures harmless { MatchResult result (λ _. HasSentHarmless (W.held to.old) (W.held to.new))

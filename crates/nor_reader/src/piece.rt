@@ -1,7 +1,6 @@
 //! One read of the chip behind a device.
 
-ghost use Rattle.std.specs.Prelude.{◌≡◌, ◌<◌, ◌+◌, ◌-◌, ◌^◌, [], ◌∷◌, length, MatchResult};
-ghost use Rattle.nor_base.specs.Device.{HaveRoom};
+ghost use Rattle.std.specs.Prelude.{◌<◌, ◌+◌, ◌^◌, [], ◌∷◌, length, MatchResult};
 ghost use Rattle.nor_loop.specs.Log.{HasLogged};
 ghost use Rattle.nor_probe.specs.Compared.{CountsMismatch};
 ghost use Rattle.nor_serprog.specs.declared.fault.Fault.TheVariants.{Read, Write};
@@ -25,7 +24,6 @@ pub(crate) fn read_piece<R: ByteIn, W: ByteOut>(
     piece: &mut [u8],
 ) -> Result<(), Fault>
     requires size { length piece.old < 2 ^ 24 }
-    requires room { HaveRoom (R.count from.old) (W.count to.old) }
     ensures read { MatchResult result
         (λ _. HasLogged (W.held to.old) (W.held to.new) (R.ahead from.old) (R.ahead from.new)
         (read_op by address piece.new ∷ []))
@@ -46,7 +44,6 @@ fn ask_piece<R: ByteIn, W: ByteOut>(
     piece: &mut [u8],
 ) -> Result<(), Fault>
     requires size { length piece.old < 2 ^ 24 }
-    requires room { HaveRoom (R.count from.old) (W.count to.old) }
     ensures asked { Asks (W.held to.old) (W.held to.new) (R.ahead from.old) (R.ahead from.new)
         result
         (request (sent_by by address (length piece.new)) (length piece.new))
@@ -81,7 +78,6 @@ pub(crate) fn compare_piece<R: ByteIn, W: ByteOut>(
 ) -> Result<(), Mismatch>
     requires size { length piece.now < 2 ^ 24 }
     requires end { address + length piece.now < 2 ^ 32 + 1 }
-    requires room { HaveRoom (R.count from.old) (W.count to.old) }
     ensures read { ReadsPiece (length piece.now) (W.held to.old) (W.held to.new)
         (R.ahead from.old) (R.ahead from.new) result by address piece.now }
     ensures counts { CountsMismatch Read (R.count from.old) (R.count from.new) result
@@ -108,7 +104,6 @@ fn expect_piece<R: ByteIn, W: ByteOut>(
     piece: &[u8],
 ) -> Result<(), Reason>
     requires size { length piece.now < 2 ^ 24 }
-    requires room { HaveRoom (R.count from.old) (W.count to.old) }
     ensures known { Knows (W.held to.old) (W.held to.new) (R.ahead from.old) (R.ahead from.new)
         result
         (request (sent_by by address (length piece.now)) (length piece.now)) piece.now }

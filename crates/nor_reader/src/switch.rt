@@ -1,7 +1,6 @@
 //! Four-byte address mode, entered and left.
 
-ghost use Rattle.std.specs.Prelude.{◌≡◌, ◌<◌, ◌-◌, ◌^◌, [], ◌∷◌};
-ghost use Rattle.nor_base.specs.Device.{HaveRoom};
+ghost use Rattle.std.specs.Prelude.{[], ◌∷◌};
 ghost use Rattle.nor_loop.specs.Reads.{bare, switch_ops};
 ghost use Rattle.nor_serprog.specs.Exchange.{CountsReads, CountsWrites};
 ghost use Rattle.nor_reader.specs.Switched.{Operates};
@@ -29,7 +28,6 @@ pub fn switch_mode<R: ByteIn, W: ByteOut>(
     switch: Switch,
     opcode: u8,
 ) -> Result<(), Fault>
-    requires room { HaveRoom (R.count from.old) (W.count to.old) }
     ensures switches { Operates (W.held to.old) (W.held to.new) (R.ahead from.old)
         (R.ahead from.new) result (switch_ops switch opcode) }
     ensures counts { CountsReads (R.count from.old) (R.count from.new) result
@@ -48,7 +46,6 @@ pub fn switch_mode<R: ByteIn, W: ByteOut>(
 
 /// Has the device send an opcode and nothing else.
 fn send<R: ByteIn, W: ByteOut>(from: &mut R, to: &mut W, opcode: u8) -> Result<(), Fault>
-    requires room { HaveRoom (R.count from.old) (W.count to.old) }
     ensures sends { Operates (W.held to.old) (W.held to.new) (R.ahead from.old) (R.ahead from.new)
         result (bare opcode ∷ []) }
     ensures counts { CountsReads (R.count from.old) (R.count from.new) result

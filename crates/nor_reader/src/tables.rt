@@ -1,8 +1,7 @@
 //! The SFDP tables of the chip behind a device.
 
-ghost use Rattle.std.specs.Prelude.{◌≡◌, ◌↔◌, ◌≤◌, ◌<◌, ◌+◌, ◌-◌, ◌*◌, ◌^◌, true, length};
+ghost use Rattle.std.specs.Prelude.{◌≡◌, ◌↔◌, ◌≤◌, ◌^◌, true, length};
 ghost use Rattle.std.specs.Prelude.{MatchResult};
-ghost use Rattle.nor_base.specs.Device.{HaveRoom};
 ghost use Rattle.nor_reader.specs.declared.tables.TablesFault.TheVariants.{Memory};
 ghost use Rattle.nor_serprog.specs.declared.fault.Fault.TheVariants.{Read, Write};
 ghost use Rattle.nor_reader.specs.Tables.{CountsTables, Grows, HasReadTables, HasSignature};
@@ -51,7 +50,6 @@ pub fn read_tables<R: ByteIn, W: ByteOut>(
     to: &mut W,
     limits: &Limits,
 ) -> Result<Vec<u8>, TablesFault>
-    requires room { HaveRoom (R.count from.old) (W.count to.old) }
     ensures tables { MatchResult result
         (λ bytes. HasReadTables limits.now.asked (W.held to.old) (W.held to.new)
         (R.ahead from.old) (R.ahead from.new) bytes.items)
@@ -92,7 +90,6 @@ fn grow<R: ByteIn, W: ByteOut>(
 ) -> Result<(), TablesFault>
     requires start { length bytes.old.items ≤ end }
     requires end { end ≤ 2 ^ 24 }
-    requires room { HaveRoom (R.count from.old) (W.count to.old) }
     ensures grows { Grows limits.now.asked (W.held to.old) (W.held to.new) (R.ahead from.old)
         (R.ahead from.new) result bytes.old.items bytes.new.items end }
     ensures counts { CountsTables Read (R.count from.old) (R.count from.new) result

@@ -134,12 +134,6 @@ verify_of_line line rest clocks digits is are =
       spells = λ expect spelled. verify_spelled line rest (Verify clocks expect) is (parts_spelled rest clocks digits clocks expect are.parts are.symbols refl spelled);
     }
 
--- the step that owns its clocks
-pub owned_spelled : (line clocks digits held bytes : List ℕ) (kind : Kind) → AreOfLine line kind clocks digits → held ≡ clocks → SpellsBytes digits bytes
-    → SpellsStep line (step_by kind held bytes)
-owned_spelled line clocks digits held bytes kind are copy spells =
-    subst (λ c. SpellsStep line (step_by kind c bytes)) (sym copy) (are.spells bytes spells)
-
 pub tells : (there : Option ScriptFault) (fault : ScriptFault) → there ≡ Some fault → TellsFault there fault
 tells there (Header n) h = h
 tells there (BadLine n) h = h

@@ -219,17 +219,6 @@ pub count_told : (steps : ℕ) (line : List ℕ) (fault : ScriptFault) → or_fa
 count_told steps line fault told =
     subst (λ (o : Option ScriptFault). IfSome o (IsOfLine (steps + 2))) (fault_left _ fault told) (count_of_line steps (drop 4 line))
 
-pub count_refused : (text : List ℕ) (steps : List Step) (rest line more : List ℕ) (fault : ScriptFault) → IsRight text steps rest → BeginsWith rest line more → is_end line ≡ true
-    → or_fault (count_fault (length steps) (drop 4 line)) ≡ Err fault → Refuses text fault
-count_refused text steps rest line more fault right first ends told =
-    line_refused text steps rest line more (length steps + 2) fault right first (count_told (length steps) line fault told)
-    (ap (λ b. if b then count_fault (length steps) (drop 4 line) else step_fault (length steps + 2) line) ends ∙ fault_left _ fault told)
-
-pub count_above : (text : List ℕ) (steps : List Step) (rest line : List ℕ) (fault : ScriptFault) → IsRight text steps rest
-    → or_fault (count_fault (length steps) (drop 4 line)) ≡ Err fault → AreAbove text steps fault
-count_above text steps rest line fault right told =
-    above_by text steps fault (count_told (length steps) line fault told) (record { rest = rest; right = right })
-
 -- a line of no step
 told_or_memory : (o : Option ScriptFault) (fault : ScriptFault) → TellsFault o fault → (fault ≡ Memory) ⊎ (o ≡ Some fault)
 told_or_memory o (BadLine n) h = inr h
@@ -260,13 +249,6 @@ step_above text steps rest line fault right told =
       | inl none ↦ subst (AreAbove text steps) (sym none) tt
       | inr there ↦ above_by text steps fault (step_told (length steps + 2) line fault there) (record { rest = rest; right = right })
     ]
-
--- no end line
-pub end_missing : (text : List ℕ) (steps : List Step) (rest : List ℕ) → IsRight text steps rest → list_any is_line_feed rest ≡ false → Refuses text (NoEnd (length steps + 2))
-end_missing text steps rest right none = record { above = steps; rest = rest; right = right; unclosed = none; number = refl }
-
-pub end_above : (text : List ℕ) (steps : List Step) (rest : List ℕ) → IsRight text steps rest → AreAbove text steps (NoEnd (length steps + 2))
-end_above text steps rest right = (record { rest = rest; right = right }, refl)
 
 pub went_above : (text : List ℕ) (steps : List Step) (rest : List ℕ) → IsRight text steps rest → AreAbove text steps (AfterEnd (length steps + 3))
 went_above text steps rest right = (record { rest = rest; right = right }, refl)

@@ -5,7 +5,7 @@ use Rattle.std.proofs.Math.Seq.{drop-append_seam}
 use Rattle.std.specs.List.{list_any}
 use Rattle.std.proofs.lemmas.List.{take-append-le, take_all}
 use Rattle.nor_base.specs.declared.step.Step.{Step}
-use Rattle.nor_base.specs.Device.{Ahead, Unknown, Finite, Endless, IsAtEnd}
+use Rattle.nor_base.specs.Device.{Ahead, Unknown, Finite, Endless}
 use Rattle.nor_base.specs.Script.{closed, header, end_line, step_line}
 use Rattle.nor_script.specs.declared.fault.ScriptFault.{ScriptFault}
 use Rattle.nor_script.specs.declared.fault.ScriptFault.TheVariants.{Header, BadLine, BadSymbol, BadCount, NoEnd, AfterEnd, Memory}
@@ -51,9 +51,6 @@ nothing : (xs : List ℕ) → length xs ≡ 0 → xs ≡ []
 nothing [] h = refl
 nothing (x ∷ xs) h = cc
 
-pub comes_none : (a b : Reading) (n : ℕ) → Comes a b n → n ≡ 0 → b.held ≡ a.held
-comes_none a b n p none = p.whole ∙ ap (λ l. a.held ++ l) (nothing p.pulled (p.number ∙ none)) ∙ append-nil a.held
-
 -- the bytes searched are held still
 pub searched : (a b : Reading) (n : ℕ) (seen : List ℕ) → seen ≡ a.held → list_any is_line_feed a.held ≡ false → Comes a b n
     → (length seen ≤ length b.held) × (list_any is_line_feed (take (length seen) b.held) ≡ false)
@@ -74,10 +71,6 @@ first_only : (xs line rest : List ℕ) → BeginsWith xs line rest → length xs
 first_only xs line [] first fits = first.whole ∙ append-nil (closed line)
 first_only xs line (byte ∷ rest) first fits =
     absurd (omega (arith, fits, ap length first.whole, length-append (closed line) (byte ∷ rest), length-append line (10 ∷ [])))
-
-pub nothing_behind : (a b : Reading) (n : ℕ) (line rest : List ℕ) → BeginsWith a.held line rest → length a.held ≤ length line + 1 → Comes a b n → n ≡ 0
-    → Reads a b [] × (b.held ≡ closed line) × IsAtEnd b.ahead
-nothing_behind a b n line rest first fits p none = (comes_reads a b n p, comes_none a b n p none ∙ first_only a.held line rest first fits, p.over none)
 
 pub something_behind : (a b : Reading) (n : ℕ) (line rest : List ℕ) → BeginsWith a.held line rest → length a.held ≤ length line + 1 → Comes a b n → 0 < n
     → Reads a b [] × GoesPast b line

@@ -98,18 +98,6 @@ first_past xs n p front found =
 pub found_inside : (xs : List ℕ) (n p : ℕ) → n ≤ length xs → position is_line_feed (drop n xs) ≡ Some p → n + p < length xs
 found_inside xs n p fits found = omega (arith, fits, length-drop n xs, found_below (drop n xs) p found)
 
--- what follows a line that is the first
-pub past_first : (xs line rest : List ℕ) → BeginsWith xs line rest → (length line < length xs) × (drop (length line + 1) xs ≡ rest)
-past_first xs line rest first =
-    let sizes : length (closed line) ≡ length line + 1 = length-append line (10 ∷ []) in (
-      omega (arith, sizes, length-append (closed line) rest, ap length first.whole),
-      ap (drop (length line + 1)) first.whole ∙ ap (λ n. drop n (closed line ++ rest)) (sym sizes) ∙ behind (closed line) rest,
-    )
-  where
-    behind : (xs ys : List ℕ) → drop (length xs) (xs ++ ys) ≡ ys
-    behind [] ys = refl
-    behind (x ∷ xs) ys = behind xs ys
-
 -- what is read of a buffer that holds these bytes from f to u
 pub record IsHeld (buffer held : List ℕ) (f u : ℕ) : Type 0 where
   pub is : slice_range buffer f u ≡ held
@@ -144,12 +132,6 @@ marked_line buffer held f u n i p fits front found =
     let line : slice_range buffer f (f + n + i) ≡ take (n + i) held =
     ap (slice_range buffer f) ends ∙ part_front buffer f u (n + i) inside ∙ ap (take (n + i)) p.is in
     (first.0, subst (λ l. BeginsWith l (slice_range buffer f (f + n + i)) first.0) (sym p.is) (subst (λ l. BeginsWith held l first.0) (sym line) first.1))
-
-pub marked_end : (buffer held : List ℕ) (f u n i : ℕ) → IsHeld buffer held f u → n ≤ length held
-    → Some i ≡ position is_line_feed (slice_range buffer (f + n) u) → f + n + i < u
-marked_end buffer held f u n i p fits found =
-    let place : position is_line_feed (drop n held) ≡ Some i = sym (found ∙ ap (position is_line_feed) (held_past buffer held f u n p fits)) in
-    omega (arith, found_inside held n i fits place, held_size buffer held f u p, p.order)
 
 pub header_skipped : (buffer held rest : List ℕ) (f u : ℕ) → IsHeld buffer held f u → held ≡ header ++ rest → held ≡ header ++ slice_range buffer (f + 12) u
 unfolding header

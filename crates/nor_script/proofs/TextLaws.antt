@@ -139,7 +139,3 @@ module _ (before : Ahead) where
       let more = has_more (reading before []) b c above step p q.0 q.1 in
       let any = any_text before c (header ++ step_lines (above ++ step ∷ [])) more.reads in
       subst (StopsReader before c.ahead) (sym is) (any.0, any.1, tt)
-
--- a device that tells its bytes had just these
-pub had_all : (Is : List ℕ → Type 0) (before after : Ahead) (text : List ℕ) → before ≡ Finite text → HadText before after Is → Is text
-had_all Is before after text here p = subst Is (subst (λ (a : Ahead). IsTextOf a after p.0) here p.1) p.2

@@ -2,7 +2,7 @@
 use Rattle.std.specs.Prelude.{◌≡◌, ℕ, ◌+◌, ◌≤◌, ◌⊎◌, false, List, [], ◌∷◌, ◌++◌, length, Result, Ok, Err, Bool, true, Some, ⊤}
 use Rattle.std.specs.List.{AllByRecursion, list_any}
 use Rattle.nor_base.specs.declared.step.Step.{Step}
-use Rattle.nor_base.specs.Device.{Ahead, Unknown, Finite, Endless, Gives, IsAtEnd}
+use Rattle.nor_base.specs.Device.{Ahead, Unknown, Finite, Endless, Gives, IsAtEnd, one_more}
 use Rattle.nor_base.specs.Script.{closed, header, end_line, step_line, step_lines, IsScript}
 use Rattle.nor_base.specs.Step.{IsStep}
 use Rattle.nor_script.specs.declared.fault.ScriptFault.{ScriptFault}
@@ -73,7 +73,7 @@ IsOutside (Device failed) = ⊤
 abbrev pub CountsRead : {T : Type 0} → ℕ → ℕ → Result T ReadFault → Type 0
 CountsRead before after (Ok x) = after ≡ before
 CountsRead before after (Err (Script fault)) = after ≡ before
-CountsRead before after (Err (Device failed)) = after ≡ before + 1
+CountsRead before after (Err (Device failed)) = after ≡ one_more before
 
 -- what a reader of steps goes on by. true: the next line was read, which is that of the step. false: the end line of so many
 -- steps was read, and nothing is left. A fault: nothing was read, and what is left has that fault first; where the device

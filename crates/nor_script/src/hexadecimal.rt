@@ -1,6 +1,6 @@
 //! Numbers and bytes in lower-case hexadecimal digits.
 
-ghost use Rattle.std.specs.Prelude.{◌≡◌, ◌*◌, ◌<◌, ◌-◌, ◌/◌, ◌^◌, true, length, flat_map, IfErr};
+ghost use Rattle.std.specs.Prelude.{◌≡◌, ◌<◌, ◌/◌, true, length, flat_map, IfErr};
 ghost use Rattle.std.specs.Prelude.{OnOk};
 ghost use Rattle.nor_base.specs.Device.{Writes, Counts};
 ghost use Rattle.nor_base.specs.Script.{hex_digit, hex_pair};
@@ -39,7 +39,6 @@ pub fn hex_number(number: u32) -> [u8; 8]
 /// At `Failed` a proper prefix of them was taken; it comes only from the writer, whose count of
 /// failures rose by one.
 pub fn put_hexadecimal<W: ByteOut>(bytes: &[u8], out: &mut W) -> Result<(), Failed>
-    requires { W.count out.old < 2 ^ 64 - 1 }
     ensures bytes { Writes (W.held out.old) (W.held out.new) result (flat_map hex_pair bytes.now) }
     ensures count { Counts (W.count out.old) (W.count out.new) result }
 {

@@ -82,7 +82,6 @@ impl LineBuffer {
     /// Finds the next line, for which it takes as many bytes as it needs. `false` where no LF is
     /// left.
     pub(crate) fn find_line<R: ByteIn>(&mut self, source: &mut R) -> Result<bool, ReadFault>
-        requires { R.count source.old < 2 ^ 64 - 1 }
         ensures lines { FindsLine (reading (R.ahead source.old) self.old.held)
             (reading (R.ahead source.new) self.new.held) self.new result }
         ensures count { CountsRead (R.count source.old) (R.count source.new) result }
@@ -108,7 +107,6 @@ impl LineBuffer {
 
     /// Reads the header. `false` where the text doesn't begin with it.
     pub(crate) fn read_header<R: ByteIn>(&mut self, source: &mut R) -> Result<bool, ReadFault>
-        requires { R.count source.old < 2 ^ 64 - 1 }
         ensures bytes { ReadsHeader (reading (R.ahead source.old) self.old.held)
             (reading (R.ahead source.new) self.new.held) result }
         ensures count { CountsRead (R.count source.old) (R.count source.new) result }
@@ -124,7 +122,6 @@ impl LineBuffer {
     /// Whether something comes after the line found, which is looked at last.
     pub(crate) fn goes_on<R: ByteIn>(&mut self, source: &mut R) -> Result<bool, ReadFault>
         requires line { IsFirstLine self.old }
-        requires count { R.count source.old < 2 ^ 64 - 1 }
         ensures bytes { LooksBehind (reading (R.ahead source.old) self.old.held)
             (reading (R.ahead source.new) self.new.held) self.old.line result }
         ensures count { CountsRead (R.count source.old) (R.count source.new) result }
@@ -172,7 +169,6 @@ impl LineBuffer {
 
     /// Takes more bytes; 0 is the end.
     pub(crate) fn pull<R: ByteIn>(&mut self, source: &mut R) -> Result<usize, ReadFault>
-        requires { R.count source.old < 2 ^ 64 - 1 }
         ensures bytes { Pulls (reading (R.ahead source.old) self.old.held)
             (reading (R.ahead source.new) self.new.held) result }
         ensures count { CountsRead (R.count source.old) (R.count source.new) result }
@@ -185,7 +181,6 @@ impl LineBuffer {
     /// Takes bytes into the room that there is.
     fn take<R: ByteIn>(&mut self, source: &mut R) -> Result<usize, ReadFault>
         requires room { 0 < self.old.room }
-        requires count { R.count source.old < 2 ^ 64 - 1 }
         ensures bytes { Pulls (reading (R.ahead source.old) self.old.held)
             (reading (R.ahead source.new) self.new.held) result }
         ensures count { CountsRead (R.count source.old) (R.count source.new) result }
@@ -221,7 +216,6 @@ impl LineBuffer {
 /// Takes bytes into a buffer from a place on.
 fn fill_past<R: ByteIn>(source: &mut R, buffer: &mut [u8], upto: usize) -> Result<usize, Failed>
     requires upto { upto ≤ length buffer.old }
-    requires count { R.count source.old < 2 ^ 64 - 1 }
     ensures bytes { FillsPast (R.ahead source.old) (R.ahead source.new) buffer.old buffer.new upto
         result }
     ensures count { Counts (R.count source.old) (R.count source.new) result }

@@ -1,6 +1,6 @@
 //! The reader that gives a script's steps one after another.
 
-ghost use Rattle.std.specs.Prelude.{◌≡◌, ◌<◌, ◌≤◌, ◌+◌, ◌-◌, ◌^◌, true, length, IfOk, IfErr};
+ghost use Rattle.std.specs.Prelude.{◌≡◌, ◌<◌, ◌≤◌, ◌+◌, ◌^◌, true, length, IfOk, IfErr};
 ghost use Rattle.nor_script.specs.View.{step_of};
 ghost use Rattle.nor_script.specs.Line.{step_fault};
 ghost use Rattle.nor_script.specs.Lines.{IsFirstLine, ReadsEnd, ReadsStep};
@@ -60,7 +60,6 @@ impl StepReader {
     /// `Header`, line 1, where the text doesn't begin with it; `Device` where the device failed;
     /// `Memory` where a growth is refused.
     pub fn begin<R: ByteIn>(alloc: Global, source: &mut R) -> Result<StepReader, ReadFault>
-        requires { R.count source.old < 2 ^ 64 - 1 }
         ensures begun { Begins (R.ahead source.old) (R.ahead source.new) result }
         ensures count { CountsRead (R.count source.old) (R.count source.new) result }
     {
@@ -85,7 +84,6 @@ impl StepReader {
     /// failed; `Memory` where a growth is refused, or after 2^62 steps. A call after `Device` tries
     /// again.
     pub fn advance<R: ByteIn>(&mut self, source: &mut R) -> Result<bool, ReadFault>
-        requires { R.count source.old < 2 ^ 64 - 1 }
         ensures step { Advances (reading (R.ahead source.old) self.old.held)
             (reading (R.ahead source.new) self.new.held)
             self.old.steps self.new.step result }
@@ -139,7 +137,6 @@ impl StepReader {
 /// Else its first fault, as [`crate::read`] reports it; `Device` where the device failed; `Memory`
 /// where a growth is refused, or the script has more than 2^62 steps.
 pub fn count_steps<R: ByteIn>(alloc: Global, source: &mut R) -> Result<u64, ReadFault>
-    requires { R.count source.old < 2 ^ 64 - 1 }
     ensures text { TellsScript (R.ahead source.old) (R.ahead source.new) result }
     ensures read { IfOk result
         (λ count. HadText (R.ahead source.old) (R.ahead source.new)
@@ -160,7 +157,6 @@ fn read_end<R: ByteIn>(
 ) -> Result<bool, ReadFault>
     requires steps { steps ≤ 2 ^ 62 }
     requires line { IsFirstLine lines.old }
-    requires count { R.count source.old < 2 ^ 64 - 1 }
     ensures bytes { ReadsEnd (reading (R.ahead source.old) lines.old.held)
         (reading (R.ahead source.new) lines.new.held)
         lines.old.line steps result }

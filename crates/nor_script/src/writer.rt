@@ -1,6 +1,6 @@
 //! The writer of scripts.
 
-ghost use Rattle.std.specs.Prelude.{◌≡◌, ◌<◌, ◌-◌, ◌^◌, true};
+ghost use Rattle.std.specs.Prelude.{◌≡◌, true};
 ghost use Rattle.nor_base.specs.Device.{Writes, Counts};
 ghost use Rattle.nor_base.specs.Step.{is_step};
 ghost use Rattle.nor_base.specs.declared.step.Step.TheVariants.{Send, Poll, Verify};
@@ -15,7 +15,6 @@ use nor_base::{ByteOut, Failed, Step, put_all, put_parts};
 /// At `Failed` a proper prefix of it was taken; it comes only from the writer, whose count of
 /// failures rose by one.
 pub fn begin<W: ByteOut>(writer: &mut W) -> Result<(), Failed>
-    requires { W.count writer.old < 2 ^ 64 - 1 }
     ensures bytes { Writes (W.held writer.old) (W.held writer.new) result header }
     ensures count { Counts (W.count writer.old) (W.count writer.new) result }
 {
@@ -29,7 +28,6 @@ pub fn begin<W: ByteOut>(writer: &mut W) -> Result<(), Failed>
 /// failures rose by one.
 pub fn write_step<W: ByteOut>(step: &Step, writer: &mut W) -> Result<(), Failed>
     requires step { is_step step.now ≡ true }
-    requires room { W.count writer.old < 2 ^ 64 - 1 }
     ensures bytes { Writes (W.held writer.old) (W.held writer.new) result
         (closed (step_line step.now)) }
     ensures count { Counts (W.count writer.old) (W.count writer.new) result }
@@ -48,7 +46,6 @@ pub fn write_step<W: ByteOut>(step: &Step, writer: &mut W) -> Result<(), Failed>
 /// At `Failed` a proper prefix of it was taken; it comes only from the writer, whose count of
 /// failures rose by one.
 pub fn write_send<W: ByteOut>(clocks: &[u8], writer: &mut W) -> Result<(), Failed>
-    requires { W.count writer.old < 2 ^ 64 - 1 }
     ensures bytes { Writes (W.held writer.old) (W.held writer.new) result
         (closed (step_line (Send clocks.now))) }
     ensures count { Counts (W.count writer.old) (W.count writer.new) result }
@@ -62,7 +59,6 @@ pub fn write_send<W: ByteOut>(clocks: &[u8], writer: &mut W) -> Result<(), Faile
 /// At `Failed` a proper prefix of it was taken; it comes only from the writer, whose count of
 /// failures rose by one.
 pub fn write_poll<W: ByteOut>(clocks: &[u8], writer: &mut W) -> Result<(), Failed>
-    requires { W.count writer.old < 2 ^ 64 - 1 }
     ensures bytes { Writes (W.held writer.old) (W.held writer.new) result
         (closed (step_line (Poll clocks.now))) }
     ensures count { Counts (W.count writer.old) (W.count writer.new) result }
@@ -76,7 +72,6 @@ pub fn write_poll<W: ByteOut>(clocks: &[u8], writer: &mut W) -> Result<(), Faile
 /// At `Failed` a proper prefix of it was taken; it comes only from the writer, whose count of
 /// failures rose by one.
 pub fn write_verify<W: ByteOut>(clocks: &[u8], expect: &[u8], writer: &mut W) -> Result<(), Failed>
-    requires { W.count writer.old < 2 ^ 64 - 1 }
     ensures bytes { Writes (W.held writer.old) (W.held writer.new) result
         (closed (step_line (Verify clocks.now expect.now))) }
     ensures count { Counts (W.count writer.old) (W.count writer.new) result }
@@ -91,7 +86,6 @@ pub fn write_verify<W: ByteOut>(clocks: &[u8], expect: &[u8], writer: &mut W) ->
 /// At `Failed` a proper prefix of it was taken; it comes only from the writer, whose count of
 /// failures rose by one.
 pub fn finish<W: ByteOut>(steps: u64, writer: &mut W) -> Result<(), Failed>
-    requires { W.count writer.old < 2 ^ 64 - 1 }
     ensures bytes { Writes (W.held writer.old) (W.held writer.new) result (end_line steps) }
     ensures count { Counts (W.count writer.old) (W.count writer.new) result }
 {

@@ -1,13 +1,13 @@
 -- Answers in two parts: ACK, and what follows it.
-use Rattle.std.proofs.Common.{◌≡◌, ◌≢◌, ℕ, suc, ◌+◌, ◌-◌, ◌<◌, ◌≤◌, ◌==◌, ◌&&◌, Bool, true, false, List, [], ◌∷◌, ◌++◌, length, get_or, take, drop, Option, Result, Ok, Err, refl, sym, ◌∙◌, ap, subst, append_assoc, append-nil, arith, eqb-true, length-append, length-drop, length-take}
+use Rattle.std.proofs.Common.{◌≡◌, ◌≢◌, ℕ, suc, ◌+◌, ◌-◌, ◌<◌, ◌≤◌, ◌==◌, ◌&&◌, Bool, true, false, List, [], ◌∷◌, ◌++◌, length, get_or, take, drop, Option, Result, Ok, Err, refl, sym, ◌∙◌, ap, subst, append_assoc, arith, eqb-true, length-append, length-drop, length-take}
 use Rattle.std.specs.Prelude.{IfOk, IfErr, if◌then◌else◌}
 use Rattle.std.specs.List.{slice_range}
 use Rattle.std.specs.Io.KnownBytes.{Appends}
 use Rattle.std.proofs.lemmas.Bool.{and_parts}
 use Rattle.std.proofs.Math.Seq.{take-add, take-append-add}
 use Rattle.std.proofs.Math.ListN.{get_or-append}
-use Rattle.std.proofs.lemmas.List.{take_more, take_all, take-append-le, get_or-append-add}
-use Rattle.nor_base.specs.Device.{Ahead, Unknown, Finite, Endless, Gives, Cuts}
+use Rattle.std.proofs.lemmas.List.{take-append-le, get_or-append-add}
+use Rattle.nor_base.specs.Device.{Ahead, Unknown, Finite, Endless, Gives}
 use Rattle.nor_base.proofs.DeviceLaws.{Gives-append}
 use Rattle.nor_serprog.specs.declared.fault.Fault.{Fault}
 use Rattle.nor_serprog.specs.declared.fault.Fault.TheVariants as fault
@@ -34,21 +34,6 @@ asks_told held held' a b (Err fault.Read) command got put p = (put, p)
 asks_told held held' a b (Err fault.Nak) command got put p = (put, p)
 asks_told held held' a b (Err fault.Differs) command got put p = (put, p)
 asks_told held held' a b (Err fault.Write) command got put p = absurd p
-
--- a place at which the bytes differ, after which they are alike
-pub other_at : (got want : List ℕ) (start i place byte : ℕ) → i < length want → take i got ≡ take i want → place ≡ start + i → byte ≡ get_or got i 0
-    → get_or got i 0 ≢ get_or want i 0 → Compares got want start (Err (reason.Differs place byte))
-other_at got want start i place byte within alike is byte_is other =
-    (i, is, record { within = within; alike = alike; byte_is = byte_is; other = (λ (same : byte ≡ get_or want i 0). other (sym byte_is ∙ same)) })
-
-pub none_other : (got want : List ℕ) (start i : ℕ) → length got ≡ length want → length want ≤ i → take i got ≡ take i want → Compares got want start (Ok tt)
-none_other got want start i long all alike = sym (take_all i got (omega arith)) ∙ alike ∙ take_all i want all
-
--- one more byte that is alike
-pub alike_more : (got want : List ℕ) (i : ℕ) → i < length want → length got ≡ length want → take i got ≡ take i want → get_or got i 0 ≡ get_or want i 0
-    → take (i + 1) got ≡ take (i + 1) want
-alike_more got want i within long alike same =
-    take_more got i 0 (omega arith) ∙ ap (λ xs. xs ++ get_or got i 0 ∷ []) alike ∙ ap (λ byte. take i want ++ byte ∷ []) same ∙ sym (take_more want i 0 within)
 
 -- the first other byte stays that
 other_stays : (gs ws piece more : List ℕ) (n byte : ℕ) → length gs ≡ length ws → IsOther gs ws n byte → IsOther (gs ++ piece) (ws ++ more) n byte
@@ -139,9 +124,6 @@ pub record HasCompared (a b : Ahead) (want : List ℕ) (done : ℕ) (found : Res
   pub says : Compares got (take done want) 0 found
   pub gives : Gives a got b
 
-pub nothing_compared : (a : Ahead) (want : List ℕ) → HasCompared a a want 0 (Ok tt)
-nothing_compared a want = record { got = []; within = omega arith; long = refl; says = refl; gives = gives_nothing a }
-
 -- one more piece
 pub compares_more : (a b c : Ahead) (want piece part : List ℕ) (done room : ℕ) (found r : Result (Unit {0}) Reason) → HasCompared a b want done found
     → done + room ≤ length want → length piece ≡ room → part ≡ slice_range want done (done + room) → Gives b piece c → IfErr found (λ e. r ≡ found)
@@ -158,11 +140,6 @@ compares_more a b c want piece part done room found r p fits long is gives befor
       says = subst (λ xs. Compares (p.got ++ piece) xs 0 r) front (found_more p.got (take done want) piece part done found r p.long same_long p.says before first);
       gives = Gives-append a b c p.got piece p.gives gives;
     }
-
--- all came, or fewer
-pub takes_all : (a b : Ahead) (want : List ℕ) (done : ℕ) (r : Result (Unit {0}) Reason) → length want ≤ done → HasCompared a b want done r → TakesAsMany a b r want
-takes_all a b want done r all p =
-    all_taken a b p.got (take done want) want r (take_all done want all) (omega (arith, p.long, p.within)) p.gives p.says
 
 pub takes_fewer : (a b c : Ahead) (want piece : List ℕ) (done : ℕ) (found : Result (Unit {0}) Reason) (why : Fault) → HasCompared a b want done found
     → done + length piece ≤ length want → Fills b c (Err why) piece → TakesAsMany a c (Err (reason.Exchange why)) want
@@ -221,22 +198,10 @@ knows_then held held' a b (Err (reason.Exchange fault.Write)) command want put p
 knows_then held held' a b (Err reason.Busy) command want put p = absurd p
 knows_then held held' a b (Err reason.Carried) command want put p = absurd p
 
-pub knows_cut : (held held' : Option (List ℕ)) (a : Ahead) (command want : List ℕ) → Cuts held held' command
-    → Knows held held' a a (Err (reason.Exchange fault.Write)) command want
-knows_cut held held' a command want cut = (want, refl, (cut, refl))
-
 pub single : (got : List ℕ) → length got ≡ 1 → got ≡ get_or got 0 0 ∷ []
 single [] one = absurd (omega (arith, one))
 single (byte ∷ []) one = refl
 single (byte ∷ other ∷ more) one = absurd (omega (arith, one))
-
--- one more of the bytes that are wanted; or another one; or none
-pub one_met : (a b c : Ahead) (want got : List ℕ) (i : ℕ) → i < length want → length got ≡ 1 → get_or got 0 0 ≡ get_or want i 0
-    → Gives a (take i want) b → Gives b got c → Gives a (take (i + 1) want) c
-one_met a b c want got i within one same p q =
-    let whole : take (i + 1) want ≡ take i want ++ got =
-    take_more want i 0 within ∙ ap (λ byte. take i want ++ byte ∷ []) (sym same) ∙ ap (λ bytes. take i want ++ bytes) (sym (single got one)) in
-    subst (λ bytes. Gives a bytes c) (sym whole) (Gives-append a b c (take i want) got p q)
 
 not_both : (i byte : ℕ) → ((i == 0) && (byte == NAK)) ≡ false → i ≡ 0 → byte ≡ NAK → ⊥
 not_both i byte is first nak =
@@ -261,26 +226,3 @@ another_met a b c want got i why within one other is p q =
     let byte = get_or got 0 0 in
     let came : Gives a (take i want ++ byte ∷ []) c = subst (λ bytes. Gives a (take i want ++ bytes) c) (single got one) (Gives-append a b c (take i want) got p q) in
     subst (λ f. Misses a c f want) (sym is) (another_by a c want i byte ((i == 0) && (byte == NAK)) refl within other came)
-
-front_none : (got : List ℕ) (n : ℕ) → n < length got → length got ≡ 1 → take n got ≡ []
-front_none got n few one = let none : n ≡ 0 = omega arith in ap (λ m. take m got) none
-
-pub none_met : (a b c : Ahead) (want got : List ℕ) (i : ℕ) (why : Fault) → i < length want → length got ≡ 1
-    → Gives a (take i want) b → Fills b c (Err why) got → Meets a c (Err why) want
-none_met a b c want got i fault.Silent within one p q =
-    (i, within, subst (λ bytes. Gives a bytes c) (ap (λ bytes. take i want ++ bytes) (front_none got q.0 q.1 one) ∙ append-nil (take i want)) (Gives-append a b c (take i want) (take q.0 got) p q.2), q.3)
-none_met a b c want got i fault.Read within one p q =
-    (i, within, subst (λ bytes. Gives a bytes c) (ap (λ bytes. take i want ++ bytes) (front_none got q.0 q.1 one) ∙ append-nil (take i want)) (Gives-append a b c (take i want) (take q.0 got) p q.2))
-none_met a b c want got i fault.Nak within one p q = absurd q
-none_met a b c want got i fault.Differs within one p q = absurd q
-none_met a b c want got i fault.Write within one p q = absurd q
-
--- a command that was put whole, and its answer
-pub asks_meets : (held held' : Option (List ℕ)) (a b : Ahead) (r : Result (Unit {0}) Fault) (command want : List ℕ) → Appends held held' command
-    → Meets a b r want → Asks held held' a b r command (Meets a b r want)
-asks_meets held held' a b (Ok u) command want put p = (put, p)
-asks_meets held held' a b (Err fault.Silent) command want put p = (put, p)
-asks_meets held held' a b (Err fault.Read) command want put p = (put, p)
-asks_meets held held' a b (Err fault.Nak) command want put p = (put, p)
-asks_meets held held' a b (Err fault.Differs) command want put p = (put, p)
-asks_meets held held' a b (Err fault.Write) command want put p = absurd p

@@ -1,5 +1,5 @@
 -- A handshake, exchange by exchange.
-use Rattle.std.proofs.Common.{◌≡◌, ◌≢◌, ℕ, ◌+◌, ◌*◌, Bool, true, false, List, [], ◌∷◌, ◌++◌, length, get_or, take, Option, Some, None, Ok, Err, refl, sym, ◌∙◌, ap, subst, append-nil}
+use Rattle.std.proofs.Common.{◌≡◌, ◌≢◌, ℕ, ◌+◌, ◌*◌, Bool, true, List, [], ◌∷◌, ◌++◌, length, get_or, take, Option, Some, None, Ok, Err, refl, sym, ◌∙◌, ap, subst, append-nil}
 use Rattle.std.specs.Prelude.{flat_map, replicate}
 use Rattle.std.specs.Io.KnownBytes.{Appends}
 use Rattle.std.proofs.lemmas.Grind.{flat_map-append}
@@ -12,9 +12,9 @@ use Rattle.nor_serprog.specs.declared.fault.Command.TheVariants as command
 use Rattle.nor_serprog.specs.declared.fault.GreetFault.{GreetFault}
 use Rattle.nor_serprog.specs.declared.fault.GreetFault.TheVariants as refused
 use Rattle.nor_serprog.specs.Protocol.{ACK, NAK, answer}
-use Rattle.nor_serprog.specs.Exchange.{Talked, Asks, Answers}
-use Rattle.nor_serprog.specs.Greeting.{Greeting, Exchange, offers, exchange_if, told_or_nak, TellsAhead, exchanges, place, answer_length, command_bytes, first_version, HasExchanged, HasLearnt, Tells, HasBegun, BeginsGreeting, StopsAt, IsWord, Reaches, Greeted}
-use Rattle.nor_serprog.proofs.FollowLemmas.{nothing_talked, talked_more}
+use Rattle.nor_serprog.specs.Exchange.{Talked}
+use Rattle.nor_serprog.specs.Greeting.{Greeting, Exchange, offers, exchange_if, told_or_nak, TellsAhead, exchanges, place, answer_length, command_bytes, first_version, HasExchanged, HasLearnt, Tells, HasBegun, StopsAt, IsWord, Reaches, Greeted}
+use Rattle.nor_serprog.proofs.FollowLemmas.{talked_more}
 
 -- the first exchange of a list
 pub exchanged_one : {h h' : Option (List ℕ)} {a a' : Ahead} (x : Exchange) → Talked h h' a a' x.put x.given → HasExchanged h h' a a' (x ∷ [])
@@ -60,19 +60,6 @@ greeting_by {h} {h'} {a} {a'} {commands} known buffer sends gives = record {
   sends = sends;
   gives = gives;
 }
-
--- no first word
-pub begins_not : (h h' : Option (List ℕ)) (a a' : Ahead) (e : GreetFault) → BeginsGreeting h h' a a' (Err e) → Greeted h h' a a' (Err e)
-begins_not h h' a a' (refused.Command command.SyncNop why) p = p
-begins_not h h' a a' (refused.Command command.QueryInterface why) p = absurd p
-begins_not h h' a a' (refused.Command command.QueryCommands why) p = absurd p
-begins_not h h' a a' (refused.Command command.SetBus why) p = absurd p
-begins_not h h' a a' (refused.Command command.QueryBuffer why) p = absurd p
-begins_not h h' a a' (refused.Command command.QueryWriteMax why) p = absurd p
-begins_not h h' a a' (refused.Command command.QueryReadMax why) p = absurd p
-begins_not h h' a a' (refused.Command command.SetPins why) p = absurd p
-begins_not h h' a a' refused.Version p = absurd p
-begins_not h h' a a' refused.NoOperation p = absurd p
 
 -- a command whose exchange ends early
 pub tells_not : (h m h' : Option (List ℕ)) (a b a' : Ahead) (at : Command) (got : List ℕ) (e : GreetFault) (g : Greeting)
@@ -124,18 +111,9 @@ buffer_not h m h' a b a' got (refused.Command here why) g other word reaches roo
 buffer_not h m h' a b a' got refused.Version g other word reaches room before p = absurd p
 buffer_not h m h' a b a' got refused.NoOperation g other word reaches room before p = absurd p
 
-pub ahead_none : (h : Option (List ℕ)) (a : Ahead) (offered : Bool) → offered ≡ false → TellsAhead offered h h a a (Ok 0)
-ahead_none h a offered none = rw none (None, tt, refl, nothing_talked h a)
-
 pub ahead_some : (h h' : Option (List ℕ)) (a a' : Ahead) (offered : Bool) (got : List ℕ) (n : ℕ) → offered ≡ true → length got ≡ 2
     → n ≡ get_or got 0 0 + 256 * get_or got 1 0 → Appends h h' (command_bytes command.QueryBuffer) → Gives a (answer got) a' → TellsAhead offered h h' a a' (Ok n)
 ahead_some h h' a a' offered got n offers_it room is out back = rw offers_it (Some got, room, is, record { out = out; back = back })
-
-pub ahead_nak : (h h' : Option (List ℕ)) (a a' : Ahead) (offered : Bool) (e : Fault) (got : List ℕ) → offered ≡ true → e ≡ fault.Nak
-    → Asks h h' a a' (Err e) (command_bytes command.QueryBuffer) (Answers a a' (Err e) got) → TellsAhead offered h h' a a' (Ok 0)
-ahead_nak h h' a a' offered e got offers_it is p =
-    let its = subst (λ (f : Fault). Asks h h' a a' (Err f) (command_bytes command.QueryBuffer) (Answers a a' (Err f) got)) is p in
-    rw offers_it (None, tt, refl, record { out = its.0; back = its.1 })
 
 -- the exchanges so far, one after another
 pub word_done : {h h' : Option (List ℕ)} {a a' : Ahead} (begun : HasBegun h h' a a') (version commands sends gives : List ℕ)

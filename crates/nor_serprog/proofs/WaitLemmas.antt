@@ -14,7 +14,7 @@ use Rattle.nor_serprog.specs.declared.limits.Limits.{Limits}
 use Rattle.nor_serprog.specs.Protocol.{answer, head}
 use Rattle.nor_serprog.specs.Exchange.{Answers, Asks}
 use Rattle.nor_serprog.specs.Follow.{HasRead, HasWaited, MayGoAtOnce, StaysBusy, StopsWaiting, TakesStatuses, Waits, are_busy, are_idle, most_ahead, most_bytes, most_reads, status_request, status_requests, told}
-use Rattle.nor_serprog.proofs.ExchangeLemmas.{gives_nothing, single}
+use Rattle.nor_serprog.proofs.ExchangeLemmas.{single}
 use Rattle.nor_serprog.proofs.FollowLemmas.{nothing_talked, talked_more}
 
 -- what went out in two parts
@@ -98,9 +98,6 @@ is_even status h = rw h refl
 one_more : (xs : List ℕ) (x n : ℕ) → length xs ≡ n → length (xs ++ x ∷ []) ≡ n + 1
 one_more xs x n long = omega (arith, long, length-append xs (x ∷ []))
 
-pub nothing_taken : (a : Ahead) → TakesStatuses a a (Ok false) 0
-nothing_taken a = record { busy = []; all = refl; each = refl; gives = gives_nothing a }
-
 pub next_status : (a b c : Ahead) (was is : Bool) (n : ℕ) (got : List ℕ) → length got ≡ 1 → (get_or got 0 0 % 2 == 0) ≡ is → (was ≡ true → is ≡ true)
     → TakesStatuses a b (Ok was) n → Gives b (answer got) c → TakesStatuses a c (Ok is) (n + 1)
 next_status a b c false false n got one says stays p q = record {
@@ -129,21 +126,6 @@ next_status a b c true true n got one says stays p q =
       gives = subst (λ xs. Gives a (told xs) c) longer (told_more a b c (p.busy ++ p.idle) got one p.gives q);
     }
 next_status a b c true false n got one says stays p q = let wrong : false ≡ true = stays refl in cc
-
--- one that says busy again, or doesn't come
-pub busy_again : (a b c : Ahead) (was : Bool) (n total : ℕ) (got : List ℕ) → length got ≡ 1 → (get_or got 0 0 % 2 == 0) ≡ false → n < total
-    → TakesStatuses a b (Ok was) n → Gives b (answer got) c → TakesStatuses a c (Err reason.Busy) total
-busy_again a b c was n total got one odd within p q =
-    let s = so_far a b was n p in record {
-      busy = s.busy;
-      idle = s.idle;
-      within = omega (arith, s.all, within);
-      each = s.each;
-      then_idle = s.then_idle;
-      between = b;
-      gives = s.gives;
-      next = (get_or got 0 0, odd_one (get_or got 0 0) odd, subst (λ xs. Gives b (answer xs) c) (single got one) q);
-    }
 
 pub status_fails : (a b c : Ahead) (was : Bool) (n total : ℕ) (got : List ℕ) (why : Fault) → length got ≡ 1 → n < total
     → TakesStatuses a b (Ok was) n → Answers b c (Err why) got → TakesStatuses a c (Err (reason.Exchange why)) total

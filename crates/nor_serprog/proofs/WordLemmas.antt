@@ -181,23 +181,6 @@ stops_trying h' c tries last turns came fault.Silent is few p heard cut = absurd
 stops_trying h' c tries last turns came fault.Nak is few p heard cut = absurd cut
 stops_trying h' c tries last turns came fault.Differs is few p heard cut = absurd cut
 
-pub stops_at_once : (h h' : Option (List ℕ)) (a : Ahead) (why : Fault) → Tries h h' (Err why) → StopsWord h h' a a why
-stops_at_once h h' a fault.Write cut =
-    let nothing : cut.0 ≡ 0 = omega (arith, cut.1) in (
-      0,
-      [],
-      omega arith,
-      record {
-        few = omega arith;
-        none = refl;
-        talked = record { out = subst (λ n. Appends h h' (take n (0x10 ∷ []))) nothing cut.2; back = (nothing_talked h a).back };
-      },
-    )
-stops_at_once h h' a fault.Read cut = absurd cut
-stops_at_once h h' a fault.Silent cut = absurd cut
-stops_at_once h h' a fault.Nak cut = absurd cut
-stops_at_once h h' a fault.Differs cut = absurd cut
-
 -- what comes late, and a reader that fails in it
 pub then_late : {h h' : Option (List ℕ)} {a b : Ahead} (c : Ahead) (tries : ℕ) (r : Result (Unit {0}) Fault) (room : ℕ) → room ≤ 2 * (tries - 1) → HasFound h h' a b tries → HearsLate b c r room
     → Begins h h' a c r

@@ -1,7 +1,7 @@
 -- What one command with its answer is to a device (this project's; the bytes are the Serial Flasher Protocol's).
 use Rattle.std.specs.Prelude.{◌≡◌, ◌≢◌, ◌<◌, ℕ, ◌+◌, ◌==◌, ◌&&◌, if◌then◌else◌, List, [], ◌∷◌, ◌++◌, length, take, slice_index, Option, Result, Ok, Err}
 use Rattle.std.specs.Io.KnownBytes.{Appends}
-use Rattle.nor_base.specs.Device.{Ahead, Gives, IsAtEnd, Cuts}
+use Rattle.nor_base.specs.Device.{Ahead, Gives, IsAtEnd, Cuts, one_more}
 use Rattle.nor_serprog.specs.declared.fault.Fault.{Fault}
 use Rattle.nor_serprog.specs.declared.fault.Fault.TheVariants as fault
 use Rattle.nor_serprog.specs.declared.fault.Reason.{Reason}
@@ -53,11 +53,11 @@ Asks held_before held_after ahead_before ahead_after result command Answered = A
 
 -- the reader's count of failures rises by one exactly at Read, the writer's exactly at Write
 abbrev pub CountsReads : {T : Type 0} → ℕ → ℕ → Result T Fault → Type 0
-CountsReads before after (Err fault.Read) = after ≡ before + 1
+CountsReads before after (Err fault.Read) = after ≡ one_more before
 CountsReads before after other = after ≡ before
 
 abbrev pub CountsWrites : {T : Type 0} → ℕ → ℕ → Result T Fault → Type 0
-CountsWrites before after (Err fault.Write) = after ≡ before + 1
+CountsWrites before after (Err fault.Write) = after ≡ one_more before
 CountsWrites before after other = after ≡ before
 
 -- of bytes that came this is the first that is another than what was wanted

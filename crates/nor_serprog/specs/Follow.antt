@@ -4,7 +4,7 @@ use Rattle.std.specs.List.{list_all}
 use Rattle.std.specs.Io.KnownBytes.{Appends}
 use Rattle.nor_base.specs.declared.wrong.PortFault.{PortFault}
 use Rattle.nor_base.specs.declared.wrong.PortFault.TheVariants as port
-use Rattle.nor_base.specs.Device.{Ahead, Gives}
+use Rattle.nor_base.specs.Device.{Ahead, Gives, one_more}
 use Rattle.nor_base.specs.Port.{Shown, Transacts}
 use Rattle.nor_base.specs.Run.{poll_clocks}
 use Rattle.nor_serprog.specs.declared.fault.Fault.{Fault}
@@ -221,8 +221,8 @@ CountsReason device before after (Ok u) = after ≡ before
 CountsReason device before after (Err reason.Busy) = after ≡ before
 CountsReason device before after (Err reason.Carried) = after ≡ before
 CountsReason device before after (Err (reason.Differs place byte)) = after ≡ before
-CountsReason fault.Read before after (Err (reason.Exchange fault.Read)) = after ≡ before + 1
-CountsReason fault.Write before after (Err (reason.Exchange fault.Write)) = after ≡ before + 1
+CountsReason fault.Read before after (Err (reason.Exchange fault.Read)) = after ≡ one_more before
+CountsReason fault.Write before after (Err (reason.Exchange fault.Write)) = after ≡ one_more before
 CountsReason device before after (Err (reason.Exchange why)) = after ≡ before
 
 -- so it is of the reason for which a port fails first; where it fails for none, or has failed before, neither count rises

@@ -2,7 +2,7 @@
 -- Q_CMDMAP 02h, S_BUSTYPE 12h, Q_SERBUF 04h, Q_WRNMAXLEN 08h, Q_RDNMAXLEN 11h, S_PIN_STATE 15h, O_SPIOP 13h).
 use Rattle.std.specs.Prelude.{◌≡◌, ◌≢◌, ◌≤◌, ◌<◌, ℕ, Bool, true, false, ◌+◌, ◌-◌, ◌*◌, ◌/◌, ◌%◌, ◌^◌, ◌==◌, not, ◌&&◌, ◌||◌, if◌then◌else◌, List, [], ◌∷◌, ◌++◌, length, take, replicate, flat_map, slice_index, Option, Some, None, IfSome, Result, Ok, Err}
 use Rattle.std.specs.Io.KnownBytes.{Appends}
-use Rattle.nor_base.specs.Device.{Ahead, Gives, IsAtEnd, Cuts}
+use Rattle.nor_base.specs.Device.{Ahead, Gives, IsAtEnd, Cuts, one_more}
 use Rattle.nor_serprog.specs.declared.fault.Fault.{Fault}
 use Rattle.nor_serprog.specs.declared.fault.Fault.TheVariants as fault
 use Rattle.nor_serprog.specs.declared.fault.Command.{Command}
@@ -325,9 +325,9 @@ Learns held_before held_after ahead_before ahead_after (Err why) = Greeted held_
 
 -- the reader's count of failures rises by one exactly where a command's fault is Read, the writer's where it is Write
 abbrev pub CountsGreetReads : {T : Type 0} → ℕ → ℕ → Result T GreetFault → Type 0
-CountsGreetReads before after (Err (refused.Command at fault.Read)) = after ≡ before + 1
+CountsGreetReads before after (Err (refused.Command at fault.Read)) = after ≡ one_more before
 CountsGreetReads before after other = after ≡ before
 
 abbrev pub CountsGreetWrites : {T : Type 0} → ℕ → ℕ → Result T GreetFault → Type 0
-CountsGreetWrites before after (Err (refused.Command at fault.Write)) = after ≡ before + 1
+CountsGreetWrites before after (Err (refused.Command at fault.Write)) = after ≡ one_more before
 CountsGreetWrites before after other = after ≡ before

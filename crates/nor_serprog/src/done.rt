@@ -1,7 +1,6 @@
 //! The steps of a script, done by a device.
 
-ghost use Rattle.std.specs.Prelude.{◌≡◌, ◌<◌, ◌-◌, ◌^◌, ◌↔◌, IsTrue, MatchResult};
-ghost use Rattle.nor_base.specs.Device.{HaveRoom};
+ghost use Rattle.std.specs.Prelude.{◌↔◌, IsTrue, MatchResult};
 ghost use Rattle.nor_serprog.specs.declared.fault.Fault.TheVariants.{Read, Write};
 ghost use Rattle.nor_serprog.specs.Done.{IsDoable, HasDone, HasStopped};
 ghost use Rattle.nor_serprog.specs.Follow.{CountsReason};
@@ -28,7 +27,6 @@ pub fn do_step<R: ByteIn, W: ByteOut>(
     step: &Step,
 ) -> Result<(), Reason>
     requires form { IsDoable step.now }
-    requires room { HaveRoom (R.count from.old) (W.count to.old) }
     ensures done { MatchResult result
         (λ _. HasDone (W.held to.old) (W.held to.new) (R.ahead from.old) (R.ahead from.new)
         limits.now turns step.now)

@@ -1,7 +1,6 @@
 //! One command and its answer.
 
-ghost use Rattle.std.specs.Prelude.{◌≡◌, ◌<◌, ◌+◌, ◌-◌, ◌^◌, [], length, flat_map, IfOk, IfErr};
-ghost use Rattle.nor_base.specs.Device.{HaveRoom};
+ghost use Rattle.std.specs.Prelude.{◌≡◌, ◌<◌, ◌+◌, ◌^◌, [], length, flat_map, IfOk, IfErr};
 ghost use Rattle.nor_serprog.specs.declared.fault.Fault.TheVariants.{Read};
 ghost use Rattle.nor_serprog.specs.Exchange.{Fills, Meets, other_byte, TakesAsMany, Compares};
 ghost use Rattle.nor_serprog.specs.Exchange.{Answers, AnswersKnown, Asks, CountsReads};
@@ -25,7 +24,6 @@ pub(crate) fn ask<R: ByteIn, W: ByteOut>(
     command: &[&[u8]],
     got: &mut [u8],
 ) -> Result<(), Fault>
-    requires room { HaveRoom (R.count from.old) (W.count to.old) }
     ensures asked { Asks (W.held to.old) (W.held to.new) (R.ahead from.old) (R.ahead from.new)
         result
         (flat_map (λ part. part.now) command.now)
@@ -39,7 +37,6 @@ pub(crate) fn ask<R: ByteIn, W: ByteOut>(
 
 /// Takes an answer: ACK, and the bytes that fill a buffer.
 pub(crate) fn told<R: ByteIn>(from: &mut R, got: &mut [u8]) -> Result<(), Fault>
-    requires { R.count from.old < 2 ^ 64 - 1 }
     ensures answers { Answers (R.ahead from.old) (R.ahead from.new) result got.new }
     ensures reads { CountsReads (R.count from.old) (R.count from.new) result }
 {
@@ -51,7 +48,6 @@ pub(crate) fn told<R: ByteIn>(from: &mut R, got: &mut [u8]) -> Result<(), Fault>
 /// whatever they are.
 pub(crate) fn answered<R: ByteIn>(from: &mut R, want: &[u8]) -> Result<(), Reason>
     requires want { length want.now < 2 ^ 24 }
-    requires reader { R.count from.old < 2 ^ 64 - 1 }
     ensures known { AnswersKnown (R.ahead from.old) (R.ahead from.new) result want.now }
     ensures reads { CountsReason Read (R.count from.old) (R.count from.new) result }
 {
@@ -61,7 +57,6 @@ pub(crate) fn answered<R: ByteIn>(from: &mut R, want: &[u8]) -> Result<(), Reaso
 
 /// Takes ACK.
 fn acknowledged<R: ByteIn>(from: &mut R) -> Result<(), Fault>
-    requires { R.count from.old < 2 ^ 64 - 1 }
     ensures answers { Answers (R.ahead from.old) (R.ahead from.new) result [] }
     ensures reads { CountsReads (R.count from.old) (R.count from.new) result }
 {
@@ -76,7 +71,6 @@ fn acknowledged<R: ByteIn>(from: &mut R) -> Result<(), Fault>
 
 /// Takes bytes until a buffer is full.
 fn filled<R: ByteIn>(from: &mut R, got: &mut [u8]) -> Result<(), Fault>
-    requires { R.count from.old < 2 ^ 64 - 1 }
     ensures fills { Fills (R.ahead from.old) (R.ahead from.new) result got.new }
     ensures reads { CountsReads (R.count from.old) (R.count from.new) result }
 {
@@ -91,7 +85,6 @@ fn filled<R: ByteIn>(from: &mut R, got: &mut [u8]) -> Result<(), Fault>
 /// another.
 fn compared<R: ByteIn>(from: &mut R, want: &[u8]) -> Result<(), Reason>
     requires want { length want.now < 2 ^ 24 }
-    requires reader { R.count from.old < 2 ^ 64 - 1 }
     ensures takes { TakesAsMany (R.ahead from.old) (R.ahead from.new) result want.now }
     ensures reads { CountsReason Read (R.count from.old) (R.count from.new) result }
 {
@@ -150,7 +143,6 @@ pub(crate) fn exchange<R: ByteIn, W: ByteOut>(
     command: &[&[u8]],
     want: &[u8],
 ) -> Result<(), Fault>
-    requires room { HaveRoom (R.count from.old) (W.count to.old) }
     ensures asked { Asks (W.held to.old) (W.held to.new) (R.ahead from.old) (R.ahead from.new)
         result
         (flat_map (λ part. part.now) command.now)
@@ -164,7 +156,6 @@ pub(crate) fn exchange<R: ByteIn, W: ByteOut>(
 
 /// Takes bytes as long as they are those that are wanted.
 fn expect<R: ByteIn>(from: &mut R, want: &[u8]) -> Result<(), Fault>
-    requires { R.count from.old < 2 ^ 64 - 1 }
     ensures meets { Meets (R.ahead from.old) (R.ahead from.new) result want.now }
     ensures reads { CountsReads (R.count from.old) (R.count from.new) result }
 {

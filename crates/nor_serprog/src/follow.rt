@@ -1,7 +1,6 @@
 //! The transactions of a chip in memory, done by a device.
 
-ghost use Rattle.std.specs.Prelude.{◌≡◌, ◌<◌, ◌≤◌, ◌-◌, ◌^◌, ℕ, List, Option, length};
-ghost use Rattle.nor_base.specs.Device.{HaveRoom};
+ghost use Rattle.std.specs.Prelude.{◌≡◌, ◌<◌, ◌≤◌, ◌^◌, ℕ, List, Option, length};
 ghost use Rattle.std.specs.Io.KnownBytes.{Appends};
 ghost use Rattle.nor_base.specs.Decoding.{bytes_of_bits};
 ghost use Rattle.nor_base.specs.Sample.{sampled_count};
@@ -30,7 +29,6 @@ pub(crate) fn follow<R: ByteIn, W: ByteOut>(
     want: &[u8],
 ) -> Result<(), Reason>
     requires want { length want.now ≡ sampled_count clocks.now }
-    requires room { HaveRoom (R.count from.old) (W.count to.old) }
     ensures follows { Follows (W.held to.old) (W.held to.new) (R.ahead from.old) (R.ahead from.new)
         result limits.now turns
         clocks.now want.now }
@@ -52,7 +50,6 @@ pub(crate) fn operate_once<R: ByteIn, W: ByteOut>(
     want: &[u8],
 ) -> Result<(), Reason>
     requires want { length want.now ≡ sampled_count clocks.now }
-    requires room { HaveRoom (R.count from.old) (W.count to.old) }
     ensures operates { Operates (W.held to.old) (W.held to.new) (R.ahead from.old)
         (R.ahead from.new) result limits.now
         clocks.now want.now }
@@ -73,7 +70,6 @@ pub(crate) fn wait<R: ByteIn, W: ByteOut>(
     limits: &Limits,
     turns: u64,
 ) -> Result<(), Reason>
-    requires room { HaveRoom (R.count from.old) (W.count to.old) }
     ensures waits { Waits (W.held to.old) (W.held to.new) (R.ahead from.old) (R.ahead from.new)
         result limits.now turns }
     ensures counts { CountsReason Read (R.count from.old) (R.count from.new) result
@@ -105,7 +101,6 @@ pub(crate) fn wait_on<R: ByteIn, W: ByteOut>(
 ) -> Result<(), Reason>
     requires few { MayGoAtOnce limits.now reads }
     requires within { reads ≤ turns }
-    requires room { HaveRoom (R.count from.old) (W.count to.old) }
     ensures waits { (held : Option (List ℕ)) → Appends held (W.held to.old) (status_requests reads)
         → Waits held (W.held to.new) (R.ahead from.old) (R.ahead from.new) result limits.now turns }
     ensures counts { CountsReason Read (R.count from.old) (R.count from.new) result
@@ -120,7 +115,6 @@ pub(crate) fn wait_on<R: ByteIn, W: ByteOut>(
 /// Takes the answers to so many status reads: whether the last said idle. `Busy` at one that says
 /// busy after one that said idle.
 fn take_statuses<R: ByteIn>(from: &mut R, reads: u64) -> Result<bool, Reason>
-    requires { R.count from.old < 2 ^ 64 - 1 }
     ensures takes { TakesStatuses (R.ahead from.old) (R.ahead from.new) result reads }
     ensures reads { CountsReason Read (R.count from.old) (R.count from.new) result }
 {
@@ -147,7 +141,6 @@ fn operate_as<R: ByteIn, W: ByteOut>(
 ) -> Result<(), Reason>
     requires sent { length (bytes_of_bits bits.now) < 2 ^ 24 }
     requires asked { length want.now < 2 ^ 24 }
-    requires room { HaveRoom (R.count from.old) (W.count to.old) }
     ensures known { Knows (W.held to.old) (W.held to.new) (R.ahead from.old) (R.ahead from.new)
         result
         (request (bytes_of_bits bits.now) (length want.now)) want.now }

@@ -1,7 +1,7 @@
 //! The handshake with a device.
 
-ghost use Rattle.std.specs.Prelude.{◌≡◌, ◌<◌, ◌-◌, ◌^◌, ℕ, List, Option};
-ghost use Rattle.nor_base.specs.Device.{HaveRoom, Ahead};
+ghost use Rattle.std.specs.Prelude.{◌≡◌, ◌<◌, ◌^◌, ℕ, List, Option};
+ghost use Rattle.nor_base.specs.Device.{Ahead};
 ghost use Rattle.nor_serprog.specs.Greeting.{Greeted, HasLearnt, Learns, BeginsGreeting, Tells};
 ghost use Rattle.nor_serprog.specs.Greeting.{TellsAhead, TellsIf, CountsGreetReads};
 ghost use Rattle.nor_serprog.specs.Greeting.{CountsGreetWrites, offers, most};
@@ -33,7 +33,6 @@ const MOST: u32 = (1 << 24) - 1;
 /// `Command` has the first command whose exchange ended early, and how; `Version` where it isn't 1;
 /// `NoOperation` where 13h isn't offered. A most that isn't said, or is 0, is 2^24 - 1.
 pub fn greet<R: ByteIn, W: ByteOut>(from: &mut R, to: &mut W) -> Result<Limits, GreetFault>
-    requires room { HaveRoom (R.count from.old) (W.count to.old) }
     ensures greeted { Greeted (W.held to.old) (W.held to.new) (R.ahead from.old) (R.ahead from.new)
         result }
     ensures counts { CountsGreetReads (R.count from.old) (R.count from.new) result
@@ -45,7 +44,6 @@ pub fn greet<R: ByteIn, W: ByteOut>(from: &mut R, to: &mut W) -> Result<Limits, 
 
 /// Begins with a device that speaks version 1 and does SPI operations: the commands that it offers.
 fn learn<R: ByteIn, W: ByteOut>(from: &mut R, to: &mut W) -> Result<[u8; 32], GreetFault>
-    requires room { HaveRoom (R.count from.old) (W.count to.old) }
     ensures learns { Learns (W.held to.old) (W.held to.new) (R.ahead from.old) (R.ahead from.new)
         result }
     ensures counts { CountsGreetReads (R.count from.old) (R.count from.new) result
@@ -71,7 +69,6 @@ fn go_on<R: ByteIn, W: ByteOut>(
     to: &mut W,
     commands: &[u8; 32],
 ) -> Result<Limits, GreetFault>
-    requires room { HaveRoom (R.count from.old) (W.count to.old) }
     ensures greeted { (held : Option (List ℕ)) (ahead : Ahead)
         → HasLearnt held (W.held to.old) ahead (R.ahead from.old) commands.now
         → Greeted held (W.held to.new) ahead (R.ahead from.new) result }
@@ -98,7 +95,6 @@ fn go_on<R: ByteIn, W: ByteOut>(
 
 /// Has the device say its first word.
 fn begin<R: ByteIn, W: ByteOut>(from: &mut R, to: &mut W) -> Result<(), GreetFault>
-    requires room { HaveRoom (R.count from.old) (W.count to.old) }
     ensures begins { BeginsGreeting (W.held to.old) (W.held to.new) (R.ahead from.old)
         (R.ahead from.new) result }
     ensures counts { CountsGreetReads (R.count from.old) (R.count from.new) result
@@ -118,7 +114,6 @@ fn tell<R: ByteIn, W: ByteOut>(
     at: Command,
     got: &mut [u8],
 ) -> Result<(), GreetFault>
-    requires room { HaveRoom (R.count from.old) (W.count to.old) }
     ensures tells { Tells (W.held to.old) (W.held to.new) (R.ahead from.old) (R.ahead from.new)
         result at got.new }
     ensures counts { CountsGreetReads (R.count from.old) (R.count from.new) result
@@ -136,7 +131,6 @@ fn takes_ahead<R: ByteIn, W: ByteOut>(
     to: &mut W,
     offered: bool,
 ) -> Result<u16, GreetFault>
-    requires room { HaveRoom (R.count from.old) (W.count to.old) }
     ensures tells { TellsAhead offered (W.held to.old) (W.held to.new) (R.ahead from.old)
         (R.ahead from.new) result }
     ensures counts { CountsGreetReads (R.count from.old) (R.count from.new) result
@@ -162,7 +156,6 @@ fn tell_if<R: ByteIn, W: ByteOut>(
     at: Command,
     got: &mut [u8],
 ) -> Result<(), GreetFault>
-    requires room { HaveRoom (R.count from.old) (W.count to.old) }
     ensures tells { TellsIf offered (W.held to.old) (W.held to.new) (R.ahead from.old)
         (R.ahead from.new) result at got.new }
     ensures counts { CountsGreetReads (R.count from.old) (R.count from.new) result

@@ -1,7 +1,6 @@
 //! The test of the line to a device: whether each byte reaches it as it was sent.
 
 ghost use Rattle.std.specs.Prelude.{◌≡◌, ◌<◌, ◌≤◌, ◌+◌, ◌-◌, ◌^◌, [], ◌∷◌, length};
-ghost use Rattle.nor_base.specs.Device.{HaveRoom};
 ghost use Rattle.nor_serprog.specs.Exchange.{CountsReads, CountsWrites};
 ghost use Rattle.nor_serprog.specs.Line.{Exchanges, SendsValues, TestsLine, all_values, end_test};
 ghost use Rattle.nor_serprog.specs.Line.{ignored, lengths_test, zeros_if};
@@ -28,7 +27,6 @@ pub fn test_line<R: ByteIn, W: ByteOut>(
     to: &mut W,
     limits: &Limits,
 ) -> Result<(), Fault>
-    requires room { HaveRoom (R.count from.old) (W.count to.old) }
     ensures tests { TestsLine (W.held to.old) (W.held to.new) (R.ahead from.old) (R.ahead from.new)
         result limits.now }
     ensures counts { CountsReads (R.count from.old) (R.count from.new) result
@@ -45,7 +43,6 @@ fn send_values<R: ByteIn, W: ByteOut>(
     to: &mut W,
     limits: &Limits,
 ) -> Result<(), Fault>
-    requires room { HaveRoom (R.count from.old) (W.count to.old) }
     ensures sends { SendsValues (W.held to.old) (W.held to.new) (R.ahead from.old)
         (R.ahead from.new) result limits.now.sent }
     ensures counts { CountsReads (R.count from.old) (R.count from.new) result
@@ -61,7 +58,6 @@ fn send_values<R: ByteIn, W: ByteOut>(
 fn send_pieces<R: ByteIn, W: ByteOut>(from: &mut R, to: &mut W, room: usize) -> Result<(), Fault>
     requires some { 0 < room }
     requires few { room < 2 ^ 24 - 1 }
-    requires room { HaveRoom (R.count from.old) (W.count to.old) }
     ensures sends { SendsValues (W.held to.old) (W.held to.new) (R.ahead from.old)
         (R.ahead from.new) result (room + 1) }
     ensures counts { CountsReads (R.count from.old) (R.count from.new) result
@@ -90,7 +86,6 @@ fn all_values() -> [u8; 256]
 
 /// Has the device send 05h and zeros, of each length that it can.
 fn send_lengths<R: ByteIn, W: ByteOut>(from: &mut R, to: &mut W, sent: u32) -> Result<(), Fault>
-    requires room { HaveRoom (R.count from.old) (W.count to.old) }
     ensures does { Exchanges (W.held to.old) (W.held to.new) (R.ahead from.old) (R.ahead from.new)
         result (lengths_test sent) }
     ensures counts { CountsReads (R.count from.old) (R.count from.new) result
@@ -110,7 +105,6 @@ fn send_zeros<R: ByteIn, W: ByteOut>(
 ) -> Result<(), Fault>
     requires some { 0 < count }
     requires few { count ≤ 128 }
-    requires room { HaveRoom (R.count from.old) (W.count to.old) }
     ensures does { Exchanges (W.held to.old) (W.held to.new) (R.ahead from.old) (R.ahead from.new)
         result (zeros_if sent count) }
     ensures counts { CountsReads (R.count from.old) (R.count from.new) result
@@ -126,7 +120,6 @@ fn send_zeros<R: ByteIn, W: ByteOut>(
 /// Has the device send 05h and then bytes that the chip ignores.
 fn send_ignored<R: ByteIn, W: ByteOut>(from: &mut R, to: &mut W, bytes: &[u8]) -> Result<(), Fault>
     requires few { length bytes.now < 2 ^ 24 - 1 }
-    requires room { HaveRoom (R.count from.old) (W.count to.old) }
     ensures does { Exchanges (W.held to.old) (W.held to.new) (R.ahead from.old) (R.ahead from.new)
         result (ignored bytes.now ∷ []) }
     ensures counts { CountsReads (R.count from.old) (R.count from.new) result
@@ -138,7 +131,6 @@ fn send_ignored<R: ByteIn, W: ByteOut>(from: &mut R, to: &mut W, bytes: &[u8]) -
 
 /// Does NOP, and then asks for the word, which is to come by itself.
 fn end<R: ByteIn, W: ByteOut>(from: &mut R, to: &mut W) -> Result<(), Fault>
-    requires room { HaveRoom (R.count from.old) (W.count to.old) }
     ensures does { Exchanges (W.held to.old) (W.held to.new) (R.ahead from.old) (R.ahead from.new)
         result end_test }
     ensures counts { CountsReads (R.count from.old) (R.count from.new) result

@@ -1,7 +1,6 @@
 //! One SPI operation of a device.
 
-ghost use Rattle.std.specs.Prelude.{◌≡◌, ◌<◌, ◌-◌, ◌^◌, length};
-ghost use Rattle.nor_base.specs.Device.{HaveRoom};
+ghost use Rattle.std.specs.Prelude.{◌≡◌, ◌<◌, ◌^◌, length};
 ghost use Rattle.nor_serprog.specs.Protocol.{head, request};
 ghost use Rattle.nor_serprog.specs.declared.fault.Fault.TheVariants.{Read, Write};
 ghost use Rattle.nor_serprog.specs.Exchange.{Answers, Asks, CountsReads, CountsWrites, Knows};
@@ -28,7 +27,6 @@ pub fn operate<R: ByteIn, W: ByteOut>(
 ) -> Result<(), Fault>
     requires sent { length sent.now < 2 ^ 24 }
     requires asked { length got.old < 2 ^ 24 }
-    requires room { HaveRoom (R.count from.old) (W.count to.old) }
     ensures asked { Asks (W.held to.old) (W.held to.new) (R.ahead from.old) (R.ahead from.new)
         result
         (request sent.now (length got.old))
@@ -53,7 +51,6 @@ pub fn operate_with<R: ByteIn, W: ByteOut>(
 ) -> Result<(), Reason>
     requires sent { length sent.now < 2 ^ 24 }
     requires asked { length want.now < 2 ^ 24 }
-    requires room { HaveRoom (R.count from.old) (W.count to.old) }
     ensures known { Knows (W.held to.old) (W.held to.new) (R.ahead from.old) (R.ahead from.new)
         result
         (request sent.now (length want.now)) want.now }

@@ -1,7 +1,6 @@
 //! The pins of the chip behind a device.
 
-ghost use Rattle.std.specs.Prelude.{◌<◌, ◌-◌, ◌^◌, []};
-ghost use Rattle.nor_base.specs.Device.{HaveRoom};
+ghost use Rattle.std.specs.Prelude.{[]};
 ghost use Rattle.nor_serprog.specs.Exchange.{Answers, Asks, CountsReads, CountsWrites};
 ghost use Rattle.nor_serprog.specs.Greeting.{release_bytes};
 
@@ -18,7 +17,6 @@ const RELEASE: [u8; 2] = [0x15, 0x00];
 /// `Write` where the writer failed; `Nak` and `Differs` where NAK came, or another byte; `Silent`
 /// and `Read` where the reader ended or failed before one came.
 pub fn release<R: ByteIn, W: ByteOut>(from: &mut R, to: &mut W) -> Result<(), Fault>
-    requires room { HaveRoom (R.count from.old) (W.count to.old) }
     ensures asked { Asks (W.held to.old) (W.held to.new) (R.ahead from.old) (R.ahead from.new)
         result
         release_bytes (Answers (R.ahead from.old) (R.ahead from.new) result []) }

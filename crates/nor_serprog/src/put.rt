@@ -1,7 +1,7 @@
 //! Requests, each of which goes out in one write where it has room on the stack.
 
 ghost use Rattle.std.specs.Bool.{OnTrue};
-ghost use Rattle.std.specs.Prelude.{◌≡◌, ◌≤◌, ◌<◌, ◌+◌, ◌-◌, ◌^◌, ◌++◌, length, flat_map};
+ghost use Rattle.std.specs.Prelude.{◌≡◌, ◌≤◌, ◌<◌, ◌+◌, ◌^◌, ◌++◌, length, flat_map};
 ghost use Rattle.std.specs.Prelude.{min, slice_index, slice_range, IfSome};
 ghost use Rattle.nor_base.specs.Decoding.{bytes_of_bits};
 ghost use Rattle.nor_base.specs.Device.{Counts, Writes};
@@ -27,7 +27,6 @@ const STATUS: [u8; 8] = [0x13, 1, 0, 0, 1, 0, 0, 0x05];
 
 /// Puts a command, in parts: in one write where they have room together.
 pub(crate) fn put_command<W: ByteOut>(to: &mut W, parts: &[&[u8]]) -> Result<(), Failed>
-    requires { W.count to.old < 2 ^ 64 - 1 }
     ensures bytes { Writes (W.held to.old) (W.held to.new) result
         (flat_map (λ part. part.now) parts.now) }
     ensures count { Counts (W.count to.old) (W.count to.new) result }
@@ -56,7 +55,6 @@ fn joined(parts: &[&[u8]]) -> Option<Requests>
 pub(crate) fn put_request<W: ByteOut>(to: &mut W, bits: &[u8], asked: u32) -> Result<(), Failed>
     requires sent { length (bytes_of_bits bits.now) < 2 ^ 24 }
     requires asked { asked < 2 ^ 24 }
-    requires writer { W.count to.old < 2 ^ 64 - 1 }
     ensures bytes { Writes (W.held to.old) (W.held to.new) result
         (request (bytes_of_bits bits.now) asked) }
     ensures count { Counts (W.count to.old) (W.count to.new) result }
@@ -116,7 +114,6 @@ pub(crate) fn add_reads(requests: &mut Requests, ahead: u16, turns: u64) -> u64
 
 /// Puts the bytes that clocks send, some hundred at a time.
 fn put_sent<W: ByteOut>(to: &mut W, bits: &[u8]) -> Result<(), Failed>
-    requires { W.count to.old < 2 ^ 64 - 1 }
     ensures bytes { Writes (W.held to.old) (W.held to.new) result (bytes_of_bits bits.now) }
     ensures count { Counts (W.count to.old) (W.count to.new) result }
 {

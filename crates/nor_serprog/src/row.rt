@@ -1,9 +1,8 @@
 //! Steps whose requests go out in one write, before any of their answers is taken.
 
 ghost use Rattle.std.specs.Bool.{OnTrue};
-ghost use Rattle.std.specs.Prelude.{◌≡◌, ◌≤◌, ◌<◌, ◌⊎◌, ◌+◌, ◌-◌, ◌^◌, ◌++◌, [], ◌∷◌, ℕ, List, All};
+ghost use Rattle.std.specs.Prelude.{◌≡◌, ◌≤◌, ◌<◌, ◌⊎◌, ◌^◌, ◌++◌, [], ◌∷◌, ℕ, List, All};
 ghost use Rattle.std.specs.Prelude.{IfSome, MatchResult, length, take};
-ghost use Rattle.nor_base.specs.Device.{HaveRoom};
 ghost use Rattle.nor_base.specs.Sample.{sampled_count};
 ghost use Rattle.nor_base.specs.Step.{expected};
 ghost use Rattle.nor_base.specs.declared.step.Step.TheVariants.{Poll};
@@ -115,7 +114,6 @@ pub fn do_row<R: ByteIn, W: ByteOut>(
 ) -> Result<(), Halt>
     requires form { All IsDoable row.now }
     requires row { IsRow limits.now row.now }
-    requires room { HaveRoom (R.count from.old) (W.count to.old) }
     ensures done { MatchResult result
         (λ _. HasDoneAll (W.held to.old) (W.held to.new) (R.ahead from.old) (R.ahead from.new)
         limits.now turns row.now)
@@ -143,7 +141,6 @@ fn do_each<R: ByteIn, W: ByteOut>(
     row: &[Step],
 ) -> Result<(), Halt>
     requires form { All IsDoable row.now }
-    requires room { HaveRoom (R.count from.old) (W.count to.old) }
     ensures done { MatchResult result
         (λ _. HasDoneAll (W.held to.old) (W.held to.new) (R.ahead from.old) (R.ahead from.new)
         limits.now turns row.now)
@@ -176,7 +173,6 @@ fn do_ahead<R: ByteIn, W: ByteOut>(
     requires form { All IsDoable row.now }
     requires row { IsRow limits.now row.now }
     requires front { AreFront limits.now row.now front.now requests.items }
-    requires room { HaveRoom (R.count from.old) (W.count to.old) }
     ensures done { MatchResult result
         (λ _. HasDoneAll (W.held to.old) (W.held to.new) (R.ahead from.old) (R.ahead from.new)
         limits.now turns row.now)
@@ -268,7 +264,6 @@ fn add_operation(requests: &mut Requests, clocks: &[u8], asked: usize, limits: &
 /// Takes the answers of steps that aren't polls.
 fn take_answers<R: ByteIn>(from: &mut R, steps: &[Step]) -> Result<(), Halt>
     requires few { All (λ x. length (expected x) < 2 ^ 24) steps.now }
-    requires reader { R.count from.old < 2 ^ 64 - 1 }
     ensures done { MatchResult result
         (λ _. TakesAnswers (R.ahead from.old) (R.ahead from.new) steps.now)
         (StopsAnswers (R.ahead from.old) (R.ahead from.new) steps.now) }

@@ -1,6 +1,6 @@
 //! A chip in memory that the chip behind a device is to go along with.
 
-ghost use Rattle.std.specs.Prelude.{◌≡◌, ◌≤◌, ◌<◌, ◌-◌, ◌^◌, ⊤, None, length};
+ghost use Rattle.std.specs.Prelude.{◌≡◌, ⊤, None, length};
 ghost use Rattle.nor_base.specs.Port.{Transacts, CountsTransact};
 ghost use Rattle.nor_base.specs.Sample.{sampled_count};
 ghost use Rattle.nor_serprog.specs.declared.fault.Fault.TheVariants.{Read, Write};
@@ -34,15 +34,12 @@ pub struct Shadowed<'a, R: ByteIn + Drop, W: ByteOut + Drop> {
     pub failed: u64,
     /// Why it failed first.
     pub reason: Option<Reason>,
-    ghost reader: { R.count from ≤ failed },
-    ghost writer: { W.count to ≤ failed },
 }
 
 impl<'a, R: ByteIn + Drop, W: ByteOut + Drop> Shadowed<'a, R, W> {
-    /// A chip in memory, and the device of a reader and a writer that haven't failed, after its
+    /// A chip in memory, and the device of a reader and a writer, after its
     /// handshake.
     pub fn new(chip: Chip<'a>, from: R, to: W, limits: Limits, turns: u64) -> Shadowed<'a, R, W>
-        requires works { (R.count from ≡ 0) × (W.count to ≡ 0) }
         ensures chip { result.chip ≡ chip.entry }
         ensures from { result.from ≡ from }
         ensures to { result.to ≡ to }
@@ -70,9 +67,9 @@ impl<'a, R: ByteIn + Drop, W: ByteOut + Drop> Port for Shadowed<'a, R, W> {
 
     ghost asked = { λ _ _. ⊤ };
 
+    #[tactic(auto, unfolding(nor_base::specs::Device::one_more))]
     fn transact(&mut self, clocks: &[u8], out: &mut [u8]) -> Result<(), PortFault>
         requires out { length out.old ≡ sampled_count clocks.now }
-        requires room { self.old.failed < 2 ^ 64 - 1 }
         ensures effect { Transacts self.old.chip self.new.chip result clocks.now out.new }
         ensures count { CountsTransact self.old.failed self.new.failed result }
         ensures device { Accompanies self.old.chip self.new.chip (W.held self.old.to)
@@ -87,7 +84,7 @@ impl<'a, R: ByteIn + Drop, W: ByteOut + Drop> Port for Shadowed<'a, R, W> {
             × (self.new.turns ≡ self.old.turns) }
     {
         if self.reason.is_some() {
-            self.failed += 1;
+            self.failed = self.failed.saturating_add(1);
             return Err(PortFault::Failed);
         }
         self.chip.transact(clocks, out)?;
@@ -102,7 +99,7 @@ impl<'a, R: ByteIn + Drop, W: ByteOut + Drop> Port for Shadowed<'a, R, W> {
         match followed {
             Ok(()) => Ok(()),
             Err(why) => {
-                self.failed += 1;
+                self.failed = self.failed.saturating_add(1);
                 self.reason = Some(why);
                 Err(PortFault::Failed)
             }

@@ -1,7 +1,6 @@
 //! The first word of a device: NAK and ACK, its answer to 10h and to nothing else.
 
-ghost use Rattle.std.specs.Prelude.{◌≡◌, ◌<◌, ◌-◌, ◌^◌, length};
-ghost use Rattle.nor_base.specs.Device.{HaveRoom};
+ghost use Rattle.std.specs.Prelude.{◌≡◌, length};
 ghost use Rattle.nor_serprog.specs.Exchange.{CountsReads, CountsWrites};
 ghost use Rattle.nor_serprog.specs.Greeting.{Begins, Finds, Hears, HearsLate, Tries, is_word};
 
@@ -21,7 +20,6 @@ const NOISE: usize = 4096;
 /// Asks the device for its first word until it comes, again at each silence, and takes what comes
 /// late after it.
 pub(crate) fn synchronize<R: ByteIn, W: ByteOut>(from: &mut R, to: &mut W) -> Result<(), Fault>
-    requires room { HaveRoom (R.count from.old) (W.count to.old) }
     ensures word { Begins (W.held to.old) (W.held to.new) (R.ahead from.old) (R.ahead from.new)
         result }
     ensures counts { CountsReads (R.count from.old) (R.count from.new) result
@@ -35,7 +33,6 @@ pub(crate) fn synchronize<R: ByteIn, W: ByteOut>(from: &mut R, to: &mut W) -> Re
 
 /// Asks until it comes: how often.
 fn find_word<R: ByteIn, W: ByteOut>(from: &mut R, to: &mut W) -> Result<usize, Fault>
-    requires room { HaveRoom (R.count from.old) (W.count to.old) }
     ensures word { Finds (W.held to.old) (W.held to.new) (R.ahead from.old) (R.ahead from.new)
         result }
     ensures counts { CountsReads (R.count from.old) (R.count from.new) result
@@ -73,7 +70,6 @@ fn ends_word(last: u8, byte: u8) -> bool
 
 /// Asks for it once.
 fn put_try<W: ByteOut>(to: &mut W) -> Result<(), Fault>
-    requires { W.count to.old < 2 ^ 64 - 1 }
     ensures tries { Tries (W.held to.old) (W.held to.new) result }
     ensures writes { CountsWrites (W.count to.old) (W.count to.new) result }
 {
@@ -85,7 +81,6 @@ fn put_try<W: ByteOut>(to: &mut W) -> Result<(), Fault>
 
 /// The next byte, or none where the device is silent.
 fn take_byte<R: ByteIn>(from: &mut R) -> Result<Option<u8>, Fault>
-    requires { R.count from.old < 2 ^ 64 - 1 }
     ensures hears { Hears (R.ahead from.old) (R.ahead from.new) result }
     ensures reads { CountsReads (R.count from.old) (R.count from.new) result }
 {
@@ -99,7 +94,6 @@ fn take_byte<R: ByteIn>(from: &mut R) -> Result<Option<u8>, Fault>
 
 /// Takes what comes late, as far as the buffer has room.
 fn take_late<R: ByteIn>(from: &mut R, late: &mut [u8]) -> Result<(), Fault>
-    requires { R.count from.old < 2 ^ 64 - 1 }
     ensures late { HearsLate (R.ahead from.old) (R.ahead from.new) result (length late.old) }
     ensures reads { CountsReads (R.count from.old) (R.count from.new) result }
 {

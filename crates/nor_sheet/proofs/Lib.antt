@@ -6,3 +6,4 @@ mod OpcodeLemmas
 mod MeaningLemmas
 pub mod SheetLemmas
 mod ReadLemmas
+pub mod ApartLemmas

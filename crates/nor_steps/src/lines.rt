@@ -1,6 +1,6 @@
 //! What becomes of instructions: their lines are written, or they are only counted.
 
-ghost use Rattle.std.specs.Prelude.{◌<◌, ◌-◌, ◌^◌, ℕ, List, Option, None, IfErr};
+ghost use Rattle.std.specs.Prelude.{ℕ, List, Option, None, IfErr};
 ghost use Rattle.nor_base.specs.Device.{Writes};
 ghost use Rattle.nor_select.specs.View.{coded_of};
 ghost use Rattle.nor_steps.specs.Faults.{CountsSteps, IsOfWriting};
@@ -27,7 +27,6 @@ pub trait InstrOut {
     /// taken then.
     fn take(&mut self, instrs: &[Instr<'_>], clocks: &mut Vec<u8>) -> Result<(), StepsFault>
         requires narrow { AreNarrow instrs.now }
-        requires room { count self.old < 2 ^ 64 - 1 }
         ensures lines { Writes (held self.old) (held self.new) result (lines_out instrs.now) }
         ensures count { CountsSteps (count self.old) (count self.new) result }
         ensures why { IfErr result IsOfWriting };
@@ -68,7 +67,6 @@ fn write_instr<W: ByteOut>(
     out: &mut W,
 ) -> Result<(), StepsFault>
     requires narrow { IsNarrow (coded_of instr.now) }
-    requires writer { W.count out.old < 2 ^ 64 - 1 }
     ensures lines { Writes (W.held out.old) (W.held out.new) result
         (coded_line (coded_of instr.now)) }
     ensures count { CountsSteps (W.count out.old) (W.count out.new) result }

@@ -1,6 +1,6 @@
 //! The steps of a unit.
 
-ghost use Rattle.std.specs.Prelude.{◌≡◌, ◌≤◌, ◌<◌, ◌+◌, ◌*◌, ◌-◌, ◌^◌, length, IfOk, IfErr};
+ghost use Rattle.std.specs.Prelude.{◌≡◌, ◌≤◌, ◌<◌, ◌+◌, ◌*◌, ◌^◌, length, IfOk, IfErr};
 ghost use Rattle.std.specs.List.{AllByRecursion};
 ghost use Rattle.nor_pages.specs.Runs.{IsUnit, LiesBetween, AreBetween};
 ghost use Rattle.nor_select.specs.Streamed.{next};
@@ -33,7 +33,6 @@ impl<'m> StepWriter<'m> {
         requires lengths { length have.now ≡ length want.now }
         requires unit { IsUnit self.old.streaming.meaning unit.now (length want.now) }
         requires few { length want.now ≤ 2 ^ 24 }
-        requires writer { W.count out.old < 2 ^ 64 - 1 }
         ensures written { WritesUnit self.old self.new (W.held out.old) (W.held out.new) unit.now
             have.now want.now result }
         ensures fails { CountsSteps (W.count out.old) (W.count out.new) result
@@ -75,7 +74,6 @@ impl<'m> StepWriter<'m> {
         requires block { (block.start + length want.now ≤ 2 ^ 28)
             × (block.size ≡ length want.now)
             × (length want.now ≤ 2 ^ 24) }
-        requires writer { W.count out.old < 2 ^ 64 - 1 }
         ensures written { Writes self.old self.new (W.held out.old) (W.held out.new) 1
             (block_ops self.old block runs.now want.now) result }
         ensures count { CountsSteps (W.count out.old) (W.count out.new) result }
@@ -103,7 +101,6 @@ impl<'m> StepWriter<'m> {
     ) -> Result<u64, StepsFault>
         requires fits { (start + length want.now ≤ 2 ^ 28)
             × (length want.now ≤ 2 ^ 24) }
-        requires writer { W.count out.old < 2 ^ 64 - 1 }
         ensures lines { Adds (W.held out.old) (W.held out.new) result
             (next_lines self.old (block_reads self.old start want.now)) }
         ensures steps { IfOk result (λ steps.
@@ -136,7 +133,6 @@ impl<'m> StepWriter<'m> {
     ) -> Result<u64, StepsFault>
         requires runs { AllByRecursion (LiesBetween start (start + length want.now)) runs.now
             × (length runs.now ≤ 2 ^ 24) }
-        requires writer { W.count out.old < 2 ^ 64 - 1 }
         ensures lines { Adds (W.held out.old) (W.held out.new) result
             (next_lines self.old (run_ops read start want.now runs.now)) }
         ensures steps { IfOk result (λ steps.
@@ -175,7 +171,6 @@ impl<'m> StepWriter<'m> {
         requires fits { (0 < page)
             × (start + length want.now ≤ 2 ^ 28)
             × (length want.now ≤ 2 ^ 24) }
-        requires writer { W.count out.old < 2 ^ 64 - 1 }
         ensures lines { Adds (W.held out.old) (W.held out.new) result
             (next_lines self.old (page_reads start page want.now)) }
         ensures steps { IfOk result (λ steps.

@@ -34,7 +34,6 @@ impl<'m> StepWriter<'m> {
         requires lengths { length have.now ≡ length want.now }
         requires window { IsWindow self.old.streaming.meaning self.old.streaming.by at
             (length have.now) }
-        requires writer { W.count out.old < 2 ^ 64 - 1 }
         ensures written { IfOk result
             (WroteStretch self.old self.new (W.held out.old) (W.held out.new) at have.now
             want.now) }
@@ -60,7 +59,6 @@ impl<'m> StepWriter<'m> {
         out: &mut W,
     ) -> Result<Tally, StepsFault>
         requires planned { IsPlanned self.old at have.now want.now units.now }
-        requires writer { W.count out.old < 2 ^ 64 - 1 }
         ensures written { IfOk result
             (WroteStretch self.old self.new (W.held out.old) (W.held out.new) at have.now
             want.now) }

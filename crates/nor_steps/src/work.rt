@@ -1,6 +1,6 @@
 //! What is written of the work on a chip, a window at a time.
 
-ghost use Rattle.std.specs.Prelude.{◌≡◌, ◌<◌, ◌-◌, ◌^◌, ℕ, List, length, IfOk, IfErr};
+ghost use Rattle.std.specs.Prelude.{◌≡◌, ℕ, List, length, IfOk, IfErr};
 ghost use Rattle.nor_base.specs.Units.{WorkUnit};
 ghost use Rattle.nor_geometry.specs.Plan.{IsWindow};
 ghost use Rattle.nor_steps.specs.Faults.{CountsSteps};
@@ -40,7 +40,6 @@ pub trait WorkWriter {
         requires window { (length have.now ≡ length want.now)
             × IsWindow (writing self.old).streaming.meaning
             (writing self.old).streaming.by at (length have.now) }
-        requires room { W.count out.old < 2 ^ 64 - 1 }
         ensures written { IfOk result
             (WroteText (unit_text self.old) (writing self.old) (writing self.new)
             (W.held out.old) (W.held out.new) at have.now want.now) }

@@ -1,6 +1,6 @@
 //! Writes the steps of the work.
 
-ghost use Rattle.std.specs.Prelude.{◌≡◌, ◌≤◌, ◌<◌, ◌-◌, ◌^◌, ◌+◌, ◌*◌, map, length, IfOk, IfErr};
+ghost use Rattle.std.specs.Prelude.{◌≡◌, ◌≤◌, ◌+◌, ◌*◌, map, length, IfOk, IfErr};
 ghost use Rattle.nor_select.specs.Streamed.{next, last};
 ghost use Rattle.nor_select.specs.View.{op_of};
 ghost use Rattle.nor_steps.specs.Faults.{CountsSteps, IsOfWriting};
@@ -69,7 +69,6 @@ impl<'m> StepWriter<'m> {
         ops: &[Op<'_>],
         out: &mut W,
     ) -> Result<u64, StepsFault>
-        requires { W.count out.old < 2 ^ 64 - 1 }
         ensures lines { Adds (W.held out.old) (W.held out.new) result
             (next_lines self.old (map op_of ops.now)) }
         ensures steps { IfOk result (λ steps.
@@ -90,7 +89,6 @@ impl<'m> StepWriter<'m> {
     /// `Write` where the writer fails, `Memory` where a growth is refused: a beginning of these
     /// steps was written then.
     pub fn close<W: InstrOut>(self, alloc: Global, out: &mut W) -> Result<u64, StepsFault>
-        requires { W.count out.old < 2 ^ 64 - 1 }
         ensures lines { Adds (W.held out.old) (W.held out.new) result
             (lines_of (last self.entry.streaming)) }
         ensures steps { IfOk result (λ steps. steps ≡ length (last self.entry.streaming)) }

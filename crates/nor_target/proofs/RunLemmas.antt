@@ -17,15 +17,6 @@ target_chosen image base is_chosen address old e = rw (e) refl
 pub target_unchosen : (image : ℕ → Option ℕ) (base : ℕ) (is_chosen : ℕ → Bool) (address old : ℕ) → is_chosen address ≡ false → target_byte image base is_chosen address old ≡ old
 target_unchosen image base is_chosen address old e = rw (e) refl
 
--- ---- the loop over chosen places
-pub filled_none : (f : ℕ → ℕ → ℕ) (at : ℕ) (have want : List ℕ) → want ≡ have → IsFilled f at have want 0
-filled_none f at have want same = record {
-  within = omega arith;
-  same_length = ap length same;
-  before = λ k h. absurd (omega arith);
-  after = λ k h. ap (λ xs. get_or xs k 0) same;
-}
-
 pub filled_more : (image : ℕ → Option ℕ) (base at : ℕ) (is_chosen : ℕ → Bool) (have want new : List ℕ) (done begin end : ℕ) → IsFilled (target_byte image base is_chosen) at have want done → IsNextChosen is_chosen at done (length have) begin end → length new ≡ length want → IsLaid image base at want new begin end → IsFilled (target_byte image base is_chosen) at have new end
 filled_more image base at is_chosen have want new done begin end so_far next lengths laid = record {
   within = next.within;

@@ -1,7 +1,7 @@
 -- The clocks of lines: reasons have none; programs below the end of a block, and past it.
 use Rattle.std.proofs.Common.{◌≡◌, ℕ, zero, suc, ◌+◌, ◌<◌, ◌≤◌, ◌==◌, Bool, true, false, cond, not, ◌&&◌, nat_lt, if◌then◌else◌, List, [], ◌∷◌, ◌++◌, length, map, Option, Some, None, refl, ap, arith}
 use Rattle.std.specs.Prelude.{flat_map, filter, sum_by, find}
-use Rattle.std.specs.List.{AllByRecursion, list_any, range_with_len, slice_split, onto_first}
+use Rattle.std.specs.List.{AllByRecursion, range_with_len, slice_split, onto_first}
 use Rattle.std.specs.Option.{option_map_or}
 use Rattle.std.proofs.lemmas.Bool.{lt-ltb, le-ltb}
 use Rattle.std.proofs.lemmas.List.Sums.{sum_by-cons}
@@ -44,12 +44,6 @@ quiet_clocks d end [] rest quiet = refl
 quiet_clocks d end (line.Erase start size opcode ∷ ls) rest quiet = let no = quiet.0 in cc
 quiet_clocks d end (line.Because start cause ∷ ls) rest quiet = quiet_clocks d end ls rest quiet.1
 quiet_clocks d end (line.Program start count ∷ ls) rest quiet = let no = quiet.0 in cc
-
-pub quiet_any : (ls rest : List PlanLine) → AllByRecursion IsQuiet ls → list_any is_work (ls ++ rest) ≡ list_any is_work rest
-quiet_any [] rest quiet = refl
-quiet_any (line.Erase start size opcode ∷ ls) rest quiet = let no = quiet.0 in cc
-quiet_any (line.Because start cause ∷ ls) rest quiet = quiet_any ls rest quiet.1
-quiet_any (line.Program start count ∷ ls) rest quiet = let no = quiet.0 in cc
 
 -- a program, and its read
 abbrev pub written : Doing → Program → ℕ

@@ -1,6 +1,6 @@
 //! How long a plan takes, whose lines come piece after piece.
 
-ghost use Rattle.std.specs.Prelude.{◌≡◌, ◌+◌, ◌<◌, ◌-◌, ◌^◌, [], ◌++◌, Bool, List, Option};
+ghost use Rattle.std.specs.Prelude.{◌≡◌, ◌+◌, ◌<◌, ◌^◌, [], ◌++◌, Bool, List, Option};
 ghost use Rattle.std.specs.Prelude.{count_by, option_map};
 ghost use Rattle.nor_base.specs.declared.meaning.Start.{Start};
 ghost use Rattle.nor_base.specs.Device.{Writes, Counts};
@@ -102,7 +102,6 @@ impl<'m> PlanTimes<'m> {
     ///
     /// `Failed` comes only from the writer.
     pub fn write<W: ByteOut>(&self, out: &mut W) -> Result<(), Failed>
-        requires { W.count out.old < 2 ^ 64 - 1 }
         ensures bytes { (m : Parameters) (start : Start) (verify : Bool) (times : Option Times)
             (told : List PlanLine) → self.now ≡ timing_of m start verify times told
             → Writes (W.held out.old) (W.held out.new) result

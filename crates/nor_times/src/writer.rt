@@ -1,6 +1,6 @@
 //! The lines of a plan's times.
 
-ghost use Rattle.std.specs.Prelude.{◌≡◌, ◌<◌, ◌-◌, ◌^◌};
+ghost use Rattle.std.specs.Prelude.{◌≡◌};
 ghost use Rattle.nor_base.specs.Device.{Writes, Counts};
 ghost use Rattle.nor_times.specs.Text.{bus_line, busy_line, known_line, milliseconds, times_text};
 
@@ -14,7 +14,6 @@ pub(crate) fn write_times<W: ByteOut>(
     clocks: u128,
     out: &mut W,
 ) -> Result<(), Failed>
-    requires { W.count out.old < 2 ^ 64 - 1 }
     ensures bytes { Writes (W.held out.old) (W.held out.new) result (times_text busy clocks) }
     ensures count { Counts (W.count out.old) (W.count out.new) result }
 {
@@ -24,7 +23,6 @@ pub(crate) fn write_times<W: ByteOut>(
 
 /// Puts the line of the chip's busy time.
 fn put_busy<W: ByteOut>(busy: Option<Busy>, out: &mut W) -> Result<(), Failed>
-    requires { W.count out.old < 2 ^ 64 - 1 }
     ensures bytes { Writes (W.held out.old) (W.held out.new) result (busy_line busy) }
     ensures count { Counts (W.count out.old) (W.count out.new) result }
 {
@@ -36,7 +34,6 @@ fn put_busy<W: ByteOut>(busy: Option<Busy>, out: &mut W) -> Result<(), Failed>
 
 /// Puts the line of a busy time that is known.
 fn put_known<W: ByteOut>(busy: Busy, out: &mut W) -> Result<(), Failed>
-    requires { W.count out.old < 2 ^ 64 - 1 }
     ensures bytes { Writes (W.held out.old) (W.held out.new) result (known_line busy) }
     ensures count { Counts (W.count out.old) (W.count out.new) result }
 {
@@ -56,7 +53,6 @@ fn put_known<W: ByteOut>(busy: Busy, out: &mut W) -> Result<(), Failed>
 
 /// Puts the line of the clocks.
 fn put_bus<W: ByteOut>(clocks: u128, out: &mut W) -> Result<(), Failed>
-    requires { W.count out.old < 2 ^ 64 - 1 }
     ensures bytes { Writes (W.held out.old) (W.held out.new) result (bus_line clocks) }
     ensures count { Counts (W.count out.old) (W.count out.new) result }
 {

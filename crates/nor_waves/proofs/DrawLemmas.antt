@@ -105,9 +105,6 @@ pub step_left : (steps : List Step) (n : ℕ) (x : Step) → x ≡ get_or steps 
     → flat_map step_ticks (drop n steps) ≡ step_ticks x ++ flat_map step_ticks (drop (n + 1) steps)
 step_left steps n x is inside = ap (flat_map step_ticks) (first_left steps n x is inside)
 
-pub no_step_left : (steps : List Step) (n : ℕ) → length steps ≤ n → flat_map step_ticks (drop n steps) ≡ []
-no_step_left steps n past_all = ap (flat_map step_ticks) (drop_all n steps past_all)
-
 -- two lists of ticks
 pub first_cut : (at : Drawing) (xs ys : List Levels) (a b : Option (List ℕ)) → Cuts a b (drawn at xs) → Cuts a b (drawn at (xs ++ ys))
 first_cut at xs ys a b cut = subst (Cuts a b) (sym (drawn_append at xs ys)) (Cuts-more a b (drawn at xs) (drawn (after at xs) ys) cut)

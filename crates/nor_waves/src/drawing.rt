@@ -1,6 +1,6 @@
 //! A waveform in the making.
 
-ghost use Rattle.std.specs.Prelude.{◌≡◌, ◌<◌, ◌-◌, ◌^◌, ◌++◌, IfOk, flat_map};
+ghost use Rattle.std.specs.Prelude.{◌≡◌, ◌++◌, IfOk, flat_map};
 ghost use Rattle.nor_base.specs.Device.{Writes, Counts};
 ghost use Rattle.nor_base.specs.Step.{expected};
 ghost use Rattle.nor_waves.specs.Drawing.{after, drawn};
@@ -31,7 +31,6 @@ impl Drawing {
         steps: &[Step],
         out: &mut W,
     ) -> Result<Drawing, Failed>
-        requires { W.count out.old < 2 ^ 64 - 1 }
         ensures bytes { Writes (W.held out.old) (W.held out.new) result
             (drawn self (flat_map step_ticks steps.now)) }
         ensures drawn { IfOk result (λ at. at ≡ after self (flat_map step_ticks steps.now)) }
@@ -46,7 +45,6 @@ impl Drawing {
 
     /// Draws a step and the gap before it.
     fn put_step<W: ByteOut>(self, step: &Step, out: &mut W) -> Result<Drawing, Failed>
-        requires { W.count out.old < 2 ^ 64 - 1 }
         ensures bytes { Writes (W.held out.old) (W.held out.new) result
             (drawn self (step_ticks step.now)) }
         ensures drawn { IfOk result (λ at. at ≡ after self (step_ticks step.now)) }
@@ -58,7 +56,6 @@ impl Drawing {
 
     /// Draws the gap between transactions.
     pub(crate) fn put_gap<W: ByteOut>(self, out: &mut W) -> Result<Drawing, Failed>
-        requires { W.count out.old < 2 ^ 64 - 1 }
         ensures bytes { Writes (W.held out.old) (W.held out.new) result (drawn self gap) }
         ensures drawn { IfOk result (λ at. at ≡ after self gap) }
         ensures count { Counts (W.count out.old) (W.count out.new) result }
@@ -73,7 +70,6 @@ impl Drawing {
         expect: &[u8],
         out: &mut W,
     ) -> Result<Drawing, Failed>
-        requires { W.count out.old < 2 ^ 64 - 1 }
         ensures bytes { Writes (W.held out.old) (W.held out.new) result
             (drawn self (clocks_ticks expect.now 0 clocks.now)) }
         ensures drawn { IfOk result (λ at. at ≡ after self (clocks_ticks expect.now 0 clocks.now)) }
@@ -91,7 +87,6 @@ impl Drawing {
 
     /// Draws ticks.
     fn put_ticks<W: ByteOut>(self, ticks: &[Levels], out: &mut W) -> Result<Drawing, Failed>
-        requires { W.count out.old < 2 ^ 64 - 1 }
         ensures bytes { Writes (W.held out.old) (W.held out.new) result (drawn self ticks.now) }
         ensures drawn { IfOk result (λ at. at ≡ after self ticks.now) }
         ensures count { Counts (W.count out.old) (W.count out.new) result }
@@ -111,7 +106,6 @@ impl Drawing {
 
 /// Puts the lines of what changes at a tick, if any, and the tick's stamp before them.
 fn put_stamped<W: ByteOut>(tick: u64, lines: &[u8], out: &mut W) -> Result<(), Failed>
-    requires { W.count out.old < 2 ^ 64 - 1 }
     ensures bytes { Writes (W.held out.old) (W.held out.new) result (stamped tick lines.now) }
     ensures count { Counts (W.count out.old) (W.count out.new) result }
 {
@@ -124,7 +118,6 @@ fn put_stamped<W: ByteOut>(tick: u64, lines: &[u8], out: &mut W) -> Result<(), F
 /// Puts a tick's stamp, and lines behind it.
 #[tactic(auto, unfolding(crate::specs::Waves::stamp))]
 pub(crate) fn put_stamp<W: ByteOut>(tick: u64, lines: &[u8], out: &mut W) -> Result<(), Failed>
-    requires { W.count out.old < 2 ^ 64 - 1 }
     ensures bytes { Writes (W.held out.old) (W.held out.new) result (stamp tick ++ lines.now) }
     ensures count { Counts (W.count out.old) (W.count out.new) result }
 {

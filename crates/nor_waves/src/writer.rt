@@ -1,6 +1,5 @@
 //! The writer of waveforms.
 
-ghost use Rattle.std.specs.Prelude.{◌<◌, ◌-◌, ◌^◌};
 ghost use Rattle.nor_base.specs.Device.{Writes, Counts};
 ghost use Rattle.nor_waves.specs.Waves.{header, waves};
 
@@ -38,7 +37,6 @@ $end
 ///
 /// `Failed` comes only from the writer.
 pub fn write_waves<W: ByteOut>(steps: &[Step], out: &mut W) -> Result<(), Failed>
-    requires { W.count out.old < 2 ^ 64 - 1 }
     ensures bytes { Writes (W.held out.old) (W.held out.new) result (waves steps.now) }
     ensures count { Counts (W.count out.old) (W.count out.new) result }
 {
@@ -55,7 +53,6 @@ pub fn write_waves<W: ByteOut>(steps: &[Step], out: &mut W) -> Result<(), Failed
 /// Puts the header.
 #[tactic(auto, unfolding(crate::specs::Waves::header))]
 fn put_header<W: ByteOut>(out: &mut W) -> Result<(), Failed>
-    requires { W.count out.old < 2 ^ 64 - 1 }
     ensures bytes { Writes (W.held out.old) (W.held out.new) result header }
     ensures count { Counts (W.count out.old) (W.count out.new) result }
 {

@@ -1,7 +1,6 @@
 //! From the bytes of the inputs to the bytes of a script.
 
-ghost use Rattle.std.specs.Prelude.{◌≡◌, ◌⊎◌, ◌<◌, ◌-◌, ◌+◌, ◌^◌, List, IfOk, IfErr};
-ghost use Rattle.nor_base.specs.Device.{HaveRoom};
+ghost use Rattle.std.specs.Prelude.{◌≡◌, ◌⊎◌, List, IfOk, IfErr};
 ghost use Rattle.nor_base.specs.Accepted.{IsAccepted};
 ghost use Rattle.nor_base.specs.Parameters.{Parameters};
 ghost use Rattle.nor_hex.specs.Image.{Pairs};
@@ -40,7 +39,6 @@ pub fn build<R: ByteIn, W: ByteOut>(
     len: u64,
     out: &mut W,
 ) -> Result<Report, BuildFault>
-    requires room { HaveRoom (R.count content.old) (W.count out.old) }
     ensures built { IfOk result
         (IsBuilt inputs.now len (R.ahead content.old) (R.ahead content.new) (W.held out.old)
         (W.held out.new)) }
@@ -85,7 +83,6 @@ fn write_script<R: ByteIn, W: ByteOut>(
     out: &mut W,
 ) -> Result<Tally, BuildFault>
     requires accepted { IsAccepted job.now.meaning }
-    requires room { HaveRoom (R.count content.old) (W.count out.old) }
     ensures done { IfOk result
         (IsScripted job.now (R.ahead content.old) (R.ahead content.new) (W.held out.old)
         (W.held out.new)) }

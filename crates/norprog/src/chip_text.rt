@@ -1,6 +1,6 @@
 //! What a chip's tables mean, as lines of text.
 
-ghost use Rattle.std.specs.Prelude.{◌≡◌, ◌<◌, ◌-◌, ◌^◌, flat_map};
+ghost use Rattle.std.specs.Prelude.{◌≡◌, ◌<◌, flat_map};
 ghost use Rattle.nor_base.specs.Device.{Writes, Counts};
 ghost use Rattle.norprog.specs.ChipText.{hex_digit, hex_byte, page_end, width_text, front_text};
 ghost use Rattle.norprog.specs.ChipText.{op4_text, erase_text, kind_text, erases_text, switch_text};
@@ -17,7 +17,6 @@ use nor_base::{
 ///
 /// `Failed` comes only from the writer.
 pub fn sfdp_text<W: ByteOut>(meaning: &Meaning, writer: &mut W) -> Result<(), Failed>
-    requires { W.count writer.old < 2 ^ 64 - 1 }
     ensures bytes { Writes (W.held writer.old) (W.held writer.new) result
         (meaning_text meaning.now) }
     ensures count { Counts (W.count writer.old) (W.count writer.new) result }
@@ -32,7 +31,6 @@ pub fn sfdp_text<W: ByteOut>(meaning: &Meaning, writer: &mut W) -> Result<(), Fa
 
 /// Size, page and address bytes.
 fn put_front<W: ByteOut>(meaning: &Meaning, writer: &mut W) -> Result<(), Failed>
-    requires { W.count writer.old < 2 ^ 64 - 1 }
     ensures bytes { Writes (W.held writer.old) (W.held writer.new) result (front_text meaning.now) }
     ensures count { Counts (W.count writer.old) (W.count writer.new) result }
 {
@@ -100,7 +98,6 @@ fn op4_digits(op4: Option<u8>) -> [u8; 2]
 
 /// The present kinds.
 fn put_erases<W: ByteOut>(meaning: &Meaning, writer: &mut W) -> Result<(), Failed>
-    requires { W.count writer.old < 2 ^ 64 - 1 }
     ensures bytes { Writes (W.held writer.old) (W.held writer.new) result
         (erases_text meaning.now) }
     ensures count { Counts (W.count writer.old) (W.count writer.new) result }
@@ -113,7 +110,6 @@ fn put_erases<W: ByteOut>(meaning: &Meaning, writer: &mut W) -> Result<(), Faile
 
 /// The kind of a number, where it is present.
 fn put_kind<W: ByteOut>(meaning: &Meaning, kind: u8, writer: &mut W) -> Result<(), Failed>
-    requires { W.count writer.old < 2 ^ 64 - 1 }
     ensures bytes { Writes (W.held writer.old) (W.held writer.new) result
         (kind_text meaning.now kind) }
     ensures count { Counts (W.count writer.old) (W.count writer.new) result }
@@ -123,7 +119,6 @@ fn put_kind<W: ByteOut>(meaning: &Meaning, kind: u8, writer: &mut W) -> Result<(
 
 /// A kind, where it is present.
 fn put_erase<W: ByteOut>(kind: u8, slot: Option<Erase>, writer: &mut W) -> Result<(), Failed>
-    requires { W.count writer.old < 2 ^ 64 - 1 }
     ensures bytes { Writes (W.held writer.old) (W.held writer.new) result (erase_text kind slot) }
     ensures count { Counts (W.count writer.old) (W.count writer.new) result }
 {
@@ -150,7 +145,6 @@ fn put_erase<W: ByteOut>(kind: u8, slot: Option<Erase>, writer: &mut W) -> Resul
 
 /// How four-byte address mode is entered and left.
 fn put_modes<W: ByteOut>(meaning: &Meaning, writer: &mut W) -> Result<(), Failed>
-    requires { W.count writer.old < 2 ^ 64 - 1 }
     ensures bytes { Writes (W.held writer.old) (W.held writer.new) result (modes_text meaning.now) }
     ensures count { Counts (W.count writer.old) (W.count writer.new) result }
 {
@@ -178,7 +172,6 @@ fn switch_end(switch: Switch) -> &'static [u8]
 
 /// The 1-1-4 fast read, or that there is none.
 fn put_quad_read<W: ByteOut>(read: Option<QuadRead>, writer: &mut W) -> Result<(), Failed>
-    requires { W.count writer.old < 2 ^ 64 - 1 }
     ensures bytes { Writes (W.held writer.old) (W.held writer.new) result (quad_read_text read) }
     ensures count { Counts (W.count writer.old) (W.count writer.new) result }
 {
@@ -190,7 +183,6 @@ fn put_quad_read<W: ByteOut>(read: Option<QuadRead>, writer: &mut W) -> Result<(
 
 /// A 1-1-4 fast read that is there.
 fn put_read<W: ByteOut>(read: QuadRead, writer: &mut W) -> Result<(), Failed>
-    requires { W.count writer.old < 2 ^ 64 - 1 }
     ensures bytes { Writes (W.held writer.old) (W.held writer.new) result (read_text read) }
     ensures count { Counts (W.count writer.old) (W.count writer.new) result }
 {
@@ -209,7 +201,6 @@ fn put_read<W: ByteOut>(read: QuadRead, writer: &mut W) -> Result<(), Failed>
 
 /// The four-byte address instructions that are offered.
 fn put_dedicated<W: ByteOut>(meaning: &Meaning, writer: &mut W) -> Result<(), Failed>
-    requires { W.count writer.old < 2 ^ 64 - 1 }
     ensures bytes { Writes (W.held writer.old) (W.held writer.new) result
         (dedicated_text meaning.now) }
     ensures count { Counts (W.count writer.old) (W.count writer.new) result }
@@ -236,7 +227,6 @@ fn where_offered(offered: bool, opcode: &'static [u8]) -> &'static [u8]
 
 /// The regions of the sector map.
 fn put_regions<W: ByteOut>(regions: &[Region], writer: &mut W) -> Result<(), Failed>
-    requires { W.count writer.old < 2 ^ 64 - 1 }
     ensures bytes { Writes (W.held writer.old) (W.held writer.new) result
         (flat_map region_text regions.now) }
     ensures count { Counts (W.count writer.old) (W.count writer.new) result }
@@ -249,7 +239,6 @@ fn put_regions<W: ByteOut>(regions: &[Region], writer: &mut W) -> Result<(), Fai
 
 /// The line of a region.
 fn put_region<W: ByteOut>(region: Region, writer: &mut W) -> Result<(), Failed>
-    requires { W.count writer.old < 2 ^ 64 - 1 }
     ensures bytes { Writes (W.held writer.old) (W.held writer.new) result (region_text region) }
     ensures count { Counts (W.count writer.old) (W.count writer.new) result }
 {

@@ -1,8 +1,7 @@
 //! From the bytes of the inputs to the lines that tell the plan of their work.
 
-ghost use Rattle.std.specs.Prelude.{◌≡◌, ◌⊎◌, ◌<◌, ◌-◌, ◌+◌, ◌^◌, List, IfOk, IfErr};
+ghost use Rattle.std.specs.Prelude.{◌≡◌, ◌⊎◌, List, IfOk, IfErr};
 ghost use Rattle.nor_base.specs.Accepted.{IsAccepted};
-ghost use Rattle.nor_base.specs.Device.{HaveRoom};
 ghost use Rattle.nor_base.specs.Parameters.{Parameters};
 ghost use Rattle.nor_hex.specs.Image.{Pairs};
 ghost use Rattle.nor_job.specs.Causes.{AreAccepted, RefusesInputs};
@@ -33,7 +32,6 @@ pub fn plan<R: ByteIn, W: ByteOut>(
     len: u64,
     out: &mut W,
 ) -> Result<Report, BuildFault>
-    requires room { HaveRoom (R.count content.old) (W.count out.old) }
     ensures planned { IfOk result
         (IsPlanOf inputs.now len (R.ahead content.old) (R.ahead content.new) (W.held out.old)
         (W.held out.new)) }
@@ -62,7 +60,6 @@ fn plan_job<R: ByteIn, W: ByteOut>(
     out: &mut W,
 ) -> Result<Report, BuildFault>
     requires accepted { IsAccepted job.now.meaning }
-    requires room { HaveRoom (R.count content.old) (W.count out.old) }
     ensures planned { IfOk result (λ report. PlansJob job.now (R.ahead content.old)
         (R.ahead content.new) (W.held out.old) (W.held out.new) report) }
     ensures cut { IfErr result (IsCutPlan job.now (R.ahead content.old) (R.ahead content.new)
@@ -83,7 +80,6 @@ fn put_plan<R: ByteIn, W: ByteOut>(
     out: &mut W,
 ) -> Result<(), BuildFault>
     requires ready { IsReady planner.old }
-    requires room { HaveRoom (R.count content.old) (W.count out.old) }
     ensures put { IfOk result (λ _. PutsPlan planner.old planner.new (R.ahead content.old)
         (R.ahead content.new) (W.held out.old) (W.held out.new)) }
     ensures cut { IfErr result (CutsPut planner.old (R.ahead content.old)

@@ -1,6 +1,6 @@
 //! The plan of a job, a window of its content after another.
 
-ghost use Rattle.std.specs.Prelude.{◌≡◌, ◌≤◌, ◌<◌, ◌-◌, ◌+◌, ◌^◌, [], length, option_map};
+ghost use Rattle.std.specs.Prelude.{◌≡◌, ◌≤◌, ◌+◌, ◌^◌, [], length, option_map};
 ghost use Rattle.std.specs.Prelude.{IfOk, IfErr};
 ghost use Rattle.nor_base.specs.Accepted.{IsAccepted};
 ghost use Rattle.nor_base.specs.Device.{Ahead};
@@ -89,7 +89,6 @@ impl<'j> Planner<'j> {
         content: &mut R,
     ) -> Result<Option<Vec<PlanLine>>, BuildFault>
         requires ready { IsReady self.old }
-        requires room { R.count content.old < 2 ^ 64 - 1 }
         ensures told { IfOk result (λ lines. GoesOn self.old self.new (R.ahead content.old)
             (R.ahead content.new) (option_map (λ lines. lines.items) lines)) }
         ensures stopped { IfErr result
@@ -155,8 +154,7 @@ fn part_plan<R: ByteIn>(
     writer: &mut PlanWriter<'_>,
     content: &mut R,
 ) -> Result<(Tally, Vec<PlanLine>), BuildFault>
-    requires room { (count ≤ length have.old) × (count ≤ length want.old)
-        × (R.count content.old < 2 ^ 64 - 1) }
+    requires room { (count ≤ length have.old) × (count ≤ length want.old) }
     requires window { (writer.old.streaming.meaning ≡ job.now.meaning)
         × (writer.old.streaming.by ≡ driven_by job.now.meaning job.now.start)
         × IsWindow job.now.meaning (driven_by job.now.meaning job.now.start) at count
@@ -193,7 +191,6 @@ fn window_plan<R: ByteIn>(
         × IsWindow job.now.meaning (driven_by job.now.meaning job.now.start) at
         (length have.old)
         × (at + length have.old ≤ 2 ^ 32) }
-    requires room { R.count content.old < 2 ^ 64 - 1 }
     ensures planned { IfOk result
         (λ plan. IsPlannedPart job.now writer.old writer.new at (length have.old)
         (R.ahead content.old) (R.ahead content.new) plan.0 plan.1.items) }

@@ -1,6 +1,6 @@
 //! What a build did.
 
-ghost use Rattle.std.specs.Prelude.{◌≡◌, ◌<◌, ◌-◌, ◌^◌, ◌++◌, codes};
+ghost use Rattle.std.specs.Prelude.{◌≡◌, ◌++◌, codes};
 ghost use Rattle.nor_base.specs.Device.{Writes, Counts};
 ghost use Rattle.nor_base.specs.Script.{closed};
 ghost use Rattle.norprog.specs.Report.{report_text, strategy_name};
@@ -31,7 +31,6 @@ pub struct Report {
 /// At `Failed` a proper prefix was taken; it comes only from the writer, whose count of failures
 /// rose by one.
 pub fn write_report<W: ByteOut>(report: &Report, writer: &mut W) -> Result<(), Failed>
-    requires { W.count writer.old < 2 ^ 64 - 1 }
     ensures bytes { Writes (W.held writer.old) (W.held writer.new) result (report_text report.now) }
     ensures count { Counts (W.count writer.old) (W.count writer.new) result }
 {

@@ -1,7 +1,6 @@
 //! The content of a chip, a window at a time.
 
-ghost use Rattle.std.specs.Prelude.{◌≡◌, ◌<◌, ◌≤◌, ◌+◌, ◌-◌, ◌^◌, length, IfOk, IfErr};
-ghost use Rattle.nor_base.specs.Device.{HaveRoom};
+ghost use Rattle.std.specs.Prelude.{◌≡◌, ◌≤◌, ◌+◌, ◌^◌, length, IfOk, IfErr};
 ghost use Rattle.nor_base.specs.Accepted.{IsAccepted};
 ghost use Rattle.nor_base.specs.Strategies.{strategy as driven_by};
 ghost use Rattle.nor_geometry.specs.Plan.{IsWindow};
@@ -41,7 +40,6 @@ pub(crate) fn write_windows<T: WorkWriter, R: ByteIn, W: ByteOut>(
         × (T.writing writer.old ≡ first_writing job.now) }
     requires window { IsWindowSize job.now.meaning (length have.old)
         × (length want.old ≡ length have.old) }
-    requires room { HaveRoom (R.count content.old) (W.count out.old) }
     ensures done { IfOk result (IsAllDone (T.unit_text writer.old) job.now (T.writing writer.new)
         (R.ahead content.old) (R.ahead content.new) (W.held out.old) (W.held out.new)) }
     ensures cut { IfErr result (IsCut (IsKnown (T.unit_text writer.old) job.now) job.now
@@ -90,7 +88,6 @@ fn write_window<T: WorkWriter, R: ByteIn, W: ByteOut>(
         × IsWindow job.now.meaning (driven_by job.now.meaning job.now.start) at
         (length have.old)
         × (at + length have.old ≤ 2 ^ 32) }
-    requires room { HaveRoom (R.count content.old) (W.count out.old) }
     ensures done { IfOk result
         (IsDone (T.unit_text writer.old) job.now (T.writing writer.old) (T.writing writer.new) at
         (length have.old)

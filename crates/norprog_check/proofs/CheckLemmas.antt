@@ -3,7 +3,6 @@ use Rattle.std.proofs.Common.{◌≡◌, ℕ, ◌+◌, ◌<◌, ◌≤◌, ◌==
 use Rattle.std.specs.Prelude.{◌↔◌, unwrap_or}
 use Rattle.nor_base.specs.declared.meaning.Start.{Start}
 use Rattle.nor_base.specs.declared.step.Step.{Step}
-use Rattle.nor_base.specs.Chip.{IsPossible}
 use Rattle.nor_base.specs.Device.{Ahead}
 use Rattle.nor_base.specs.Run.{DoesTaskOnEvery}
 use Rattle.nor_check.specs.declared.verdict.Verdict.{Verdict}
@@ -22,12 +21,9 @@ use Rattle.nor_base.specs.Parameters.{Parameters}
 use Rattle.norprog_check.specs.declared.finding.Finding.{Finding}
 use Rattle.norprog_check.specs.declared.finding.ShowingChip.{ShowingChip}
 use Rattle.norprog_check.specs.declared.readings.Said.{Said}
-use Rattle.norprog_check.specs.Checked.{IsChecked, IsShownOn, AreTaken}
+use Rattle.norprog_check.specs.Checked.{IsChecked, IsShownOn, AreTaken, checking, trial}
 use Rattle.norprog_check.specs.Content.{IsRead}
 use Rattle.norprog_check.specs.Readings.{IsJudged, IsSaidOf, TakesBy, TakesChip}
-
-pub is_possible : (t : Task) (len : ℕ) (job : Job) → IsJob t len job → IsPossible job.meaning job.start
-is_possible t len job is = subst (λ (s : Start). IsPossible job.meaning s) (sym is.start) is.accepted.possible
 
 pub taken_of : (t : Task) (len : ℕ) (job : Job) → IsJob t len job → AreTaken t len
 taken_of t len job is = record { image = job.image; regions = is.regions; m = job.meaning; accepted = is.accepted }
@@ -45,7 +41,7 @@ CountsReads fed = (steps : List Step) (step : ℕ) (why : Why) (page reads : ℕ
 shown_on : (m : Parameters) (start : Start) (have want : List ℕ) (fed : Fed) (steps : List Step) (said : Said) (v : Verdict) (chip : Option ShowingChip)
     → Shows m start have want fed → CountsReads fed → said.steps ≡ length steps
     → ((step : ℕ) (why : Why) → v ≡ No step why → IsShown fed steps step why said.witness.page said.witness.reads) → TakesBy v said m.page chip
-    → IsShownOn m start have want steps v chip
+    → IsShownOn (trial m start have want steps) v chip
 shown_on m start have want fed steps said Yes chip shows counts number shown takes = takes
 shown_on m start have want fed steps said (No step why) None shows counts number shown takes =
     subst (λ r. 2 ^ 32 ≤ r + 1) (counts steps step why _ _ (shown step why refl)) takes
@@ -77,7 +73,7 @@ judged_of job have want fed said found worst sure shows counts same takes text t
       script = tells.script;
       worst = subst (IsWorst job.meaning job.start have want steps) (sym is) (worst steps);
       yes = subst (λ v. (v ≡ Yes) ↔ DoesTaskOnEvery job.meaning job.start have want steps) (sym is) (sure steps);
-      shown = subst (λ v. IsShownOn job.meaning job.start have want steps v found.chip) (sym same)
+      shown = subst (λ v. IsShownOn (trial job.meaning job.start have want steps) v found.chip) (sym same)
           (shown_on job.meaning job.start have want fed steps said said.verdict found.chip shows counts says.number says.shown takes);
     }
 
@@ -86,7 +82,7 @@ pub goal_size : (job : Job) (before after : Ahead) (have want : List ℕ) → Is
 goal_size job before after have want read = ap length read.goal ∙ length-target job 0 have ∙ read.whole
 
 pub checked_is : (t : Task) (len : ℕ) (text : List ℕ) (job : Job) (before after : Ahead) (have want : List ℕ) (found : Finding)
-    → IsJob t len job → IsRead job before after have want → IsJudged job have want found text → IsChecked t len text before after found
+    → IsJob t len job → IsRead job before after have want → IsJudged job have want found text → IsChecked (checking t len before after) text found
 checked_is t len text job before after have want found is read judged =
     let m = job.meaning in
     let steps = judged.steps in
@@ -106,6 +102,6 @@ checked_is t len text job before after have want found is read judged =
           (subst (λ (s : Start). IsWorst m s have want steps found.verdict) is.start judged.worst);
       yes = subst (λ (wish : List ℕ). (found.verdict ≡ Yes) ↔ DoesTaskOnEvery m (start_of t) have wish steps) same
           (subst (λ (s : Start). (found.verdict ≡ Yes) ↔ DoesTaskOnEvery m s have want steps) is.start judged.yes);
-      shown = subst (λ (wish : List ℕ). IsShownOn m (start_of t) have wish steps found.verdict found.chip) same
-          (subst (λ (s : Start). IsShownOn m s have want steps found.verdict found.chip) is.start judged.shown);
+      shown = subst (λ (wish : List ℕ). IsShownOn (trial m (start_of t) have wish steps) found.verdict found.chip) same
+          (subst (λ (s : Start). IsShownOn (trial m s have want steps) found.verdict found.chip) is.start judged.shown);
     }

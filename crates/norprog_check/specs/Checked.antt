@@ -2,7 +2,7 @@
 use Rattle.std.specs.Prelude.{◌≡◌, ◌≢◌, ◌↔◌, ◌+◌, ◌^◌, ◌≤◌, ◌==◌, ℕ, ⊤, List, length, Option, Some, None, unwrap_or, Result, Ok, Err}
 use Rattle.nor_base.specs.declared.meaning.Start.{Start}
 use Rattle.nor_base.specs.declared.step.Step.{Step}
-use Rattle.nor_base.specs.Device.{Ahead, Gives}
+use Rattle.nor_base.specs.Device.{Ahead, Gives, raised}
 use Rattle.nor_base.specs.Parameters.{Parameters}
 use Rattle.nor_base.specs.Run.{DoesTaskOnEvery}
 use Rattle.nor_base.specs.Script.{IsScript}
@@ -27,37 +27,58 @@ use Rattle.norprog_check.specs.declared.finding.Finding.{Finding}
 use Rattle.norprog_check.specs.declared.finding.ShowingChip.{ShowingChip}
 use Rattle.norprog_check.specs.Content.{StopsRead}
 
+-- a chip of these parameters, its start and what it holds, what it is to hold, and the steps
+pub record Trial : Type 0 where
+  pub m : Parameters
+  pub start : Start
+  pub have : List ℕ
+  pub want : List ℕ
+  pub steps : List Step
+
+abbrev pub trial : Parameters → Start → List ℕ → List ℕ → List Step → Trial
+trial m start have want steps = record { m = m; start = start; have = have; want = want; steps = steps }
+
 -- a run of the steps on this chip goes wrong at this step, so: each program and erase keeps it busy for one status read more than are
 -- sent in a row right before the step, it keeps a set latch just where the step is the number of steps, and a page is said just where
 -- it isn't the meaning's own
-pub record ShowsNo (m : Parameters) (start : Start) (have want : List ℕ) (steps : List Step) (step : ℕ) (why : Why) (chip : ShowingChip) : Type 0 where
-  pub busy : chip.each_busy ≡ reads_before step steps + 1
-  pub keep : chip.keep ≡ (step == length steps)
-  pub page : chip.page ≢ Some m.page
-  pub shows : Witnesses m start have want steps step why chip.each_busy chip.keep (unwrap_or chip.page m.page)
+pub record ShowsNo (t : Trial) (step : ℕ) (why : Why) (chip : ShowingChip) : Type 0 where
+  pub busy : chip.each_busy ≡ reads_before step t.steps + 1
+  pub keep : chip.keep ≡ (step == length t.steps)
+  pub page : chip.page ≢ Some t.m.page
+  pub shows : Witnesses t.m t.start t.have t.want t.steps step why chip.each_busy chip.keep (unwrap_or chip.page t.m.page)
 
 -- a no has such a chip where its number of status reads has 32 bits
-abbrev pub IsShownOn : Parameters → Start → List ℕ → List ℕ → List Step → Verdict → Option ShowingChip → Type 0
-IsShownOn m start have want steps Yes chip = chip ≡ None
-IsShownOn m start have want steps (No step why) None = 2 ^ 32 ≤ reads_before step steps + 1
-IsShownOn m start have want steps (No step why) (Some chip) = ShowsNo m start have want steps step why chip
+abbrev pub IsShownOn : Trial → Verdict → Option ShowingChip → Type 0
+IsShownOn t Yes chip = chip ≡ None
+IsShownOn t (No step why) None = 2 ^ 32 ≤ reads_before step t.steps + 1
+IsShownOn t (No step why) (Some chip) = ShowsNo t step why chip
+
+-- a check: its task, the content's length, and what the content's reader had ahead and has
+pub record Checking : Type 0 where
+  pub task : Task
+  pub len : ℕ
+  pub content : Ahead
+  pub left : Ahead
+
+abbrev pub checking : Task → ℕ → Ahead → Ahead → Checking
+checking t len content left = record { task = t; len = len; content = content; left = left }
 
 -- the inputs are accepted, the text is the script of some steps, the reader gave the whole content; of all chips of the
 -- inputs with that content none comes out earlier than the verdict says, and it is Yes just where the steps do the job on each; a no
 -- is shown on the chip that is found
-pub record IsChecked (t : Task) (len : ℕ) (text : List ℕ) (before after : Ahead) (found : Finding) : Type 0 where
+pub record IsChecked (c : Checking) (text : List ℕ) (found : Finding) : Type 0 where
   pub image : Pairs
   pub regions : List Region
   pub m : Parameters
-  pub accepted : AreAccepted t len image regions m
+  pub accepted : AreAccepted c.task c.len image regions m
   pub steps : List Step
   pub script : IsScript text steps
   pub content : List ℕ
-  pub whole : length content ≡ len
-  pub given : Gives before content after
-  pub worst : IsWorst m (start_of t) content (wanted t image regions content) steps found.verdict
-  pub yes : (found.verdict ≡ Yes) ↔ DoesTaskOnEvery m (start_of t) content (wanted t image regions content) steps
-  pub shown : IsShownOn m (start_of t) content (wanted t image regions content) steps found.verdict found.chip
+  pub whole : length content ≡ c.len
+  pub given : Gives c.content content c.left
+  pub worst : IsWorst m (start_of c.task) content (wanted c.task image regions content) steps found.verdict
+  pub yes : (found.verdict ≡ Yes) ↔ DoesTaskOnEvery m (start_of c.task) content (wanted c.task image regions content) steps
+  pub shown : IsShownOn (trial m (start_of c.task) content (wanted c.task image regions content) steps) found.verdict found.chip
 
 -- some image, regions and meaning are those of the inputs
 pub record AreTaken (t : Task) (len : ℕ) : Type 0 where
@@ -78,15 +99,15 @@ IsFaultIn text (stop.Build why) = why ≡ fault.Memory
 IsFaultIn text (stop.Script why) = IsFault text why
 
 -- the inputs are accepted, and the text is the script of some steps; the content wasn't read as a whole, or memory was refused
-pub record StopsContent (t : Task) (len : ℕ) (text : List ℕ) (before after : Ahead) (why : BuildFault) : Type 0 where
-  pub taken : AreTaken t len
+pub record StopsContent (c : Checking) (text : List ℕ) (why : BuildFault) : Type 0 where
+  pub taken : AreTaken c.task c.len
   pub steps : List Step
   pub script : IsScript text steps
-  pub stops : StopsRead len before after why
+  pub stops : StopsRead c.len c.content c.left why
 
-abbrev pub StopsCheck : Task → ℕ → List ℕ → Ahead → Ahead → CheckStop → Type 0
-StopsCheck t len text before after (stop.Build why) = StopsContent t len text before after why
-StopsCheck t len text before after (stop.Script why) = ⊥
+abbrev pub StopsCheck : Checking → List ℕ → CheckStop → Type 0
+StopsCheck c text (stop.Build why) = StopsContent c text why
+StopsCheck c text (stop.Script why) = ⊥
 
 -- a fault that accepted inputs can meet
 abbrev pub IsLateFault : BuildFault → Type 0
@@ -111,4 +132,4 @@ failures_of (stop.Script why) = 0
 -- the reader's count of failures rises by one exactly where Read is answered
 abbrev pub CountsReader : {T : Type 0} → ℕ → ℕ → Result T CheckStop → Type 0
 CountsReader before after (Ok x) = after ≡ before
-CountsReader before after (Err why) = after ≡ before + failures_of why
+CountsReader before after (Err why) = after ≡ raised before (failures_of why)

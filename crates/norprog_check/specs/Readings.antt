@@ -12,7 +12,7 @@ use Rattle.nor_job.specs.declared.job.Job.{Job}
 use Rattle.norprog_check.specs.declared.finding.Finding.{Finding}
 use Rattle.norprog_check.specs.declared.finding.ShowingChip.{ShowingChip}
 use Rattle.norprog_check.specs.declared.readings.Said.{Said}
-use Rattle.norprog_check.specs.Checked.{IsShownOn}
+use Rattle.norprog_check.specs.Checked.{IsShownOn, trial}
 
 -- what a checker says that is fed with steps: how many they are, the verdict and, of a no, which page and how many status reads
 -- before the step show it
@@ -49,4 +49,4 @@ pub record IsJudged (job : Job) (have want : List ℕ) (found : Finding) (text :
   pub script : IsScript text steps
   pub worst : IsWorst job.meaning job.start have want steps found.verdict
   pub yes : (found.verdict ≡ Yes) ↔ DoesTaskOnEvery job.meaning job.start have want steps
-  pub shown : IsShownOn job.meaning job.start have want steps found.verdict found.chip
+  pub shown : IsShownOn (trial job.meaning job.start have want steps) found.verdict found.chip

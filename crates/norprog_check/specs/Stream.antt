@@ -13,7 +13,7 @@ use Rattle.norprog_check.specs.declared.fault.CheckStop.TheVariants.{Build, Scri
 use Rattle.norprog_check.specs.declared.fault.StreamStop.{StreamStop}
 use Rattle.norprog_check.specs.declared.fault.StreamStop.TheVariants.{Check, Device}
 use Rattle.norprog_check.specs.declared.finding.Finding.{Finding}
-use Rattle.norprog_check.specs.Checked.{AreTaken, IsChecked}
+use Rattle.norprog_check.specs.Checked.{checking, AreTaken, Checking, IsChecked}
 use Rattle.norprog_check.specs.Content.{StopsRead}
 
 -- the work of a check: its task, the content's length, what the readers of the script and of the content had ahead, and what each has
@@ -25,12 +25,12 @@ pub record Work : Type 0 where
   pub content : Ahead
   pub left : Ahead
 
-abbrev pub work : Task → ℕ → Ahead → Ahead → Ahead → Ahead → Work
-work t len script rest content left = record { task = t; len = len; script = script; rest = rest; content = content; left = left }
+abbrev pub work : Checking → Ahead → Ahead → Work
+work c script rest = record { task = c.task; len = c.len; script = script; rest = rest; content = c.content; left = c.left }
 
 -- of a text that the script's reader had ahead this is found
 abbrev pub IsFound : Work → Finding → Type 0
-IsFound w found = HadText w.script w.rest (λ text. IsChecked w.task w.len text w.content w.left found)
+IsFound w found = HadText w.script w.rest (λ text. IsChecked (checking w.task w.len w.content w.left) text found)
 
 -- why nothing is found, the first of these: the inputs are refused; the text has this fault, or its reader failed (`Unread`); the content
 -- isn't read as a whole, where its reader failed if that is told (`Unheld`). Or memory ran out

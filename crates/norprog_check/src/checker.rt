@@ -1,6 +1,6 @@
 //! From the bytes of inputs, script and content to a verdict.
 
-ghost use Rattle.std.specs.Prelude.{◌≡◌, ◌⊎◌, ◌<◌, ◌-◌, ◌^◌, List, IfOk, IfErr};
+ghost use Rattle.std.specs.Prelude.{◌≡◌, ◌⊎◌, List, IfOk, IfErr};
 ghost use Rattle.nor_base.specs.declared.step.Step.{Step};
 ghost use Rattle.nor_base.specs.Parameters.{Parameters};
 ghost use Rattle.nor_base.specs.Script.{IsScript};
@@ -9,7 +9,8 @@ ghost use Rattle.nor_job.specs.Causes.{AreAccepted};
 ghost use Rattle.nor_layout.specs.Region.{Region};
 ghost use Rattle.nor_job.specs.Wanted.{ReadsWithin};
 ghost use Rattle.nor_script.specs.Stream.{IsSpelled};
-ghost use Rattle.norprog_check.specs.Checked.{IsChecked, RefusesTexts, StopsCheck, IsLate};
+ghost use Rattle.norprog_check.specs.Checked.{checking, IsChecked, RefusesTexts};
+ghost use Rattle.norprog_check.specs.Checked.{StopsCheck, IsLate};
 ghost use Rattle.norprog_check.specs.Checked.{IsOfContent, CountsReader, IsFaultIn};
 
 use crate::content::read_content;
@@ -34,12 +35,13 @@ pub fn check_script<R: ByteIn>(
     content: &mut R,
     len: u64,
 ) -> Result<Finding, CheckStop>
-    requires { R.count content.old < 2 ^ 64 - 1 }
     ensures checked { IfOk result
-        (IsChecked inputs.now len script.now (R.ahead content.old) (R.ahead content.new)) }
+        (IsChecked (checking inputs.now len (R.ahead content.old) (R.ahead content.new))
+        script.now) }
     ensures refused { IfErr result
         (λ why. (RefusesTexts inputs.now len script.now why × (content.new ≡ content.old))
-        ⊎ StopsCheck inputs.now len script.now (R.ahead content.old) (R.ahead content.new) why) }
+        ⊎ StopsCheck (checking inputs.now len (R.ahead content.old) (R.ahead content.new))
+        script.now why) }
     ensures accepted { (image : Pairs) (regions : List Region) (m : Parameters)
         → AreAccepted inputs.now len image regions m
         → IfErr result IsLate }
@@ -61,6 +63,7 @@ pub fn check_script<R: ByteIn>(
 }
 
 /// Looks through a text for its first fault.
+#[tactic(auto, using(nor_base::proofs::DeviceLaws::risen_some))]
 fn look_in(alloc: Global, script: &[u8]) -> Result<(), CheckStop>
     ensures spelled { IfOk result (λ _. IsSpelled script.now) }
     ensures stopped { IfErr result (IsFaultIn script.now) }

@@ -1,6 +1,6 @@
 //! What a job's chip holds, and what it must hold.
 
-ghost use Rattle.std.specs.Prelude.{◌<◌, ◌-◌, ◌^◌, IfOk, IfErr};
+ghost use Rattle.std.specs.Prelude.{IfOk, IfErr};
 ghost use Rattle.nor_job.specs.Written.{CountsReader as CountsRead};
 ghost use Rattle.norprog_check.specs.Content.{IsRead, StopsRead};
 
@@ -18,7 +18,6 @@ pub(crate) fn read_content<R: ByteIn>(
     job: &Job,
     content: &mut R,
 ) -> Result<(Vec<u8>, Vec<u8>), BuildFault>
-    requires { R.count content.old < 2 ^ 64 - 1 }
     ensures read { IfOk result
         (λ held. IsRead job.now (R.ahead content.old) (R.ahead content.new) held.0.items
         held.1.items) }

@@ -1,6 +1,6 @@
 //! What is found of a script that a device tells, on the chips of a job.
 
-ghost use Rattle.std.specs.Prelude.{◌≡◌, ◌<◌, ◌-◌, ◌^◌, length, IfOk, IfErr};
+ghost use Rattle.std.specs.Prelude.{◌≡◌, length, IfOk, IfErr};
 ghost use Rattle.nor_base.specs.Chip.{IsPossible};
 ghost use Rattle.nor_script.specs.Stream.{CountsRead, HadText, StopsReader};
 ghost use Rattle.norprog_check.specs.Readings.{IsJudged};
@@ -26,7 +26,6 @@ pub(crate) fn judge<A: ByteIn>(
     requires sizes { (length have.items ≡ job.now.meaning.size)
         × (length want.now ≡ job.now.meaning.size) }
     requires possible { IsPossible job.now.meaning job.now.start }
-    requires count { A.count script.old < 2 ^ 64 - 1 }
     ensures judged { IfOk result (λ found. HadText (A.ahead script.old) (A.ahead script.new)
         (IsJudged job.now have.items want.now found)) }
     ensures stopped { IfErr result (StopsReader (A.ahead script.old) (A.ahead script.new)) }

@@ -1,6 +1,6 @@
 //! The lines of what a check finds.
 
-ghost use Rattle.std.specs.Prelude.{◌≡◌, ◌<◌, ◌-◌, ◌^◌};
+ghost use Rattle.std.specs.Prelude.{◌≡◌};
 ghost use Rattle.nor_base.specs.Device.{Writes, Counts};
 ghost use Rattle.nor_check.specs.declared.verdict.Verdict.TheVariants.{No};
 ghost use Rattle.nor_check.specs.declared.verdict.Why.TheVariants as why;
@@ -20,7 +20,6 @@ use norprog_common::wrong_number;
 /// `Failed` comes only from the writer.
 #[tactic(auto, unfolding(crate::specs::Line::verdict_text))]
 pub fn write_verdict<W: ByteOut>(verdict: &Verdict, out: &mut W) -> Result<(), Failed>
-    requires { W.count out.old < 2 ^ 64 - 1 }
     ensures bytes { Writes (W.held out.old) (W.held out.new) result (verdict_text verdict.now) }
     ensures count { Counts (W.count out.old) (W.count out.new) result }
 {
@@ -35,7 +34,6 @@ pub fn write_verdict<W: ByteOut>(verdict: &Verdict, out: &mut W) -> Result<(), F
 
 /// Writes the line of a step that goes wrong on some chip.
 fn write_wrong<W: ByteOut>(step: u64, wrong: Wrong, out: &mut W) -> Result<(), Failed>
-    requires { W.count out.old < 2 ^ 64 - 1 }
     ensures bytes { Writes (W.held out.old) (W.held out.new) result
         (verdict_text (No step (why.Wrong wrong))) }
     ensures count { Counts (W.count out.old) (W.count out.new) result }
@@ -56,7 +54,6 @@ fn write_wrong<W: ByteOut>(step: u64, wrong: Wrong, out: &mut W) -> Result<(), F
 
 /// Writes the line of an address that some chip doesn't hold right at the end.
 fn write_differs<W: ByteOut>(step: u64, address: u32, out: &mut W) -> Result<(), Failed>
-    requires { W.count out.old < 2 ^ 64 - 1 }
     ensures bytes { Writes (W.held out.old) (W.held out.new) result
         (verdict_text (No step (why.Differs address))) }
     ensures count { Counts (W.count out.old) (W.count out.new) result }
@@ -83,7 +80,6 @@ const DEFAULT_LIMIT: u32 = 1_000_000;
 ///
 /// `Failed` comes only from the writer.
 pub fn write_finding<W: ByteOut>(found: &Finding, witness: bool, out: &mut W) -> Result<(), Failed>
-    requires { W.count out.old < 2 ^ 64 - 1 }
     ensures bytes { Writes (W.held out.old) (W.held out.new) result
         (finding_text witness found.now) }
     ensures count { Counts (W.count out.old) (W.count out.new) result }
@@ -97,7 +93,6 @@ pub fn write_finding<W: ByteOut>(found: &Finding, witness: bool, out: &mut W) ->
 
 /// Writes the line of a chip.
 fn write_chip<W: ByteOut>(chip: &ShowingChip, out: &mut W) -> Result<(), Failed>
-    requires { W.count out.old < 2 ^ 64 - 1 }
     ensures bytes { Writes (W.held out.old) (W.held out.new) result (chip_text chip.now) }
     ensures count { Counts (W.count out.old) (W.count out.new) result }
 {
@@ -146,7 +141,6 @@ fn limit_for(each_busy: u32) -> Option<u64>
 
 /// Writes an option with its number, where there is one.
 fn put_number<W: ByteOut>(words: &[u8], number: Option<u64>, out: &mut W) -> Result<(), Failed>
-    requires { W.count out.old < 2 ^ 64 - 1 }
     ensures bytes { Writes (W.held out.old) (W.held out.new) result (number_text words.now number) }
     ensures count { Counts (W.count out.old) (W.count out.new) result }
 {

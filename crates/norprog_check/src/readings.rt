@@ -35,7 +35,6 @@ pub(crate) fn feed_script<A: ByteIn>(
     script: &mut A,
 ) -> Result<Said, ReadFault>
     requires begins { checker.number ≡ 0 }
-    requires count { A.count script.old < 2 ^ 64 - 1 }
     ensures told { IfOk result
         (λ said. HadText (A.ahead script.old) (A.ahead script.new) (IsSaidOf checker.entry said)) }
     ensures stopped { IfErr result (StopsReader (A.ahead script.old) (A.ahead script.new)) }

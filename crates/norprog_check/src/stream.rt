@@ -1,7 +1,8 @@
 //! From the bytes of inputs, content and a script that a device tells to a verdict.
 
-ghost use Rattle.std.specs.Prelude.{◌<◌, IfOk, IfErr};
-ghost use Rattle.nor_base.specs.Device.{HaveRoom};
+ghost use Rattle.std.specs.Prelude.{◌≡◌, IfOk, IfErr};
+ghost use Rattle.nor_base.specs.Device.{one_more};
+ghost use Rattle.norprog_check.specs.Checked.{checking};
 ghost use Rattle.norprog_check.specs.Stream.{IsFound, Unchecked, work};
 
 use crate::content::read_content;
@@ -26,12 +27,14 @@ pub fn check_stream<A: ByteIn, R: ByteIn>(
     content: &mut R,
     len: u64,
 ) -> Result<Finding, StreamStop>
-    requires room { HaveRoom (A.count script.old) (R.count content.old) }
-    ensures found { IfOk result (IsFound (work inputs.now len (A.ahead script.old)
-        (A.ahead script.new) (R.ahead content.old) (R.ahead content.new))) }
-    ensures unchecked { IfErr result (Unchecked (work inputs.now len (A.ahead script.old)
-        (A.ahead script.new) (R.ahead content.old) (R.ahead content.new))
-        (A.count script.old < A.count script.new) (R.count content.old < R.count content.new)) }
+    ensures found { IfOk result (IsFound (work (checking inputs.now len
+        (R.ahead content.old) (R.ahead content.new))
+        (A.ahead script.old) (A.ahead script.new))) }
+    ensures unchecked { IfErr result (Unchecked (work (checking inputs.now len
+        (R.ahead content.old) (R.ahead content.new))
+        (A.ahead script.old) (A.ahead script.new))
+        (A.count script.new ≡ one_more (A.count script.old))
+        (R.count content.new ≡ one_more (R.count content.old))) }
 {
     let job = job_of(alloc, inputs, len)?;
     match read_content(alloc, &job, content) {

@@ -16,14 +16,13 @@ pub keeps_all : (known : Option (List ℕ)) → Keeps known (append_known known 
 keeps_all None = tt
 keeps_all (Some bytes) = append-nil bytes
 
--- nothing had been gathered before, this is left, and the device failed at most as often by then
-pub is_left : (held printed after : Option (List ℕ)) (gathered left : List ℕ) (m n k : ℕ) → gathered ≡ [] → Keeps printed (append_known after left) → n ≤ k
+-- nothing had been gathered before, and this is left
+pub is_left : (held printed after : Option (List ℕ)) (gathered left : List ℕ) (m n k : ℕ) → gathered ≡ [] → Keeps printed (append_known after left)
     → IsLeft (between (append_known held gathered) printed m n) (between held after m k) left
-is_left held printed after gathered left m n k none kept rose = record {
+is_left held printed after gathered left m n k none kept = record {
   before = ap (λ (rest : List ℕ). append_known held rest) none ∙ nothing_more held;
   after = kept;
   failures = refl;
-  failed = rose;
 }
 
 -- nothing is left of it

@@ -1,6 +1,7 @@
 -- How the program ends (this project's).
-use Rattle.std.specs.Prelude.{◌≡◌, ◌≢◌, ◌⊎◌, ◌<◌, ◌≤◌, ℕ, List, [], All, codes, Option, Result, Ok, Err}
+use Rattle.std.specs.Prelude.{◌≡◌, ◌≢◌, ◌⊎◌, ℕ, List, [], All, codes, Option, Result, Ok, Err}
 use Rattle.std.specs.Io.KnownBytes.{Keeps, append_known}
+use Rattle.nor_base.specs.Device.{one_more}
 use Rattle.nor_job.specs.declared.fault.BuildFault.TheVariants.{Memory, Write}
 use Rattle.norprog_command.specs.Answers.{AnswersWords, Screen, screen}
 use Rattle.norprog_common.specs.Told.{Ends, Output, between}
@@ -15,7 +16,6 @@ pub record IsLeft (printed out : Output) (left : List ℕ) : Type 0 where
   pub before : printed.before ≡ out.before
   pub after : Keeps printed.after (append_known out.after left)
   pub failures : printed.failures ≡ out.failures
-  pub failed : printed.failed ≤ out.failed
 
 -- no word is the name of `flash`, whose plan goes out before its first step
 abbrev pub AreGathered : List (List ℕ) → Type 0
@@ -28,13 +28,13 @@ untouched err = between err.before err.before err.failures err.failures
 -- how the program ends that was given words
 pub data EndsWords (Unread : Type 0) (words : List (List ℕ)) (s : Screen) : ℕ → List Event → Type 0 where
   -- all that the command printed has gone out
-  AllOut : (printed : Output) (status : ℕ) (log : List Event) → IsLeft printed s.out [] → AnswersWords Unread words (screen printed s.err) status log
+  AllOut : (printed : Output) (status : ℕ) (log : List Event) → IsLeft printed s.out [] → s.out.failed ≡ printed.failed → AnswersWords Unread words (screen printed s.err) status log
       → EndsWords Unread words s status log
   -- standard output failed after a command that isn't done; its status is the program's
-  Lost : (printed : Output) (left : List ℕ) (status : ℕ) (log : List Event) → AreGathered words → IsLeft printed s.out left → 0 < s.out.failed → status ≢ 0
+  Lost : (printed : Output) (left : List ℕ) (status : ℕ) (log : List Event) → AreGathered words → IsLeft printed s.out left → s.out.failed ≡ one_more printed.failed → status ≢ 0
       → AnswersWords Unread words (screen printed s.err) status log → EndsWords Unread words s status log
   -- it failed after one that is done: that is told
-  Unprinted : (printed : Output) (left : List ℕ) (status : ℕ) (log : List Event) → AreGathered words → IsLeft printed s.out left → 0 < s.out.failed
+  Unprinted : (printed : Output) (left : List ℕ) (status : ℕ) (log : List Event) → AreGathered words → IsLeft printed s.out left → s.out.failed ≡ one_more printed.failed
       → AnswersWords Unread words (screen printed (untouched s.err)) 0 log → Ends s.err status (Err (Build Write)) → EndsWords Unread words s status log
 
 -- why the program has no words: one is no text, or memory ran out

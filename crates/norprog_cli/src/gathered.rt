@@ -1,6 +1,6 @@
 //! A device whose bytes are gathered before they go out.
 
-ghost use Rattle.std.specs.Prelude.{◌≡◌, ◌<◌, ◌≤◌, ◌+◌, ◌-◌, ◌^◌, ◌++◌, [], drop, length, min};
+ghost use Rattle.std.specs.Prelude.{◌≡◌, ◌<◌, ◌≤◌, ◌-◌, ◌++◌, [], drop, length, min};
 ghost use Rattle.std.specs.Prelude.{take, IfOk};
 ghost use Rattle.std.specs.Io.KnownBytes.{Appends, Keeps, append_known};
 ghost use Rattle.nor_base.specs.Device.{Counts};
@@ -34,7 +34,6 @@ impl<W: ByteOut + Drop> Gathered<W> {
 
     /// Has all go out. At `Failed`, which comes only from the device, what it didn't take is left.
     pub fn send(&mut self) -> Result<(), Failed>
-        requires { W.count self.old.out < 2 ^ 64 - 1 }
         ensures kept { Keeps (append_known (W.held self.old.out) self.old.left.items)
             (append_known (W.held self.new.out) self.new.left.items) }
         ensures whole { IfOk result (λ _. self.new.left.items ≡ []) }
@@ -48,7 +47,6 @@ impl<W: ByteOut + Drop> Gathered<W> {
 
     /// Has all go out where there is no room for more.
     fn make_room(&mut self) -> Result<(), Failed>
-        requires { W.count self.old.out < 2 ^ 64 - 1 }
         ensures kept { Keeps (append_known (W.held self.old.out) self.old.left.items)
             (append_known (W.held self.new.out) self.new.left.items) }
         ensures room { IfOk result (λ _. length self.new.left.items < 8192) }
@@ -89,7 +87,6 @@ fn gather(left: &mut ArrayVec<u8, ROOM>, bytes: &[u8]) -> usize
 
 /// Puts bytes until all are taken or the device fails, and returns how many it took.
 fn put_front<W: ByteOut>(bytes: &[u8], out: &mut W) -> (usize, Result<(), Failed>)
-    requires { W.count out.old < 2 ^ 64 - 1 }
     ensures few { result.0 ≤ length bytes.now }
     ensures bytes { Appends (W.held out.old) (W.held out.new) (take result.0 bytes.now) }
     ensures whole { IfOk result.1 (λ _. result.0 ≡ length bytes.now) }

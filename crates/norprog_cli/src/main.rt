@@ -10,10 +10,9 @@
 //! printed goes out.
 #![tactic(auto)]
 
-ghost use Rattle.std.specs.Prelude.{◌≡◌, ◌<◌, ◌≤◌, ◌-◌, ◌^◌, [], codes, drop, false, map};
+ghost use Rattle.std.specs.Prelude.{◌≡◌, ◌<◌, ◌≤◌, [], codes, drop, false, map};
 ghost use Rattle.std.specs.Prelude.{string_bytes, All, IfErr, IfOk, MatchResult};
 ghost use Rattle.std.specs.Vec.Iter.{into_iter_items};
-ghost use Rattle.std.specs.Io.KnownBytes.{Keeps, append_known};
 ghost use Rattle.nor_job.specs.declared.fault.BuildFault.TheVariants.{Memory};
 ghost use Rattle.norprog_common.specs.Told.{output};
 ghost use Rattle.norprog_common.specs.declared.faults.Refusal.TheVariants.{Build};
@@ -26,7 +25,7 @@ ghost use Rattle.norprog_cli.specs.Ends.{texts_in};
 mod gathered;
 
 use crate::gathered::Gathered;
-use nor_base::{ByteOut, Failed, IntoWrite, Nowhere};
+use nor_base::{ByteOut, IntoWrite, Nowhere};
 use norprog_command::command;
 use norprog_common::{Refusal, refuse};
 use norprog_details::Heard;
@@ -55,7 +54,6 @@ fn main_status<E: ByteOut + Drop>(
     words: Result<Vec<String>, Refusal>,
     err: &mut Heard<E>,
 ) -> u8
-    requires { E.count err.old.out < 2 ^ 64 - 1 }
     ensures { EndsProgram (reports ⟦<File as Read>⟧.remaining ⟦<File as Write>⟧.contents)
         (texts_in (λ words. map string_bytes words.items) words)
         (output ⟦<Heard<E> as ByteOut>⟧.held ⟦<Heard<E> as ByteOut>⟧.count err.old err.new)
@@ -101,9 +99,6 @@ fn answer_given<F: Files, W: ByteOut + Drop, E: ByteOut + Drop, P: ByteOut>(
     progress: &mut P,
 ) -> u8
     requires left { out.old.left.items ≡ [] }
-    requires out { W.count out.old.out < 2 ^ 64 - 2 }
-    requires err { E.count err.old.out < 2 ^ 64 - 1 }
-    requires progress { P.count progress.old < 2 ^ 64 - 2 }
     ensures { Did (F.Trail.did trail.old) (F.Trail.did trail.new) (EndsGiven (F.unread files.now)
         (texts_in (λ words. map string_bytes words.items) words)
         (screen (output W.held W.count out.old.out out.new.out)
@@ -129,9 +124,6 @@ fn answer<F: Files, W: ByteOut + Drop, E: ByteOut + Drop, P: ByteOut>(
     progress: &mut P,
 ) -> u8
     requires left { out.old.left.items ≡ [] }
-    requires out { W.count out.old.out < 2 ^ 64 - 2 }
-    requires err { E.count err.old.out < 2 ^ 64 - 1 }
-    requires progress { P.count progress.old < 2 ^ 64 - 2 }
     ensures { Did (F.Trail.did trail.old) (F.Trail.did trail.new) (EndsWords (F.unread files.now)
         (map string_bytes words.items) (screen (output W.held W.count out.old.out out.new.out)
         (output ⟦<Heard<E> as ByteOut>⟧.held ⟦<Heard<E> as ByteOut>⟧.count err.old err.new))
@@ -141,7 +133,7 @@ fn answer<F: Files, W: ByteOut + Drop, E: ByteOut + Drop, P: ByteOut>(
         return command(alloc, files, trail, words, &mut out.out, err, progress);
     }
     let status = command(alloc, files, trail, words, out, err, progress);
-    match flush_out(out) {
+    match out.send() {
         Err(_) if status == 0 => refuse(&Refusal::WRITE, err),
         _ => status,
     }
@@ -153,21 +145,6 @@ fn is_flash_among(words: &[String]) -> bool
         → All (λ word. string_bytes word ≡ codes "flash" → ⊥) words.now }
 {
     words.iter().any(|word| word.as_str() == "flash")
-}
-
-/// Has all go out that was gathered. `Failed` where the device fails, or failed before as often as
-/// can be counted: some of it may not have gone out.
-fn flush_out<W: ByteOut + Drop>(out: &mut Gathered<W>) -> Result<(), Failed>
-    ensures kept { Keeps (append_known (W.held out.old.out) out.old.left.items)
-        (append_known (W.held out.new.out) out.new.left.items) }
-    ensures whole { IfOk result (λ _. out.new.left.items ≡ []) }
-    ensures count { W.count out.old.out ≤ W.count out.new.out }
-    ensures failed { IfErr result (λ _. 0 < W.count out.new.out) }
-{
-    if out.failures() == u64::MAX {
-        return Err(Failed);
-    }
-    out.send()
 }
 
 /// The words after the program's name, of those that it was given.

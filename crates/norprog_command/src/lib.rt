@@ -2,7 +2,7 @@
 //! more is said of its refusal.
 #![tactic(auto)]
 
-ghost use Rattle.std.specs.Prelude.{◌≡◌, ◌<◌, ◌≤◌, ◌+◌, ◌-◌, ◌^◌, map, string_bytes, IfOk};
+ghost use Rattle.std.specs.Prelude.{◌≡◌, ◌≤◌, map, string_bytes, IfOk};
 ghost use Rattle.norprog_common.specs.Told.{output};
 ghost use Rattle.norprog_files.specs.Files.{Did};
 ghost use Rattle.norprog_command.specs.Answers.{AnswersLine, AnswersTo, AnswersWords, EndsHelp};
@@ -33,9 +33,6 @@ pub fn command<F: Files, O: ByteOut, E: ByteOut + Drop, P: ByteOut>(
     err: &mut Heard<E>,
     progress: &mut P,
 ) -> u8
-    requires out { O.count out.old < 2 ^ 64 - 2 }
-    requires err { E.count err.old.out < 2 ^ 64 - 1 }
-    requires progress { P.count progress.old < 2 ^ 64 - 2 }
     ensures status { result ≤ 3 }
     ensures quiet { result ≡ 0 → err.new ≡ err.old }
     ensures answer { Did (F.Trail.did trail.old) (F.Trail.did trail.new)
@@ -61,9 +58,6 @@ fn answer_line<F: Files, O: ByteOut, E: ByteOut + Drop, P: ByteOut>(
     err: &mut Heard<E>,
     progress: &mut P,
 ) -> u8
-    requires out { O.count out.old < 2 ^ 64 - 2 }
-    requires err { E.count err.old.out < 2 ^ 64 - 1 }
-    requires progress { P.count progress.old < 2 ^ 64 - 2 }
     ensures status { result ≤ 3 }
     ensures quiet { result ≡ 0 → err.new ≡ err.old }
     ensures answer { Did (F.Trail.did trail.old) (F.Trail.did trail.new)
@@ -103,9 +97,6 @@ fn answer_to<F: Files, O: ByteOut, E: ByteOut, P: ByteOut>(
     err: &mut E,
     progress: &mut P,
 ) -> u8
-    requires out { O.count out.old < 2 ^ 64 - 2 }
-    requires err { E.count err.old < 2 ^ 64 - 1 }
-    requires progress { P.count progress.old < 2 ^ 64 - 2 }
     ensures status { result ≤ 3 }
     ensures quiet { result ≡ 0 → err.new ≡ err.old }
     ensures answer { Did (F.Trail.did trail.old) (F.Trail.did trail.new)
@@ -141,7 +132,6 @@ fn answer_to<F: Files, O: ByteOut, E: ByteOut, P: ByteOut>(
 
 /// Writes a command's help. Returns the status, 0.
 fn help<O: ByteOut>(text: &str, out: &mut O) -> Result<u8, Refusal>
-    requires { O.count out.old < 2 ^ 64 - 1 }
     ensures status { IfOk result (λ status. status ≡ 0) }
     ensures ends { EndsHelp text.now (output O.held O.count out.old out.new) result }
 {
@@ -152,10 +142,7 @@ fn help<O: ByteOut>(text: &str, out: &mut O) -> Result<u8, Refusal>
 }
 
 /// Says which device is waited for, if one is named.
-fn say_waiting<P: ByteOut>(device: Option<&str>, progress: &mut P)
-    requires { P.count progress.old < 2 ^ 64 - 2 }
-    ensures { P.count progress.new < 2 ^ 64 - 1 }
-{
+fn say_waiting<P: ByteOut>(device: Option<&str>, progress: &mut P) {
     if let Some(name) = device {
         let _ = write_waiting(name, progress);
     }

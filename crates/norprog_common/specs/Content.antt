@@ -1,6 +1,6 @@
 -- Why what a chip holds wasn't read, and what reader and writer count of it (this project's).
 use Rattle.std.specs.Prelude.{◌≡◌, ℕ, ◌+◌, ◌<◌, List, length, Result, Ok, Err}
-use Rattle.nor_base.specs.Device.{Ahead, Gives, IsAtEnd}
+use Rattle.nor_base.specs.Device.{Ahead, Gives, IsAtEnd, raised}
 use Rattle.nor_job.specs.declared.fault.BuildFault.TheVariants as fault
 use Rattle.norprog_common.specs.declared.faults.Refusal.{Refusal}
 use Rattle.norprog_common.specs.declared.faults.Refusal.TheVariants.{Build}
@@ -23,7 +23,7 @@ of_reader other = 0
 -- the reader's count of failures rises by one exactly where Read is answered
 abbrev pub CountsReader : {T : Type 0} → ℕ → ℕ → Result T Refusal → Type 0
 CountsReader before after (Ok x) = after ≡ before
-CountsReader before after (Err why) = after ≡ before + of_reader why
+CountsReader before after (Err why) = after ≡ raised before (of_reader why)
 
 abbrev pub of_writer : Refusal → ℕ
 of_writer (Build fault.Write) = 1
@@ -32,4 +32,4 @@ of_writer other = 0
 -- the writer's count of failures rises by one exactly where Write is answered
 abbrev pub CountsWriter : {T : Type 0} → ℕ → ℕ → Result T Refusal → Type 0
 CountsWriter before after (Ok x) = after ≡ before
-CountsWriter before after (Err why) = after ≡ before + of_writer why
+CountsWriter before after (Err why) = after ≡ raised before (of_writer why)

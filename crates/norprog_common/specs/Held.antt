@@ -5,7 +5,7 @@ use Rattle.norprog_common.specs.Chip.{origin_of, task_chip}
 use Rattle.norprog_common.specs.declared.inputs.Texts.{Texts}
 use Rattle.norprog_common.specs.declared.request.Request.{Request}
 
--- what the files of a job hold, the content aside; the tables' bytes have no part in a chip of a size
+-- what the files of a job hold, the content aside; the tables are those of SFDP bytes, or the sheet, and have no part in a chip of a size
 pub record Held : Type 0 where
   pub hex : List ℕ
   pub layout : Option (List ℕ)

@@ -1,3 +1,4 @@
+pub mod Wire
 pub mod Values
 pub mod Chip
 pub mod Lines

@@ -7,6 +7,12 @@ use Rattle.nor_layout.specs.declared.fault.LayoutFault.{LayoutFault}
 use Rattle.nor_layout.specs.declared.fault.LayoutFault.TheVariants as layout
 use Rattle.nor_sfdp.specs.declared.fault.SfdpFault.{SfdpFault}
 use Rattle.nor_sfdp.specs.declared.fault.SfdpFault.TheVariants as sfdp
+use Rattle.nor_sheet.specs.declared.fault.Lack.{Lack}
+use Rattle.nor_sheet.specs.declared.fault.Lack.TheVariants as lack
+use Rattle.nor_sheet.specs.declared.fault.LineFault.{LineFault}
+use Rattle.nor_sheet.specs.declared.fault.LineFault.TheVariants as line
+use Rattle.nor_sheet.specs.declared.fault.SheetFault.{SheetFault}
+use Rattle.nor_sheet.specs.declared.fault.SheetFault.TheVariants as sheet
 use Rattle.nor_job.specs.declared.fault.BuildFault.{BuildFault}
 use Rattle.nor_job.specs.declared.fault.BuildFault.TheVariants as build
 use Rattle.nor_geometry.specs.declared.fault.PlanFault.{PlanFault}
@@ -68,6 +74,29 @@ sfdp_text sfdp.NoMap = codes "sfdp 12"
 sfdp_text sfdp.MapSize = codes "sfdp 13"
 sfdp_text sfdp.Opcode = codes "sfdp 14"
 
+-- `sheet n line `
+abbrev pub line_text : LineFault → List ℕ
+line_text line.Word = codes "sheet 1 line "
+line_text line.Form = codes "sheet 2 line "
+line_text line.Limit = codes "sheet 3 line "
+line_text line.Twice = codes "sheet 4 line "
+
+-- `sheet n`
+abbrev pub lack_text : Lack → List ℕ
+lack_text lack.Size = codes "sheet 5"
+lack_text lack.Page = codes "sheet 6"
+lack_text lack.Address = codes "sheet 7"
+lack_text lack.Kind = codes "sheet 8"
+lack_text lack.Regions = codes "sheet 9"
+lack_text lack.Mode = codes "sheet 10"
+lack_text lack.QuadRead = codes "sheet 11"
+lack_text lack.Opcode = codes "sheet 12"
+
+-- `sheet n line k`, or `sheet n`
+abbrev pub sheet_text : SheetFault → List ℕ
+sheet_text (sheet.Line number fault) = line_text fault ++ decimal number
+sheet_text (sheet.Whole lack) = lack_text lack
+
 -- `plan n at AAAAAAAA`
 abbrev pub plan_text : PlanFault → List ℕ
 plan_text (plan.NoErase address) = codes "plan 1 at " ++ hex_number address
@@ -89,6 +118,7 @@ fault_text (build.Contradiction number) = codes "contradiction " ++ decimal numb
 fault_text (build.Hex fault) = hex_text fault
 fault_text (build.Layout fault) = layout_text fault
 fault_text (build.Sfdp fault) = sfdp_text fault
+fault_text (build.Sheet fault) = sheet_text fault
 fault_text (build.Status number) = codes "status " ++ decimal number
 fault_text build.ModeImpossible = codes "mode"
 fault_text build.ContentSize = codes "content size"
@@ -102,6 +132,7 @@ abbrev pub file_text : FileName → List ℕ
 file_text file.Hex = codes "file hex"
 file_text file.Layout = codes "file layout"
 file_text file.Sfdp = codes "file sfdp"
+file_text file.Sheet = codes "file sheet"
 file_text file.Content = codes "file content"
 file_text file.Script = codes "file script"
 file_text file.Out = codes "file out"

@@ -9,7 +9,8 @@ use Rattle.norprog_common.specs.Chip.{origin_of, chosen_origin, Origin}
 -- the chip that the options name
 abbrev pub asked_chip : Given → Option Origin
 asked_chip given =
-    chosen_origin (option_map (λ t. t.now) given.sfdp) (option_map (λ t. t.now) given.uniform) (option_map (λ t. t.now) given.bits)
+    chosen_origin (option_map (λ t. t.now) given.sfdp) (option_map (λ t. t.now) given.uniform) (option_map (λ t. t.now) given.sheet)
+    (option_map (λ t. t.now) given.bits)
 
 -- the family's name, `generic` where none is given
 abbrev pub asked_part : Given → List ℕ

@@ -15,7 +15,8 @@ use Rattle.norprog_common.specs.declared.setup.Setup.{Setup}
 -- the chip that the options name, and the family's name, `generic` where none is given
 abbrev pub chip_asked : ChipArgs → Option Origin
 chip_asked given =
-    chosen_origin (option_map (λ t. t.now) given.sfdp) (option_map (λ t. t.now) given.uniform) (option_map (λ t. t.now) given.bits)
+    chosen_origin (option_map (λ t. t.now) given.sfdp) (option_map (λ t. t.now) given.uniform) (option_map (λ t. t.now) given.sheet)
+    (option_map (λ t. t.now) given.bits)
 
 abbrev pub family_asked : ChipArgs → List ℕ
 family_asked given = unwrap_or (option_map (λ t. t.now) given.part) (codes "generic")
@@ -59,6 +60,7 @@ pub record IsKnown (t : Task) (m : Parameters) : Type 0 where
 abbrev pub RefusesChipOf : Task → Refusal → Type 0
 RefusesChipOf t (Build (fault.Contradiction number)) = contradiction t ≡ Some number
 RefusesChipOf t (Build (fault.Sfdp why)) = (contradiction t ≡ None) × RefusesChip t (fault.Sfdp why)
+RefusesChipOf t (Build (fault.Sheet why)) = (contradiction t ≡ None) × RefusesChip t (fault.Sheet why)
 RefusesChipOf t (Build (fault.Status number)) = (contradiction t ≡ None) × RefusesChip t (fault.Status number)
 RefusesChipOf t (Build fault.ModeImpossible) = (contradiction t ≡ None) × RefusesChip t fault.ModeImpossible
 RefusesChipOf t other = ⊥

@@ -1,7 +1,7 @@
 -- What a command writes to, and what is told there of its end (this project's).
-use Rattle.std.specs.Prelude.{◌≡◌, ◌<◌, ◌++◌, ℕ, max, List, Option, Result, Ok, Err}
+use Rattle.std.specs.Prelude.{◌≡◌, ◌⊎◌, ◌++◌, ℕ, max, List, Option, Result, Ok, Err}
 use Rattle.std.specs.Io.KnownBytes.{Appends}
-use Rattle.nor_base.specs.Device.{Cuts}
+use Rattle.nor_base.specs.Device.{Cuts, one_more}
 use Rattle.nor_job.specs.declared.fault.BuildFault.TheVariants.{Write}
 use Rattle.norprog_common.specs.declared.faults.Refusal.{Refusal}
 use Rattle.norprog_common.specs.declared.faults.Refusal.TheVariants.{Build}
@@ -23,7 +23,7 @@ output held count old new = between (held old) (held new) (count old) (count new
 
 -- it failed meanwhile; it didn't
 abbrev pub Fails : Output → Type 0
-Fails out = out.failures < out.failed
+Fails out = out.failed ≡ one_more out.failures
 
 abbrev pub Works : Output → Type 0
 Works out = out.failed ≡ out.failures
@@ -32,9 +32,9 @@ Works out = out.failed ≡ out.failures
 abbrev pub IsQuiet : Output → Type 0
 IsQuiet out = (out.after ≡ out.before) × Works out
 
--- a text was written to it, unless it failed
+-- a text was written to it, or it failed
 abbrev pub Tells : Output → List ℕ → Type 0
-Tells err text = Works err → Appends err.before err.after text
+Tells err text = Appends err.before err.after text ⊎ Fails err
 
 -- the status of a command that is done, of which nothing is told; or that of its refusal, which is told
 abbrev pub Ends : Output → ℕ → Result ℕ Refusal → Type 0

@@ -15,30 +15,35 @@ pub enum Chip<'a> {
     Sfdp { file: &'a str, bits: &'a str },
     /// A chip of this many bytes.
     Uniform(u32),
+    /// The file of its sheet.
+    Sheet { file: &'a str },
 }
 
-/// The chip, where exactly one of its SFDP file and its size is given, the size is of its form, and
-/// no bits stand beside a size.
+/// The chip, where exactly one of its SFDP file, its size and its sheet is given, the size is of
+/// its form, and no bits stand beside a size or a sheet.
 pub fn chip_of<'a>(
     sfdp: Option<&'a str>,
     uniform: Option<&'a str>,
+    sheet: Option<&'a str>,
     bits: Option<&'a str>,
 ) -> Option<Chip<'a>>
     ensures { option_map origin_of result ≡ chosen_origin (option_map (λ t. t.now) sfdp.entry)
-        (option_map (λ t. t.now) uniform.entry) (option_map (λ t. t.now) bits.entry) }
+        (option_map (λ t. t.now) uniform.entry) (option_map (λ t. t.now) sheet.entry)
+        (option_map (λ t. t.now) bits.entry) }
 {
-    match (sfdp, uniform, bits) {
-        (Some(file), None, bits) => Some(Chip::Sfdp {
+    match (sfdp, uniform, sheet, bits) {
+        (Some(file), None, None, bits) => Some(Chip::Sfdp {
             file,
             bits: bits.unwrap_or(""),
         }),
-        (None, Some(size), None) => Some(Chip::Uniform(decimal(size)?)),
+        (None, Some(size), None, None) => Some(Chip::Uniform(decimal(size)?)),
+        (None, None, Some(file), None) => Some(Chip::Sheet { file }),
         _ => None,
     }
 }
 
-/// The chip as the library takes it: the bytes of its tables with the bits that are asked for, or
-/// its size.
+/// The chip as the library takes it: the bytes of its tables with the bits that are asked for, its
+/// size, or the text of its sheet, which is in the place of the tables.
 pub fn source_of<'a>(chip: Chip<'a>, tables: &'a [u8]) -> Source<'a>
     ensures { task_origin result ≡ task_chip (origin_of chip.entry) tables.entry.now }
 {
@@ -48,6 +53,7 @@ pub fn source_of<'a>(chip: Chip<'a>, tables: &'a [u8]) -> Source<'a>
             bits,
         },
         Chip::Uniform(size) => Source::Uniform(size),
+        Chip::Sheet { file: _ } => Source::Sheet(tables),
     }
 }
 

@@ -1,6 +1,6 @@
 //! What a chip holds, as its reader gives it.
 
-ghost use Rattle.std.specs.Prelude.{◌≡◌, ◌<◌, ◌-◌, ◌^◌, length, IfOk, IfErr};
+ghost use Rattle.std.specs.Prelude.{◌≡◌, length, IfOk, IfErr};
 ghost use Rattle.nor_base.specs.Device.{Gives};
 ghost use Rattle.norprog_common.specs.Content.{StopsReading, CountsReader};
 
@@ -14,7 +14,6 @@ use std::alloc::Global;
 /// `ContentShort` where it ends before, `Read` where it fails, `Memory` where there is no room for
 /// them.
 pub fn read_content<R: ByteIn>(alloc: Global, content: &mut R, len: u32) -> Result<Vec<u8>, Refusal>
-    requires { R.count content.old < 2 ^ 64 - 1 }
     ensures length { IfOk result (λ bytes. length bytes.items ≡ len) }
     ensures given { IfOk result
         (λ bytes. Gives (R.ahead content.old) bytes.items (R.ahead content.new)) }

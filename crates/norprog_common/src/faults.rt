@@ -1,11 +1,12 @@
 //! Why a command isn't done, what is printed of it, and the status that it ends with.
 
-ghost use Rattle.std.specs.Prelude.{◌≡◌, ◌<◌, ◌-◌, ◌^◌, IfOk, IfErr};
+ghost use Rattle.std.specs.Prelude.{◌≡◌, IfOk, IfErr};
 ghost use Rattle.nor_base.specs.Device.{Writes, Counts};
 ghost use Rattle.norprog_common.specs.Lines.{beyond_text, partial_text};
 ghost use Rattle.norprog_common.specs.Lines.{spelled, hex_text, layout_text, sfdp_text, plan_text};
 ghost use Rattle.norprog_common.specs.Lines.{script_text, fault_text, file_text, script_refusal};
 ghost use Rattle.norprog_common.specs.Lines.{program_line, printed, status_after};
+ghost use Rattle.norprog_common.specs.Lines.{lack_text, line_text, sheet_text};
 ghost use Rattle.norprog_common.specs.Told.{Tells, cut_status, output};
 ghost use Rattle.nor_job.specs.declared.fault.BuildFault.TheVariants.{Memory, Write};
 ghost use Rattle.norprog_common.specs.declared.faults.Refusal.TheVariants.{Build};
@@ -18,6 +19,7 @@ use nor_job::BuildFault;
 use nor_layout::LayoutFault;
 use nor_script::{ScriptFault, hex_number};
 use nor_sfdp::SfdpFault;
+use nor_sheet::{Lack, LineFault, SheetFault};
 use std::alloc::{AllocError, AllocFailed};
 
 /// A file of the command line.
@@ -26,6 +28,7 @@ pub enum FileName {
     Hex,
     Layout,
     Sfdp,
+    Sheet,
     Content,
     Script,
     Out,
@@ -140,7 +143,6 @@ impl From<ScriptFault> for Refusal {
 /// Writes a refusal, and returns the status that the program ends with. Where `err` fails a part of
 /// the text is lost, and nothing more is reported.
 pub fn refuse<E: ByteOut>(refusal: &Refusal, err: &mut E) -> u8
-    requires { E.count err.old < 2 ^ 64 - 1 }
     ensures status { result ≡ status_after refusal.now }
     ensures told { Tells (output E.held E.count err.old err.new) (printed refusal.now) }
 {
@@ -151,7 +153,6 @@ pub fn refuse<E: ByteOut>(refusal: &Refusal, err: &mut E) -> u8
 /// Ends a command: answers the status of its work, or writes why there is none and returns that
 /// status.
 pub fn answered<E: ByteOut>(work: Result<u8, Refusal>, err: &mut E) -> u8
-    requires { E.count err.old < 2 ^ 64 - 1 }
     ensures done { IfOk work (λ status. (result ≡ status) × (err.new ≡ err.old)) }
     ensures told { IfErr work (λ why. (result ≡ status_after why)
         × Tells (output E.held E.count err.old err.new) (printed why)) }
@@ -165,7 +166,6 @@ pub fn answered<E: ByteOut>(work: Result<u8, Refusal>, err: &mut E) -> u8
 /// Tells that lines couldn't be printed, where what was told before them went out. Returns the
 /// status: the command's own, 1 where that is 0.
 pub fn refuse_lines<E: ByteOut>(told: Result<(), Failed>, own: u8, err: &mut E) -> u8
-    requires { IfOk told (λ _. E.count err.old < 2 ^ 64 - 1) }
     ensures status { result ≡ cut_status own }
     ensures told { IfOk told
         (λ _. Tells (output E.held E.count err.old err.new) (printed (Build Write))) }
@@ -199,7 +199,6 @@ fn exit_status(refusal: &Refusal) -> u8
 
 /// Writes the line of a refusal, or the command line library's text. It takes no memory.
 fn write_refusal<E: ByteOut>(refusal: &Refusal, err: &mut E) -> Result<(), Failed>
-    requires { E.count err.old < 2 ^ 64 - 1 }
     ensures bytes { Writes (E.held err.old) (E.held err.new) result (printed refusal.now) }
     ensures count { Counts (E.count err.old) (E.count err.new) result }
 {
@@ -228,7 +227,6 @@ fn write_refusal<E: ByteOut>(refusal: &Refusal, err: &mut E) -> Result<(), Faile
 
 /// Writes `norprog: `, the words, what comes after them, and LF.
 fn put_line<E: ByteOut>(err: &mut E, words: &[u8], behind: Behind) -> Result<(), Failed>
-    requires { E.count err.old < 2 ^ 64 - 1 }
     ensures bytes { Writes (E.held err.old) (E.held err.new) result
         (program_line (spelled words.now behind)) }
     ensures count { Counts (E.count err.old) (E.count err.new) result }
@@ -251,7 +249,6 @@ fn put_line<E: ByteOut>(err: &mut E, words: &[u8], behind: Behind) -> Result<(),
 
 /// Writes the line of a region that is given only in part.
 fn put_partial<E: ByteOut>(err: &mut E, gap: &Gap) -> Result<(), Failed>
-    requires { E.count err.old < 2 ^ 64 - 1 }
     ensures bytes { Writes (E.held err.old) (E.held err.new) result
         (program_line (partial_text gap.now)) }
     ensures count { Counts (E.count err.old) (E.count err.new) result }
@@ -275,7 +272,6 @@ fn put_partial<E: ByteOut>(err: &mut E, gap: &Gap) -> Result<(), Failed>
 
 /// Writes the line of bytes that lie off the chip.
 fn put_beyond<E: ByteOut>(err: &mut E, stray: &Stray) -> Result<(), Failed>
-    requires { E.count err.old < 2 ^ 64 - 1 }
     ensures bytes { Writes (E.held err.old) (E.held err.new) result
         (program_line (beyond_text stray.now)) }
     ensures count { Counts (E.count err.old) (E.count err.new) result }
@@ -301,6 +297,7 @@ fn file_words(name: FileName) -> &'static [u8]
         FileName::Hex => b"file hex",
         FileName::Layout => b"file layout",
         FileName::Sfdp => b"file sfdp",
+        FileName::Sheet => b"file sheet",
         FileName::Content => b"file content",
         FileName::Script => b"file script",
         FileName::Out => b"file out",
@@ -323,6 +320,7 @@ fn fault_words(fault: BuildFault) -> (&'static [u8], Behind)
         BuildFault::Hex(fault) => hex_words(fault),
         BuildFault::Layout(fault) => layout_words(fault),
         BuildFault::Sfdp(fault) => (sfdp_words(fault), Behind::Nothing),
+        BuildFault::Sheet(fault) => sheet_words(fault),
         BuildFault::Status(number) => (b"status ", Behind::Number(u64::from(number))),
         BuildFault::ModeImpossible => (b"mode", Behind::Nothing),
         BuildFault::ContentSize => (b"content size", Behind::Nothing),
@@ -389,6 +387,44 @@ fn script_words(fault: ScriptFault) -> (&'static [u8], Behind)
         ScriptFault::NoEnd(line) => (b"script 5 line ", Behind::Number(line)),
         ScriptFault::AfterEnd(line) => (b"script 6 line ", Behind::Number(line)),
         ScriptFault::Memory => (b"memory", Behind::Nothing),
+    }
+}
+
+/// The words for a fault of a sheet, and its line.
+fn sheet_words(fault: SheetFault) -> (&'static [u8], Behind)
+    ensures { spelled result.0.now result.1 ≡ sheet_text fault }
+{
+    match fault {
+        SheetFault::Line(line, fault) => (line_words(fault), Behind::Number(line)),
+        SheetFault::Whole(lack) => (lack_words(lack), Behind::Nothing),
+    }
+}
+
+/// The words for a fault of a sheet's line.
+fn line_words(fault: LineFault) -> &'static [u8]
+    ensures { result.now ≡ line_text fault }
+{
+    match fault {
+        LineFault::Word => b"sheet 1 line ",
+        LineFault::Form => b"sheet 2 line ",
+        LineFault::Limit => b"sheet 3 line ",
+        LineFault::Twice => b"sheet 4 line ",
+    }
+}
+
+/// The words for what the whole of a sheet lacks.
+fn lack_words(lack: Lack) -> &'static [u8]
+    ensures { result.now ≡ lack_text lack }
+{
+    match lack {
+        Lack::Size => b"sheet 5",
+        Lack::Page => b"sheet 6",
+        Lack::Address => b"sheet 7",
+        Lack::Kind => b"sheet 8",
+        Lack::Regions => b"sheet 9",
+        Lack::Mode => b"sheet 10",
+        Lack::QuadRead => b"sheet 11",
+        Lack::Opcode => b"sheet 12",
     }
 }
 

@@ -9,6 +9,7 @@ pub struct Given<'a> {
     pub layout: Option<&'a str>,
     pub sfdp: Option<&'a str>,
     pub uniform: Option<&'a str>,
+    pub sheet: Option<&'a str>,
     pub bits: Option<&'a str>,
     pub part: Option<&'a str>,
     pub status: Option<&'a str>,
@@ -61,6 +62,7 @@ pub struct CheckArgs<'a> {
 pub struct ChipArgs<'a> {
     pub sfdp: Option<&'a str>,
     pub uniform: Option<&'a str>,
+    pub sheet: Option<&'a str>,
     pub bits: Option<&'a str>,
     pub part: Option<&'a str>,
 }
@@ -146,7 +148,7 @@ pub struct ReadArgs<'a> {
     pub raw: bool,
     /// The chip's power was just switched on, so it is in the address mode that it begins in.
     pub fresh: bool,
-    /// The chip's tables may say another size than `--uniform`.
+    /// The chip's tables may say another size than `--uniform` or the sheet.
     pub any_size: bool,
     /// The halves of what the chip holds may be alike.
     pub repeats: bool,

@@ -12,7 +12,7 @@ use nor_job::Inputs;
 pub struct Texts {
     pub hex: Vec<u8>,
     pub layout: Option<Vec<u8>>,
-    /// The chip's tables; nothing for a chip of a size.
+    /// The chip's tables, or the text of its sheet; nothing for a chip of a size.
     pub sfdp: Vec<u8>,
 }
 

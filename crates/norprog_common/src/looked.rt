@@ -1,6 +1,6 @@
 //! A script that is read for its faults.
 
-ghost use Rattle.std.specs.Prelude.{◌<◌, ◌-◌, ◌^◌, IfOk, IfErr};
+ghost use Rattle.std.specs.Prelude.{IfOk, IfErr};
 ghost use Rattle.nor_script.specs.Stream.{CountsRead, HadText, IsSpelled, StopsReader};
 ghost use Rattle.norprog_common.specs.Reading.{GivesSome};
 
@@ -14,7 +14,6 @@ use std::alloc::Global;
 /// The first fault is returned, as [`StepReader`] reports it; `Device` where the device failed;
 /// `Memory` where a growth is refused.
 pub fn look_through<R: ByteIn>(alloc: Global, script: &mut R) -> Result<(), ReadFault>
-    requires { R.count script.old < 2 ^ 64 - 1 }
     ensures read { IfOk result
         (λ _. HadText (R.ahead script.old) (R.ahead script.new) IsSpelled) }
     ensures stopped { IfErr result (StopsReader (R.ahead script.old) (R.ahead script.new)) }

@@ -36,7 +36,7 @@ pub fn request_of<'a>(given: Given<'a>) -> Option<Request<'a>>
     Some(Request {
         hex: given.hex?,
         layout: given.layout,
-        chip: chip_of(given.sfdp, given.uniform, given.bits)?,
+        chip: chip_of(given.sfdp, given.uniform, given.sheet, given.bits)?,
         part: part(given.part.unwrap_or("generic"))?,
         status: optional_status(given.status)?,
         mode4: given.mode4,

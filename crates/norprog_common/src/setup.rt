@@ -29,7 +29,12 @@ pub fn setup_of<'a>(given: SetupArgs<'a>) -> Option<Setup<'a>>
     ensures values { IfSome result (AsksSetup given.entry) }
 {
     Some(Setup {
-        chip: chip_of(given.chip.sfdp, given.chip.uniform, given.chip.bits)?,
+        chip: chip_of(
+            given.chip.sfdp,
+            given.chip.uniform,
+            given.chip.sheet,
+            given.chip.bits,
+        )?,
         part: part(given.chip.part.unwrap_or("generic"))?,
         status: optional_status(given.status)?,
         mode4: given.mode4,
@@ -59,7 +64,7 @@ pub fn setup_inputs<'a>(setup: Setup<'a>, tables: &'a [u8]) -> Inputs<'a>
 
 /// The chip that the inputs describe, and how it begins.
 ///
-/// `Contradiction`, `Sfdp`, `Status` and `ModeImpossible`, in this order.
+/// `Contradiction`, `Sfdp` or `Sheet`, `Status` and `ModeImpossible`, in this order.
 pub fn known_chip(inputs: &Inputs<'_>) -> Result<(Meaning, Start), Refusal>
     ensures known { IfOk result (λ chip. IsKnown inputs.now chip.0) }
     ensures start { IfOk result (λ chip. chip.1 ≡ start_of inputs.now) }

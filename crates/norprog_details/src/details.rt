@@ -1,6 +1,5 @@
 //! What is written after the line of a refusal.
 
-ghost use Rattle.std.specs.Prelude.{◌<◌, ◌-◌, ◌^◌};
 ghost use Rattle.norprog_details.specs.Details.{AreLooks, LooksAgain};
 ghost use Rattle.norprog_files.specs.Files.{Did};
 
@@ -30,7 +29,6 @@ pub fn write_details<F: Files, E: ByteOut>(
     refusal: &[u8],
     err: &mut E,
 )
-    requires { E.count err.old < 2 ^ 64 - 1 }
     ensures { Did (F.Trail.did trail.old) (F.Trail.did trail.new)
         (LooksAgain line.entry.typed.now) }
 {
@@ -39,9 +37,7 @@ pub fn write_details<F: Files, E: ByteOut>(
 }
 
 /// Writes it, and the paragraph of `explain`, if there is one.
-fn write_said<E: ByteOut>(said: Result<Vec<u8>, AllocError>, refusal: &[u8], err: &mut E)
-    requires { E.count err.old < 2 ^ 64 - 1 }
-{
+fn write_said<E: ByteOut>(said: Result<Vec<u8>, AllocError>, refusal: &[u8], err: &mut E) {
     let Ok(said) = said else {
         return;
     };
@@ -189,6 +185,7 @@ fn text_of(name: &str) -> Option<FileName> {
     match name {
         "hex" => Some(FileName::Hex),
         "layout" => Some(FileName::Layout),
+        "sheet" => Some(FileName::Sheet),
         "script" => Some(FileName::Script),
         "log" => Some(FileName::Log),
         _ => None,

@@ -41,6 +41,7 @@ fn words_for(name: &str) -> Option<&'static str> {
         "hex" => Some("norprog: hex "),
         "layout" => Some("norprog: layout "),
         "sfdp" | "uniform" => Some("norprog: sfdp "),
+        "sheet" => Some("norprog: sheet "),
         "bin" => Some("norprog: bin "),
         "content" | "resume" => Some("norprog: content "),
         "script" => Some("norprog: script "),

@@ -7,13 +7,21 @@ use std::alloc::AllocError;
 
 const CHIPS: &[u8] = b"--sfdp and --uniform don't go together\n";
 
+const SFDP_SHEET: &[u8] = b"--sfdp and --sheet don't go together\n";
+
+const UNIFORM_SHEET: &[u8] = b"--uniform and --sheet don't go together\n";
+
 const TIMES: &[u8] = b"--busy and --each-busy don't go together\n";
 
 const BITS: &[u8] = b"--bits and --uniform don't go together\n";
 
+const BITS_SHEET: &[u8] = b"--bits and --sheet don't go together\n";
+
+const TABLES_SHEET: &[u8] = b"--tables and --sheet don't go together\n";
+
 const TABLES: &[u8] = b"--tables and --uniform don't go together\n";
 
-const NO_CHIP: &[u8] = b"--sfdp or --uniform is missing: the chip\n";
+const NO_CHIP: &[u8] = b"--sfdp, --uniform or --sheet is missing: the chip\n";
 
 const ONE_FILE: &[u8] = b"--tables and --out name one file\n";
 
@@ -28,9 +36,13 @@ pub(crate) fn add_usage(line: CommandLine<'_>, said: &mut Vec<u8>) -> Result<(),
         said,
         &[
             pair_line(typed, "sfdp", "uniform", CHIPS),
+            pair_line(typed, "sfdp", "sheet", SFDP_SHEET),
+            pair_line(typed, "uniform", "sheet", UNIFORM_SHEET),
             pair_line(typed, "busy", "each-busy", TIMES),
             pair_line(typed, "bits", "uniform", BITS),
+            pair_line(typed, "bits", "sheet", BITS_SHEET),
             pair_line(typed, "tables", "uniform", TABLES),
+            pair_line(typed, "tables", "sheet", TABLES_SHEET),
             chip_line(line),
             outputs_line(typed),
         ],
@@ -60,7 +72,9 @@ fn pair_line(typed: &[Typed<'_>], first: &str, second: &str, text: &'static [u8]
 
 /// That no chip is named, where the command wants one.
 fn chip_line(line: CommandLine<'_>) -> &'static [u8] {
-    let named = is_typed(line.typed, "sfdp") || is_typed(line.typed, "uniform");
+    let named = is_typed(line.typed, "sfdp")
+        || is_typed(line.typed, "uniform")
+        || is_typed(line.typed, "sheet");
     if named || !wants_chip(line.command) {
         b""
     } else {
@@ -68,7 +82,7 @@ fn chip_line(line: CommandLine<'_>) -> &'static [u8] {
     }
 }
 
-/// Whether a command wants a chip by `--sfdp` or `--uniform`.
+/// Whether a command wants a chip by `--sfdp`, `--uniform` or `--sheet`.
 fn wants_chip(command: &str) -> bool {
     !matches!(command, "read" | "flash" | "draw" | "hex" | "explain")
 }

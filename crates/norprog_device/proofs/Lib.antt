@@ -1,2 +1,1 @@
-mod Room
 pub mod PartLemmas

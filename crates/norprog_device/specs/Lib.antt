@@ -1,4 +1,3 @@
-pub mod Wire
 pub mod Line
 pub mod Opened
 pub mod Blame

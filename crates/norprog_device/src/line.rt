@@ -1,6 +1,6 @@
 //! What is written of a device that can't be used.
 
-ghost use Rattle.std.specs.Prelude.{◌≡◌, ◌<◌, ◌-◌, ◌^◌};
+ghost use Rattle.std.specs.Prelude.{◌≡◌};
 ghost use Rattle.nor_base.specs.Device.{Counts, Writes};
 ghost use Rattle.norprog_common.specs.Told.{Tells, output};
 ghost use Rattle.norprog_device.specs.Line.{device_line, device_word, fault_word};
@@ -12,7 +12,6 @@ use nor_serprog::{Fault, GreetFault};
 /// Writes why a device can't be used, and returns the status, 1. Where `err` fails a part of the
 /// text is lost, and nothing more is written.
 pub fn refuse_device<E: ByteOut>(fault: DeviceFault, err: &mut E) -> u8
-    requires { E.count err.old < 2 ^ 64 - 1 }
     ensures status { result ≡ 1 }
     ensures told { Tells (output E.held E.count err.old err.new) (device_line fault) }
 {
@@ -26,7 +25,6 @@ pub fn refuse_device<E: ByteOut>(fault: DeviceFault, err: &mut E) -> u8
 /// At `Failed` a proper prefix was taken; it comes only from the writer, whose count of failures
 /// rose by one.
 pub fn write_device<E: ByteOut>(fault: DeviceFault, err: &mut E) -> Result<(), Failed>
-    requires { E.count err.old < 2 ^ 64 - 1 }
     ensures bytes { Writes (E.held err.old) (E.held err.new) result (device_line fault) }
     ensures count { Counts (E.count err.old) (E.count err.new) result }
 {

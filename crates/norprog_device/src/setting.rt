@@ -1,6 +1,5 @@
 //! How the terminal of a device is set.
 
-ghost use Rattle.std.specs.Prelude.{◌≡◌, ◌<◌, ◌-◌, ◌^◌};
 ghost use Rattle.nor_base.specs.Device.{Counts, Writes};
 ghost use Rattle.norprog_device.specs.Setting.{stty_command, waiting_front, waiting_line};
 
@@ -13,7 +12,6 @@ use nor_base::{ByteOut, Failed, put_all};
 /// At `Failed` a proper prefix was taken; it comes only from the writer, whose count of failures
 /// rose by one.
 pub fn write_stty<W: ByteOut>(device: &str, writer: &mut W) -> Result<(), Failed>
-    requires { W.count writer.old < 2 ^ 64 - 1 }
     ensures bytes { Writes (W.held writer.old) (W.held writer.new) result
         (stty_command device.now) }
     ensures count { Counts (W.count writer.old) (W.count writer.new) result }
@@ -28,7 +26,6 @@ pub fn write_stty<W: ByteOut>(device: &str, writer: &mut W) -> Result<(), Failed
 /// At `Failed` a proper prefix was taken; it comes only from the writer, whose count of failures
 /// rose by one.
 pub fn write_waiting<W: ByteOut>(device: &str, writer: &mut W) -> Result<(), Failed>
-    requires { W.count writer.old < 2 ^ 64 - 1 }
     ensures bytes { Writes (W.held writer.old) (W.held writer.new) result
         (waiting_line device.now) }
     ensures count { Counts (W.count writer.old) (W.count writer.new) result }
@@ -40,7 +37,6 @@ pub fn write_waiting<W: ByteOut>(device: &str, writer: &mut W) -> Result<(), Fai
 
 /// Writes what comes before the command.
 fn write_front<W: ByteOut>(device: &str, writer: &mut W) -> Result<(), Failed>
-    requires { W.count writer.old < 2 ^ 64 - 1 }
     ensures bytes { Writes (W.held writer.old) (W.held writer.new) result
         (waiting_front device.now) }
     ensures count { Counts (W.count writer.old) (W.count writer.new) result }

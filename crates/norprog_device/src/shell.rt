@@ -1,6 +1,6 @@
 //! A text as a shell reads it.
 
-ghost use Rattle.std.specs.Prelude.{◌≡◌, ◌<◌, ◌-◌, ◌^◌, flat_map};
+ghost use Rattle.std.specs.Prelude.{◌≡◌, flat_map};
 ghost use Rattle.std.specs.List.{list_all};
 ghost use Rattle.nor_base.specs.Device.{Counts, Writes};
 ghost use Rattle.norprog_device.specs.Shell.{is_bare, is_plain, quoted, quoted_word, shell_word};
@@ -13,7 +13,6 @@ use nor_base::{ByteOut, Failed, put_all};
 /// At `Failed` a proper prefix was taken; it comes only from the writer, whose count of failures
 /// rose by one.
 pub fn write_word<W: ByteOut>(text: &[u8], writer: &mut W) -> Result<(), Failed>
-    requires { W.count writer.old < 2 ^ 64 - 1 }
     ensures bytes { Writes (W.held writer.old) (W.held writer.new) result (shell_word text.now) }
     ensures count { Counts (W.count writer.old) (W.count writer.new) result }
 {
@@ -26,7 +25,6 @@ pub fn write_word<W: ByteOut>(text: &[u8], writer: &mut W) -> Result<(), Failed>
 
 /// Writes a text between single quotes.
 fn write_quoted_word<W: ByteOut>(text: &[u8], writer: &mut W) -> Result<(), Failed>
-    requires { W.count writer.old < 2 ^ 64 - 1 }
     ensures bytes { Writes (W.held writer.old) (W.held writer.new) result (quoted_word text.now) }
     ensures count { Counts (W.count writer.old) (W.count writer.new) result }
 {
@@ -61,7 +59,6 @@ fn is_plain(byte: u8) -> bool
 
 /// Writes a text as it is between single quotes.
 fn write_quoted<W: ByteOut>(text: &[u8], writer: &mut W) -> Result<(), Failed>
-    requires { W.count writer.old < 2 ^ 64 - 1 }
     ensures bytes { Writes (W.held writer.old) (W.held writer.new) result
         (flat_map quoted text.now) }
     ensures count { Counts (W.count writer.old) (W.count writer.new) result }
@@ -74,7 +71,6 @@ fn write_quoted<W: ByteOut>(text: &[u8], writer: &mut W) -> Result<(), Failed>
 
 /// Writes a byte as it is between single quotes.
 fn write_byte<W: ByteOut>(byte: u8, writer: &mut W) -> Result<(), Failed>
-    requires { W.count writer.old < 2 ^ 64 - 1 }
     ensures bytes { Writes (W.held writer.old) (W.held writer.new) result (quoted byte) }
     ensures count { Counts (W.count writer.old) (W.count writer.new) result }
 {

@@ -1,6 +1,6 @@
 //! From the bytes of a script to those of its waveform.
 
-ghost use Rattle.std.specs.Prelude.{◌≡◌, ◌<◌, ◌-◌, ◌^◌, IfOk, IfErr, length, min};
+ghost use Rattle.std.specs.Prelude.{◌≡◌, IfOk, IfErr, length, min};
 ghost use Rattle.nor_base.specs.Device.{Writes, Counts};
 ghost use Rattle.nor_base.specs.Script.{IsScript};
 ghost use Rattle.nor_waves.specs.Waves.{waves};
@@ -38,7 +38,6 @@ pub fn draw_steps<W: ByteOut>(
     count: Option<u64>,
     out: &mut W,
 ) -> Result<(), Failed>
-    requires { W.count out.old < 2 ^ 64 - 1 }
     ensures bytes { Writes (W.held out.old) (W.held out.new) result
         (waves (part from count steps.now)) }
     ensures count { Counts (W.count out.old) (W.count out.new) result }

@@ -1,7 +1,7 @@
 //! `explain`: from the words of a command line to what is reported of them.
 
-ghost use Rattle.std.specs.Prelude.{◌≡◌, ◌<◌, ◌-◌, ◌^◌, flat_map, IfOk, IfErr};
-ghost use Rattle.nor_base.specs.Device.{Writes, Counts};
+ghost use Rattle.std.specs.Prelude.{◌≡◌, flat_map, IfOk, IfErr};
+ghost use Rattle.nor_base.specs.Device.{Writes, Counts, one_more};
 ghost use Rattle.norprog_explain.specs.Explained.{answered, explained, nameless, listed, told};
 ghost use Rattle.norprog_explain.specs.Explained.{in_order, topic_text, Tells, CutsText};
 ghost use Rattle.norprog_explain.specs.Explained.{EndsExplain, RefusesText};
@@ -22,7 +22,6 @@ const NAME: &[u8] = b"norprog:";
 ///
 /// Returns the status, 0. `WRITE` where `out` fails, `Usage` where there is no such topic.
 pub fn explain<O: ByteOut>(words: &[Bytes], out: &mut O) -> Result<u8, Refusal>
-    requires { O.count out.old < 2 ^ 64 - 1 }
     ensures { EndsExplain (explained topics words.now) (output O.held O.count out.old out.new)
         result }
 {
@@ -33,7 +32,6 @@ pub fn explain<O: ByteOut>(words: &[Bytes], out: &mut O) -> Result<u8, Refusal>
 /// Writes to `out` the paragraph of the first topic whose words a line begins with, word by word;
 /// nothing where there is none. The line is without the name of the program. It takes no memory.
 pub fn write_topic<O: ByteOut>(line: &[u8], out: &mut O) -> Result<(), Failed>
-    requires { O.count out.old < 2 ^ 64 - 1 }
     ensures bytes { Writes (O.held out.old) (O.held out.new) result (topic_text topics line.now) }
     ensures count { Counts (O.count out.old) (O.count out.new) result }
 {
@@ -55,14 +53,13 @@ fn nameless(words: &[Bytes]) -> &[Bytes]
 
 /// Tells what is asked for.
 fn tell<O: ByteOut>(subjects: &[&[Topic]], words: &[Bytes], out: &mut O) -> Result<(), Refusal>
-    requires { O.count out.old < 2 ^ 64 - 1 }
     ensures told { IfOk result
         (λ _. Tells (answered (in_order subjects.now) words.now) (O.held out.old)
         (O.held out.new)) }
     ensures untold { IfErr result
         (λ _. CutsText (answered (in_order subjects.now) words.now) (O.held out.old)
         (O.held out.new)) }
-    ensures refused { IfErr result (RefusesText (O.count out.old < O.count out.new)
+    ensures refused { IfErr result (RefusesText (O.count out.new ≡ one_more (O.count out.old))
         (answered (in_order subjects.now) words.now)) }
 {
     if words.is_empty() {
@@ -74,7 +71,6 @@ fn tell<O: ByteOut>(subjects: &[&[Topic]], words: &[Bytes], out: &mut O) -> Resu
 
 /// Writes the words of each topic, one a line.
 fn list<O: ByteOut>(subjects: &[&[Topic]], out: &mut O) -> Result<(), Failed>
-    requires { O.count out.old < 2 ^ 64 - 1 }
     ensures bytes { Writes (O.held out.old) (O.held out.new) result
         (flat_map listed (in_order subjects.now)) }
     ensures count { Counts (O.count out.old) (O.count out.new) result }
@@ -87,7 +83,6 @@ fn list<O: ByteOut>(subjects: &[&[Topic]], out: &mut O) -> Result<(), Failed>
 
 /// Writes the words of some topics, one a line.
 fn list_some<O: ByteOut>(topics: &[Topic], out: &mut O) -> Result<(), Failed>
-    requires { O.count out.old < 2 ^ 64 - 1 }
     ensures bytes { Writes (O.held out.old) (O.held out.new) result
         (flat_map listed (told topics.now)) }
     ensures count { Counts (O.count out.old) (O.count out.new) result }

@@ -1,6 +1,5 @@
 //! The line of a failure.
 
-ghost use Rattle.std.specs.Prelude.{◌≡◌, ◌<◌, ◌-◌, ◌^◌};
 ghost use Rattle.nor_base.specs.Device.{Writes, Counts};
 ghost use Rattle.norprog_failure.specs.declared.failure.Failure.TheVariants.{Differs, Gives};
 ghost use Rattle.norprog_failure.specs.Line.{failed_line, failure_line, wrong_line};
@@ -18,7 +17,6 @@ use norprog_device::word;
 ///
 /// `Failed` comes only from the writer.
 pub fn write_failure<W: ByteOut>(step: u64, why: Failure, writer: &mut W) -> Result<(), Failed>
-    requires { W.count writer.old < 2 ^ 64 - 1 }
     ensures bytes { Writes (W.held writer.old) (W.held writer.new) result (failure_line step why) }
     ensures count { Counts (W.count writer.old) (W.count writer.new) result }
 {
@@ -33,7 +31,6 @@ pub fn write_failure<W: ByteOut>(step: u64, why: Failure, writer: &mut W) -> Res
 
 /// Writes `failed at K differs at AAAAAAAA chip HH want HH`.
 fn write_other<W: ByteOut>(step: u64, d: Difference, writer: &mut W) -> Result<(), Failed>
-    requires { W.count writer.old < 2 ^ 64 - 1 }
     ensures bytes { Writes (W.held writer.old) (W.held writer.new) result
         (failure_line step (Differs d)) }
     ensures count { Counts (W.count writer.old) (W.count writer.new) result }
@@ -57,7 +54,6 @@ fn write_other<W: ByteOut>(step: u64, d: Difference, writer: &mut W) -> Result<(
 
 /// Writes `failed at K differs chip HH want HH`.
 fn write_gives<W: ByteOut>(step: u64, chip: u8, want: u8, writer: &mut W) -> Result<(), Failed>
-    requires { W.count writer.old < 2 ^ 64 - 1 }
     ensures bytes { Writes (W.held writer.old) (W.held writer.new) result
         (failure_line step (Gives chip want)) }
     ensures count { Counts (W.count writer.old) (W.count writer.new) result }
@@ -81,7 +77,6 @@ fn write_gives<W: ByteOut>(step: u64, chip: u8, want: u8, writer: &mut W) -> Res
 ///
 /// `Failed` comes only from the writer.
 pub fn write_wrong<W: ByteOut>(number: u8, step: u64, writer: &mut W) -> Result<(), Failed>
-    requires { W.count writer.old < 2 ^ 64 - 1 }
     ensures bytes { Writes (W.held writer.old) (W.held writer.new) result (wrong_line number step) }
     ensures count { Counts (W.count writer.old) (W.count writer.new) result }
 {
@@ -101,7 +96,6 @@ pub fn write_wrong<W: ByteOut>(number: u8, step: u64, writer: &mut W) -> Result<
 
 /// Writes `failed at K WHY`.
 fn write_failed<W: ByteOut>(step: u64, why: &[u8], writer: &mut W) -> Result<(), Failed>
-    requires { W.count writer.old < 2 ^ 64 - 1 }
     ensures bytes { Writes (W.held writer.old) (W.held writer.new) result
         (failed_line step why.now) }
     ensures count { Counts (W.count writer.old) (W.count writer.new) result }

@@ -1,5 +1,7 @@
 -- Files that are opened and made, one after another.
 use Rattle.std.proofs.Common.{◌≡◌, ◌<◌, ℕ, List, [], ◌++◌, Option, Result, Ok, Err, IfOk, append-nil, append_assoc, arith, refl, subst, sym}
+use Rattle.nor_base.proofs.DeviceLaws.{risen_some}
+use Rattle.nor_base.specs.Device.{one_more}
 use Rattle.norprog_common.specs.declared.faults.FileName.{FileName}
 use Rattle.norprog_common.specs.declared.faults.Refusal.{Refusal}
 use Rattle.norprog_files.specs.Files.{Adds, AreUsed, ClosedLost, ClosedSent, Event, Here, IsClosed, Later, Lost, NoneUsed, OneUsed, StopsOpening, closing}
@@ -29,7 +31,7 @@ closed (Ok x) name held = ClosedSent
 closed (Err why) name held = ClosedLost
 
 -- one whose writer failed isn't closed as one of which all has gone out
-pub lost : {T E : Type 0} (result : Result T E) (name : List ℕ) (held : Option (List ℕ)) (m n : ℕ) → IfOk result (λ _. n ≡ 0) → m < n
+pub lost : {T E : Type 0} (result : Result T E) (name : List ℕ) (held : Option (List ℕ)) (m n : ℕ) → IfOk result (λ _. n ≡ 0) → n ≡ one_more m
     → closing result name held ≡ Lost name held
-lost (Ok x) name held m n whole more = absurd (omega (arith, whole, more))
+lost (Ok x) name held m n whole more = absurd (let some = risen_some m n more in omega (arith, some, whole))
 lost (Err why) name held m n whole more = refl

@@ -6,16 +6,9 @@ use Rattle.nor_job.specs.declared.fault.BuildFault.TheVariants as fault
 use Rattle.norprog_common.specs.declared.faults.FileName.{FileName}
 use Rattle.norprog_common.specs.declared.faults.Refusal.{Refusal}
 use Rattle.norprog_common.specs.declared.given.OutFile.{OutFile}
+use Rattle.norprog_common.specs.Wire.{Wire}
 use Rattle.norprog_files.specs.declared.replaced.OutKind.{OutKind}
 use Rattle.norprog_common.specs.declared.faults.Refusal.TheVariants.{File, Build}
-
--- a line to a device: the bytes that it was sent, where it says so, and those that it has ahead
-pub record Wire : Type 0 where
-  pub sent : Option (List ℕ)
-  pub ahead : Ahead
-
-abbrev pub wire : Option (List ℕ) → Ahead → Wire
-wire held given = record { sent = held; ahead = given }
 
 -- one thing that is done with the file of a name. `Opened`: it was opened to be read, this is ahead of its reader, and it has so many bytes.
 -- `Given`: it was read from its first byte to its last, and these are all. `Denied`: it couldn't be opened, read or made, or memory ran

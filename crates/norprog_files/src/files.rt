@@ -3,7 +3,8 @@
 ghost use Rattle.std.specs.Prelude.{◌≡◌, ◌<◌, [], ◌∷◌, List, IfErr, IfOk};
 ghost use Rattle.norprog_common.specs.declared.faults.FileName.TheVariants.{Device};
 ghost use Rattle.norprog_files.specs.Files.{Adds, Asked, Denied, Denies, Event, Given, Made, New};
-ghost use Rattle.norprog_files.specs.Files.{Opened, Unwired, Wired, came, closing, wire};
+ghost use Rattle.norprog_common.specs.Wire.{wire};
+ghost use Rattle.norprog_files.specs.Files.{Opened, Unwired, Wired, came, closing};
 ghost use Rattle.norprog_files.specs.Replaced.{name_of};
 
 use crate::replaced::OutKind;
@@ -51,7 +52,6 @@ pub trait Files {
     ) -> Result<(Self::Input, u64), Refusal>
         ensures did { Adds (Self.Trail.did trail.old) (Self.Trail.did trail.new) (came result
             (λ file. Opened path.now (Self.Input.ahead file.0) file.1) (Denied path.now)) }
-        ensures unfailed { IfOk result (λ file. Self.Input.count file.0 ≡ 0) }
         ensures refused { IfErr result (Denies name) };
 
     /// Opens a file and reads it whole; returns its bytes, at most 2^36.
@@ -84,7 +84,6 @@ pub trait Files {
     ) -> Result<Self::Output, Refusal>
         ensures did { Adds (Self.Trail.did trail.old) (Self.Trail.did trail.new) (came result
             (λ file. Made out.entry kind (Self.Output.held file)) (Denied out.entry.path.now)) }
-        ensures unfailed { IfOk result (λ file. Self.Output.count file ≡ 0) }
         ensures refused { IfErr result (Denies (name_of kind)) };
 
     /// Makes a file where none of that name is there, not even a link to none. What is written to
@@ -101,7 +100,6 @@ pub trait Files {
     ) -> Result<Self::Output, Refusal>
         ensures did { Adds (Self.Trail.did trail.old) (Self.Trail.did trail.new) (came result
             (λ file. New path.now (Self.Output.held file)) (Denied path.now)) }
-        ensures unfailed { IfOk result (λ file. Self.Output.count file ≡ 0) }
         ensures refused { IfErr result (Denies name) };
 
     /// Has all go out that the file of this name took, and closes it. `Failed` where some of it may
@@ -125,8 +123,6 @@ pub trait Files {
             (λ device. Wired path.now
             (wire (Self.ToDevice.held device.1) (Self.FromDevice.ahead device.0)))
             (Denied path.now)) }
-        ensures unfailed { IfOk result (λ device.
-            (Self.FromDevice.count device.0 ≡ 0) × (Self.ToDevice.count device.1 ≡ 0)) }
         ensures refused { IfErr result (Denies Device) };
 
     /// Closes the terminal of this name, so that nothing more goes to it.

@@ -16,7 +16,7 @@ use Rattle.nor_serprog.specs.Steps.{AreCarried, IsCarried}
 use Rattle.norprog_failure.specs.declared.failure.Failure.{Failure}
 use Rattle.norprog_failure.specs.declared.failure.Failure.TheVariants as failure
 use Rattle.norprog_failure.specs.Reported.{other_byte, read_address, FailsAs, failure_by}
-use Rattle.norprog_device.specs.Wire.{Wire}
+use Rattle.norprog_common.specs.Wire.{Wire}
 use Rattle.norprog_flash.specs.Worked.{HasFailedAt, Session}
 
 tail_of : (P : Step → Type 0) (x : Step) (xs : List Step) → All P (x ∷ xs) → All P xs

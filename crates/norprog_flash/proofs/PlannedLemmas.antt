@@ -5,14 +5,14 @@ use Rattle.nor_base.specs.Parameters.{Parameters}
 use Rattle.nor_base.specs.Planned.{ArePlanned, IsWorkable}
 use Rattle.nor_flasher.specs.Apart.{ClosesApart, BreaksApart}
 use Rattle.nor_flasher.specs.Laws.{Closes, Breaks, PlannedIsDoable}
+use Rattle.nor_job.proofs.ChipLemmas.{one_chip}
 use Rattle.nor_job.specs.Status.{start_of}
 use Rattle.nor_loop.specs.Laws.{ReadTwice}
 use Rattle.nor_serprog.specs.declared.halt.Halt.{Halt}
 use Rattle.nor_serprog.specs.declared.limits.Limits.{Limits}
 use Rattle.nor_serprog.specs.Done.{HasDoneAll, IsDoable}
 use Rattle.nor_serprog.specs.Row.{HasHalted}
-use Rattle.nor_sfdp.specs.declared.fault.SfdpFault.{SfdpFault}
-use Rattle.norprog_device.specs.Wire.{Wire}
+use Rattle.norprog_common.specs.Wire.{Wire}
 use Rattle.norprog_flash.specs.declared.job.Job.{Job}
 use Rattle.norprog_flash.specs.Begun.{HasPlanned, Printed}
 use Rattle.norprog_flash.specs.Task.{dump_of, flash_task, goal_of}
@@ -20,9 +20,6 @@ use Rattle.norprog_read.specs.declared.asked.Reading.{Reading}
 use Rattle.norprog_read.specs.Chip.{GivesContent, way_by}
 use Rattle.norprog_read.specs.Way.{Way}
 use Rattle.norprog_work.specs.Work.{Plan}
-
-meaning_same : (r : Result Parameters SfdpFault) (m n : Parameters) → r ≡ Ok m → r ≡ Ok n → m ≡ n
-meaning_same r m n p q = cc
 
 -- a content that was wanted came twice
 given_twice : (w : Way) (before after : Wire) (wanted : Bool) (content : List ℕ) → wanted ≡ true → GivesContent w before after wanted content
@@ -36,7 +33,7 @@ module _ (most : ℕ) (job : Job) (before read : Wire) (r : Reading) (p : Plan) 
 
   -- the work is that of the meaning that was read
   chip : planned.plan.work.m ≡ r.meaning
-  chip = meaning_same _ planned.plan.work.m r.meaning planned.plan.work.accepted.means planned.read.read.means.means
+  chip = one_chip planned.plan.work.accepted.means planned.read.read.means.means
 
   workable : IsWorkable r.meaning start r.content.items p.goal
   workable = subst (λ (m : Parameters). IsWorkable m start r.content.items p.goal) chip planned.plan.work.workable

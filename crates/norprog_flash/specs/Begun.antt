@@ -5,7 +5,7 @@ use Rattle.nor_base.specs.declared.meaning.Start.{Start}
 use Rattle.nor_probe.specs.Status.{suits}
 use Rattle.nor_sfdp.specs.Bits.{is_set}
 use Rattle.norprog_common.specs.Rules.{MeetsRules}
-use Rattle.norprog_device.specs.Wire.{Wire}
+use Rattle.norprog_common.specs.Wire.{Wire}
 use Rattle.norprog_flash.specs.declared.job.Job.{Job}
 use Rattle.norprog_flash.specs.Resumed.{IsOfDump}
 use Rattle.norprog_flash.specs.Task.{dump_of, flash_task}

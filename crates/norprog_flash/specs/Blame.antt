@@ -26,13 +26,3 @@ fault_of_stop (Closed status) = None
 abbrev pub fault_in : Result Ending Unflashed → Option Fault
 fault_in (Ok ending) = fault_of_ending ending
 fault_in (Err why) = fault_of_stop why
-
--- of work that may be begun, only the latter
-abbrev pub fault_before : {T : Type 0} → Result T Unflashed → Option Fault
-fault_before (Ok x) = None
-fault_before (Err why) = fault_of_stop why
-
--- of work that was begun, only the former
-abbrev pub fault_after : {E : Type 0} → Result Ending E → Option Fault
-fault_after (Ok ending) = fault_of_ending ending
-fault_after (Err why) = None

@@ -16,7 +16,7 @@ use Rattle.norprog_read.specs.declared.asked.Known.{Known}
 use Rattle.norprog_read.specs.declared.asked.Known.TheVariants.{Own, Tables}
 use Rattle.norprog_work.specs.Early as work
 
--- a chip is known by a file of its tables or by its size, and not by its own tables
+-- a chip is known by a file of its tables, by its size or by its sheet, and not by its own tables
 abbrev pub is_known : Known → Bool
 is_known Own = false
 is_known other = true

@@ -6,7 +6,7 @@ use Rattle.nor_job.specs.Status.{start_of}
 use Rattle.nor_reader.specs.declared.by.ReadBy.{ReadBy}
 use Rattle.nor_reader.specs.Laws.{GivesBy}
 use Rattle.nor_serprog.specs.Steps.{IsFirstNotCarried}
-use Rattle.norprog_device.specs.Wire.{Wire}
+use Rattle.norprog_common.specs.Wire.{Wire}
 use Rattle.norprog_failure.specs.declared.failure.Failure.{Failure}
 use Rattle.norprog_failure.specs.declared.failure.Failure.TheVariants.{Carried}
 use Rattle.norprog_flash.specs.declared.ending.Ending.{Ending}

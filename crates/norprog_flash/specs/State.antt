@@ -13,6 +13,7 @@ use Rattle.norprog_flash.specs.declared.options.Given.TheVariants.{Text, Flag, N
 abbrev pub name_text : Name → List ℕ
 name_text name.Sfdp = codes "sfdp"
 name_text name.Uniform = codes "uniform"
+name_text name.Sheet = codes "sheet"
 name_text name.Bits = codes "bits"
 name_text name.Part = codes "part"
 name_text name.Mode4 = codes "mode4"
@@ -60,6 +61,7 @@ abbrev pub next_options : FlashArgs → List ℕ
 next_options given = concat (
     valued name.Sfdp (option_map (λ t. t.now) given.chip.sfdp) []
     ∷ valued name.Uniform (option_map (λ t. t.now) given.chip.uniform) []
+    ∷ valued name.Sheet (option_map (λ t. t.now) given.chip.sheet) []
     ∷ valued name.Bits (option_map (λ t. t.now) given.chip.bits) []
     ∷ valued name.Part (option_map (λ t. t.now) given.chip.part) []
     ∷ flagged name.Mode4 given.mode4

@@ -13,7 +13,7 @@ use Rattle.nor_serprog.specs.declared.limits.Limits.{Limits}
 use Rattle.nor_serprog.specs.Done.{HasDoneAll}
 use Rattle.nor_serprog.specs.Row.{HasHalted}
 use Rattle.nor_serprog.specs.Steps.{AreCarried, IsFirstNotCarried}
-use Rattle.norprog_device.specs.Wire.{Wire}
+use Rattle.norprog_common.specs.Wire.{Wire}
 use Rattle.norprog_failure.specs.declared.failure.Failure.{Failure}
 use Rattle.norprog_failure.specs.declared.failure.Failure.TheVariants.{Carried}
 use Rattle.norprog_failure.specs.Reported.{FailsAs, failure_by}

@@ -1,19 +1,16 @@
 //! A chip that is read, and planned for.
 
-ghost use Rattle.std.specs.Prelude.{◌≡◌, ◌<◌, ◌≤◌, ◌+◌, ◌-◌, ◌^◌, [], ◌∷◌, true, length, unwrap_or};
+ghost use Rattle.std.specs.Prelude.{◌≡◌, [], ◌∷◌, true, length, unwrap_or};
 ghost use Rattle.std.specs.Prelude.{ℕ, List, Option, IfOk, IfErr, MatchResult, Ok};
-ghost use Rattle.nor_base.specs.Device.{HaveRoom};
 ghost use Rattle.nor_probe.specs.Status.{suits};
 ghost use Rattle.nor_job.specs.Status.{start_of};
 ghost use Rattle.norprog_common.specs.Rules.{BreaksRules, MeetsRules};
-ghost use Rattle.norprog_flash.specs.Blame.{fault_before};
-ghost use Rattle.norprog_device.specs.Wire.{wire};
+ghost use Rattle.norprog_common.specs.Wire.{wire};
 ghost use Rattle.norprog_flash.specs.Begun.{HasRead, IsPlanOf, PrintsPlan, printed, start_at};
 ghost use Rattle.norprog_flash.specs.Task.{dump_of, flash_task};
 ghost use Rattle.norprog_work.specs.Work.{plan_of};
 ghost use Rattle.nor_reader.specs.Harmless.{HasSentHarmless, SendsHarmless};
 ghost use Rattle.nor_reader.specs.Laws.{GivesBy};
-ghost use Rattle.norprog_device.specs.Blame.{CountsBoth};
 ghost use Rattle.norprog_flash.specs.Opened.{HasHeld, StopsHolding};
 ghost use Rattle.norprog_flash.specs.Stops.{CantPlan, StopsBefore};
 
@@ -49,8 +46,7 @@ pub fn hold<R: ByteIn, W: ByteOut>(
     limits: &Limits,
     job: &Job<'_>,
 ) -> Result<Held, Unflashed>
-    requires asked { (job.now.ask.content ≡ true)
-        × (R.count from.old < 2 ^ 64 - 3) × (W.count to.old < 2 ^ 64 - 3) }
+    requires asked { (job.now.ask.content ≡ true) }
     ensures held { IfOk result (λ held. HasHeld limits.now job.now
         (wire (W.held to.old) (R.ahead from.old))
         (wire (W.held to.new) (R.ahead from.new)) held.reading
@@ -59,8 +55,6 @@ pub fn hold<R: ByteIn, W: ByteOut>(
     ensures stops { IfErr result (StopsHolding limits.now job.now
         (wire (W.held to.old) (R.ahead from.old))
         (wire (W.held to.new) (R.ahead from.new))) }
-    ensures counts { CountsBoth (R.count from.old) (R.count from.new) (W.count to.old)
-        (W.count to.new) (fault_before result) }
 {
     match test_line(from, to, limits) {
         Ok(()) => read_suited(alloc, from, to, limits, job),
@@ -76,15 +70,12 @@ pub(crate) fn print_plan<O: ByteOut>(
     reading: &Reading,
     out: &mut O,
 ) -> Result<Work, Refusal>
-    requires out { O.count out.old < 2 ^ 64 - 1 }
     ensures plan { IfOk result
         (λ work. PrintsPlan job.now reading.now (plan_of work)
         (printed (O.held out.old) (O.held out.new))) }
     ensures refused { IfErr result
         (CantPlan job.now reading.now (printed (O.held out.old) (O.held out.new))) }
-    ensures out_count { (O.count out.old ≤ O.count out.new)
-        × (O.count out.new ≤ O.count out.old + 1)
-        × IfOk result (λ _. O.count out.new ≡ O.count out.old) }
+    ensures out_count { IfOk result (λ _. O.count out.new ≡ O.count out.old) }
 {
     let work = plan_for(alloc, job, reading)?;
     match write_plan(job, &work, out) {
@@ -143,8 +134,7 @@ fn read_suited<R: ByteIn, W: ByteOut>(
     limits: &Limits,
     job: &Job<'_>,
 ) -> Result<Held, Unflashed>
-    requires asked { (job.now.ask.content ≡ true)
-        × HaveRoom (R.count from.old) (W.count to.old) }
+    requires asked { (job.now.ask.content ≡ true) }
     ensures read { IfOk result
         (λ held. HasRead limits.now.asked job.now (wire (W.held to.old) (R.ahead from.old))
         (wire (W.held to.new) (R.ahead from.new)) held.reading) }
@@ -156,8 +146,6 @@ fn read_suited<R: ByteIn, W: ByteOut>(
         (wire (W.held to.new) (R.ahead from.new)) job.now) }
     ensures harmless { MatchResult result (λ _. HasSentHarmless (W.held to.old) (W.held to.new))
         (λ _. SendsHarmless (W.held to.old) (W.held to.new)) }
-    ensures counts { CountsBoth (R.count from.old) (R.count from.new) (W.count to.old)
-        (W.count to.new) (fault_before result) }
 {
     let reading = read_chip(alloc, from, to, limits, &job.ask)?;
     let start = start_at(job, reading.status);

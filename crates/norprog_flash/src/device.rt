@@ -1,19 +1,16 @@
 //! Work on a chip that was read, and whose content is saved.
 
-ghost use Rattle.std.specs.Prelude.{◌≡◌, ◌<◌, ◌≤◌, ◌+◌, ◌-◌, ◌^◌, true};
+ghost use Rattle.std.specs.Prelude.{◌≡◌, true};
 ghost use Rattle.std.specs.Prelude.{IfOk, IfErr};
-ghost use Rattle.nor_base.specs.Device.{HaveRoom};
 ghost use Rattle.nor_job.specs.Status.{start_of};
 ghost use Rattle.nor_reader.specs.Laws.{GivesBy};
 ghost use Rattle.norprog_flash.specs.Begun.{HasRead, IsPlannedOn, IsReadOn, printed};
-ghost use Rattle.norprog_flash.specs.Blame.{fault_after, fault_of_ending};
 ghost use Rattle.norprog_flash.specs.Ended.{EndsWork};
 ghost use Rattle.norprog_flash.specs.Stops.{CantPlan};
 ghost use Rattle.norprog_flash.specs.Task.{flash_task};
-ghost use Rattle.norprog_device.specs.Wire.{Wire, wire};
+ghost use Rattle.norprog_common.specs.Wire.{Wire, wire};
 ghost use Rattle.norprog_flash.specs.Worked.{GoesOn, session};
 ghost use Rattle.norprog_work.specs.Work.{plan_of};
-ghost use Rattle.norprog_device.specs.Blame.{CountsBoth};
 
 use crate::begun::{Held, print_plan};
 use crate::ending::Ending;
@@ -46,9 +43,6 @@ pub fn go_on<R: ByteIn, W: ByteOut, O: ByteOut, P: ByteOut>(
     requires read { IsReadOn limits.now.asked job.now held.now.reading
         × GivesBy held.now.reading.meaning
         (start_of (flash_task job.now held.now.reading.tables.items)) held.now.by }
-    requires room { HaveRoom (R.count from.old) (W.count to.old)
-        × (O.count out.old < 2 ^ 64 - 1)
-        × (P.count progress.old < 2 ^ 64 - 1) }
     ensures ends { (first : Wire) → HasRead limits.now.asked job.now first
         (wire (W.held to.old) (R.ahead from.old)) held.now.reading
         → IfOk result (EndsWork (session job.now limits.now held.now.reading) first
@@ -56,11 +50,7 @@ pub fn go_on<R: ByteIn, W: ByteOut, O: ByteOut, P: ByteOut>(
     ensures refused { IfErr result
         (CantPlan job.now held.now.reading (printed (O.held out.old) (O.held out.new))) }
     ensures unsent { IfErr result (λ _. (to.new ≡ to.old) × (from.new ≡ from.old)) }
-    ensures counts { CountsBoth (R.count from.old) (R.count from.new) (W.count to.old)
-        (W.count to.new) (fault_after result)
-        × (O.count out.old ≤ O.count out.new)
-        × (O.count out.new ≤ O.count out.old + 1)
-        × IfOk result (λ _. O.count out.new ≡ O.count out.old) }
+    ensures works { IfOk result (λ _. O.count out.new ≡ O.count out.old) }
 {
     closes();
     breaks();
@@ -85,13 +75,9 @@ fn work_on<R: ByteIn, W: ByteOut, P: ByteOut>(
         (plan_of work.now) }
     requires way { GivesBy held.now.reading.meaning
         (start_of (flash_task job.now held.now.reading.tables.items)) held.now.by }
-    requires room { HaveRoom (R.count from.old) (W.count to.old)
-        × (P.count progress.old < 2 ^ 64 - 1) }
     ensures goes { GoesOn (session job.now limits.now held.now.reading)
         (wire (W.held to.old) (R.ahead from.old)) (wire (W.held to.new) (R.ahead from.new))
         (plan_of work.now) result }
-    ensures counts { CountsBoth (R.count from.old) (R.count from.new) (W.count to.old)
-        (W.count to.new) (fault_of_ending result) }
 {
     if let Err(step) = carried(work.steps.as_slice(), limits) {
         let why = Failure::Carried;

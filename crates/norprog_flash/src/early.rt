@@ -67,6 +67,6 @@ fn known_tables<'a>(job: &Job<'a>) -> (bool, &'a [u8])
     match job.ask.known {
         Known::Own => (false, &[]),
         Known::Tables(file) => (true, file),
-        Known::Uniform(_) => (true, &[]),
+        Known::Uniform(_) | Known::Sheet(_) => (true, &[]),
     }
 }

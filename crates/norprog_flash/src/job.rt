@@ -58,6 +58,7 @@ fn source_for<'a>(job: &'a Job<'_>, tables: &'a [u8]) -> Source<'a>
 {
     match job.ask.known {
         Known::Uniform(size) => Source::Uniform(size),
+        Known::Sheet(text) => Source::Sheet(text),
         Known::Own | Known::Tables(_) => Source::Sfdp {
             bytes: tables,
             bits: job.ask.bits,

@@ -1,6 +1,5 @@
 //! What is written of how work on a chip ends.
 
-ghost use Rattle.std.specs.Prelude.{◌≡◌, ◌<◌, ◌-◌, ◌^◌};
 ghost use Rattle.nor_base.specs.Device.{Counts, Writes};
 ghost use Rattle.nor_base.specs.declared.meaning.Part.TheVariants.{Generic, W25q256jv};
 ghost use Rattle.norprog_flash.specs.Line.{closed_line, ending_line};
@@ -17,7 +16,6 @@ use norprog_failure::write_failure;
 /// At `Failed` a proper prefix was taken; it comes only from the writer, whose count of failures
 /// rose by one.
 pub fn write_ending<W: ByteOut>(ending: Ending, writer: &mut W) -> Result<(), Failed>
-    requires { W.count writer.old < 2 ^ 64 - 1 }
     ensures bytes { Writes (W.held writer.old) (W.held writer.new) result (ending_line ending) }
     ensures count { Counts (W.count writer.old) (W.count writer.new) result }
 {
@@ -37,7 +35,6 @@ pub fn write_ending<W: ByteOut>(ending: Ending, writer: &mut W) -> Result<(), Fa
 /// Writes `unlike status` and the status: S7 to S0 in two digits, of a part whose registers are
 /// known S23 to S0 in six; and LF.
 pub fn write_closed<W: ByteOut>(part: Part, status: u32, writer: &mut W) -> Result<(), Failed>
-    requires { W.count writer.old < 2 ^ 64 - 1 }
     ensures bytes { Writes (W.held writer.old) (W.held writer.new) result
         (closed_line part status) }
     ensures count { Counts (W.count writer.old) (W.count writer.new) result }
@@ -50,7 +47,6 @@ pub fn write_closed<W: ByteOut>(part: Part, status: u32, writer: &mut W) -> Resu
 
 /// Writes `unlike status` and S7 to S0.
 fn write_status<W: ByteOut>(status: u32, writer: &mut W) -> Result<(), Failed>
-    requires { W.count writer.old < 2 ^ 64 - 1 }
     ensures bytes { Writes (W.held writer.old) (W.held writer.new) result
         (closed_line Generic status) }
     ensures count { Counts (W.count writer.old) (W.count writer.new) result }
@@ -61,7 +57,6 @@ fn write_status<W: ByteOut>(status: u32, writer: &mut W) -> Result<(), Failed>
 
 /// Writes `unlike status` and S23 to S0.
 fn write_registers<W: ByteOut>(status: u32, writer: &mut W) -> Result<(), Failed>
-    requires { W.count writer.old < 2 ^ 64 - 1 }
     ensures bytes { Writes (W.held writer.old) (W.held writer.new) result
         (closed_line W25q256jv status) }
     ensures count { Counts (W.count writer.old) (W.count writer.new) result }

@@ -1,6 +1,6 @@
 //! The command that goes on with work that stopped, as a shell reads it.
 
-ghost use Rattle.std.specs.Prelude.{◌≡◌, ◌<◌, ◌-◌, ◌^◌, ◌++◌, codes, flat_map, option_map};
+ghost use Rattle.std.specs.Prelude.{◌≡◌, ◌++◌, codes, flat_map, option_map};
 ghost use Rattle.nor_base.specs.Device.{Counts, Writes};
 ghost use Rattle.norprog_device.specs.Setting.{stty_command};
 ghost use Rattle.norprog_device.specs.Shell.{shell_word};
@@ -17,6 +17,7 @@ use norprog_device::{write_stty, write_word};
 pub(crate) enum Name {
     Sfdp,
     Uniform,
+    Sheet,
     Bits,
     Part,
     Mode4,
@@ -52,7 +53,6 @@ pub(crate) enum Given<'a> {
 /// Writes how to go on with work that stopped: what sets the terminal of the device, and the
 /// command.
 pub(crate) fn write_way_on<W: ByteOut>(given: &FlashArgs<'_>, writer: &mut W) -> Result<(), Failed>
-    requires { W.count writer.old < 2 ^ 64 - 1 }
     ensures bytes { Writes (W.held writer.old) (W.held writer.new) result (way_on given.now) }
     ensures count { Counts (W.count writer.old) (W.count writer.new) result }
 {
@@ -62,7 +62,6 @@ pub(crate) fn write_way_on<W: ByteOut>(given: &FlashArgs<'_>, writer: &mut W) ->
 
 /// Writes what sets the terminal of the device, where one is named.
 fn write_set<W: ByteOut>(device: Option<&str>, writer: &mut W) -> Result<(), Failed>
-    requires { W.count writer.old < 2 ^ 64 - 1 }
     ensures bytes { Writes (W.held writer.old) (W.held writer.new) result
         (set_text (option_map (λ t. t.now) device.entry)) }
     ensures count { Counts (W.count writer.old) (W.count writer.new) result }
@@ -75,7 +74,6 @@ fn write_set<W: ByteOut>(device: Option<&str>, writer: &mut W) -> Result<(), Fai
 
 /// Writes what sets the terminal of this device.
 fn write_setting<W: ByteOut>(device: &str, writer: &mut W) -> Result<(), Failed>
-    requires { W.count writer.old < 2 ^ 64 - 1 }
     ensures bytes { Writes (W.held writer.old) (W.held writer.new) result
         (stty_command device.now ++ codes " && ") }
     ensures count { Counts (W.count writer.old) (W.count writer.new) result }
@@ -86,7 +84,6 @@ fn write_setting<W: ByteOut>(device: &str, writer: &mut W) -> Result<(), Failed>
 
 /// Writes the command that goes on with work that stopped.
 fn write_command<W: ByteOut>(given: &FlashArgs<'_>, writer: &mut W) -> Result<(), Failed>
-    requires { W.count writer.old < 2 ^ 64 - 1 }
     ensures bytes { Writes (W.held writer.old) (W.held writer.new) result (next_command given.now) }
     ensures count { Counts (W.count writer.old) (W.count writer.new) result }
 {
@@ -96,12 +93,13 @@ fn write_command<W: ByteOut>(given: &FlashArgs<'_>, writer: &mut W) -> Result<()
 }
 
 /// Its options.
-fn options<'a>(given: &'a FlashArgs<'a>) -> [Given<'a>; 21]
+fn options<'a>(given: &'a FlashArgs<'a>) -> [Given<'a>; 22]
     ensures { flat_map given_text result ≡ next_options given.now }
 {
     [
         Given::Text(Name::Sfdp, given.chip.sfdp),
         Given::Text(Name::Uniform, given.chip.uniform),
+        Given::Text(Name::Sheet, given.chip.sheet),
         Given::Text(Name::Bits, given.chip.bits),
         Given::Text(Name::Part, given.chip.part),
         Given::Flag(Name::Mode4, given.mode4),
@@ -136,7 +134,6 @@ pub(crate) fn first_name<'a>(given: &FlashArgs<'a>) -> &'a str
 
 /// Writes options.
 fn write_options<W: ByteOut>(options: &[Given<'_>], writer: &mut W) -> Result<(), Failed>
-    requires { W.count writer.old < 2 ^ 64 - 1 }
     ensures bytes { Writes (W.held writer.old) (W.held writer.new) result
         (flat_map given_text options.now) }
     ensures count { Counts (W.count writer.old) (W.count writer.new) result }
@@ -149,7 +146,6 @@ fn write_options<W: ByteOut>(options: &[Given<'_>], writer: &mut W) -> Result<()
 
 /// Writes an option, where it is given.
 fn write_given<W: ByteOut>(option: Given<'_>, writer: &mut W) -> Result<(), Failed>
-    requires { W.count writer.old < 2 ^ 64 - 1 }
     ensures bytes { Writes (W.held writer.old) (W.held writer.new) result
         (given_text option.entry) }
     ensures count { Counts (W.count writer.old) (W.count writer.new) result }
@@ -163,7 +159,6 @@ fn write_given<W: ByteOut>(option: Given<'_>, writer: &mut W) -> Result<(), Fail
 
 /// Writes a flag, where it is given.
 fn write_flagged<W: ByteOut>(name: Name, is: bool, writer: &mut W) -> Result<(), Failed>
-    requires { W.count writer.old < 2 ^ 64 - 1 }
     ensures bytes { Writes (W.held writer.old) (W.held writer.new) result (flagged name is) }
     ensures count { Counts (W.count writer.old) (W.count writer.new) result }
 {
@@ -181,7 +176,6 @@ fn write_valued<W: ByteOut>(
     after: &[u8],
     writer: &mut W,
 ) -> Result<(), Failed>
-    requires { W.count writer.old < 2 ^ 64 - 1 }
     ensures bytes { Writes (W.held writer.old) (W.held writer.new) result
         (valued name (option_map (λ t. t.now) value.entry) after.now) }
     ensures count { Counts (W.count writer.old) (W.count writer.new) result }
@@ -199,7 +193,6 @@ fn write_value<W: ByteOut>(
     after: &[u8],
     writer: &mut W,
 ) -> Result<(), Failed>
-    requires { W.count writer.old < 2 ^ 64 - 1 }
     ensures bytes { Writes (W.held writer.old) (W.held writer.new) result
         (option_front name ++ (shell_word value.now ++ after.now)) }
     ensures count { Counts (W.count writer.old) (W.count writer.new) result }
@@ -211,7 +204,6 @@ fn write_value<W: ByteOut>(
 
 /// Writes what comes before the value of an option.
 fn write_front<W: ByteOut>(name: Name, writer: &mut W) -> Result<(), Failed>
-    requires { W.count writer.old < 2 ^ 64 - 1 }
     ensures bytes { Writes (W.held writer.old) (W.held writer.new) result (option_front name) }
     ensures count { Counts (W.count writer.old) (W.count writer.new) result }
 {
@@ -225,6 +217,7 @@ fn name_text(name: Name) -> &'static [u8]
     match name {
         Name::Sfdp => b"sfdp",
         Name::Uniform => b"uniform",
+        Name::Sheet => b"sheet",
         Name::Bits => b"bits",
         Name::Part => b"part",
         Name::Mode4 => b"mode4",
@@ -249,7 +242,6 @@ fn name_text(name: Name) -> &'static [u8]
 
 /// Writes the names of regions after `--`, where there are some.
 fn write_regions<W: ByteOut>(regions: &[Bytes], writer: &mut W) -> Result<(), Failed>
-    requires { W.count writer.old < 2 ^ 64 - 1 }
     ensures bytes { Writes (W.held writer.old) (W.held writer.new) result
         (regions_text regions.now) }
     ensures count { Counts (W.count writer.old) (W.count writer.new) result }
@@ -262,7 +254,6 @@ fn write_regions<W: ByteOut>(regions: &[Bytes], writer: &mut W) -> Result<(), Fa
 
 /// Writes `--` and the names of regions.
 fn write_named<W: ByteOut>(regions: &[Bytes], writer: &mut W) -> Result<(), Failed>
-    requires { W.count writer.old < 2 ^ 64 - 1 }
     ensures bytes { Writes (W.held writer.old) (W.held writer.new) result (named_text regions.now) }
     ensures count { Counts (W.count writer.old) (W.count writer.new) result }
 {
@@ -272,7 +263,6 @@ fn write_named<W: ByteOut>(regions: &[Bytes], writer: &mut W) -> Result<(), Fail
 
 /// Writes a blank and a name, of each region.
 fn write_names<W: ByteOut>(regions: &[Bytes], writer: &mut W) -> Result<(), Failed>
-    requires { W.count writer.old < 2 ^ 64 - 1 }
     ensures bytes { Writes (W.held writer.old) (W.held writer.new) result
         (flat_map region_word regions.now) }
     ensures count { Counts (W.count writer.old) (W.count writer.new) result }
@@ -285,7 +275,6 @@ fn write_names<W: ByteOut>(regions: &[Bytes], writer: &mut W) -> Result<(), Fail
 
 /// Writes a blank and a word.
 fn write_name<W: ByteOut>(name: &Bytes, writer: &mut W) -> Result<(), Failed>
-    requires { W.count writer.old < 2 ^ 64 - 1 }
     ensures bytes { Writes (W.held writer.old) (W.held writer.new) result (region_word name.now) }
     ensures count { Counts (W.count writer.old) (W.count writer.new) result }
 {

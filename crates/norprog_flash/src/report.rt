@@ -1,6 +1,6 @@
 //! What is reported of an ending, and its status.
 
-ghost use Rattle.std.specs.Prelude.{◌≡◌, ◌≤◌, ◌<◌, ◌-◌, ◌^◌, false};
+ghost use Rattle.std.specs.Prelude.{◌≡◌, ◌≤◌, false};
 ghost use Rattle.nor_base.specs.Device.{Counts, Writes};
 ghost use Rattle.norprog_common.specs.Told.{Says, output};
 ghost use Rattle.norprog_flash.specs.Answer.{family_of, state_told};
@@ -29,8 +29,6 @@ pub fn report_ending<O: ByteOut, E: ByteOut>(
     out: &mut O,
     err: &mut E,
 ) -> u8
-    requires out { O.count out.old < 2 ^ 64 - 1 }
-    requires err { E.count err.old < 2 ^ 64 - 1 }
     ensures said { Says (state_told ending given.now) (ending_line ending) (status_of ending)
         (output O.held O.count out.old out.new) (output E.held E.count err.old err.new) result }
     ensures status { result ≤ 3 }
@@ -45,7 +43,6 @@ pub fn report_ending<O: ByteOut, E: ByteOut>(
 
 /// Writes how to go on with a chip that may hold a part of the work, where that is so.
 fn write_state<E: ByteOut>(ending: Ending, given: &FlashArgs<'_>, err: &mut E) -> Result<(), Failed>
-    requires { E.count err.old < 2 ^ 64 - 1 }
     ensures bytes { Writes (E.held err.old) (E.held err.new) result (state_told ending given.now) }
     ensures count { Counts (E.count err.old) (E.count err.new) result }
     ensures quiet { is_partial ending ≡ false → err.new ≡ err.old }
@@ -59,7 +56,6 @@ fn write_state<E: ByteOut>(ending: Ending, given: &FlashArgs<'_>, err: &mut E) -
 
 /// Writes the line on how to go on.
 fn write_line<E: ByteOut>(given: &FlashArgs<'_>, err: &mut E) -> Result<(), Failed>
-    requires { E.count err.old < 2 ^ 64 - 1 }
     ensures bytes { Writes (E.held err.old) (E.held err.new) result (state_line given.now) }
     ensures count { Counts (E.count err.old) (E.count err.new) result }
 {
@@ -70,7 +66,6 @@ fn write_line<E: ByteOut>(given: &FlashArgs<'_>, err: &mut E) -> Result<(), Fail
 
 /// Writes what comes before the command.
 fn write_front<E: ByteOut>(first: &str, err: &mut E) -> Result<(), Failed>
-    requires { E.count err.old < 2 ^ 64 - 1 }
     ensures bytes { Writes (E.held err.old) (E.held err.new) result (state_front first.now) }
     ensures count { Counts (E.count err.old) (E.count err.new) result }
 {

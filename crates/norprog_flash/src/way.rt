@@ -1,7 +1,7 @@
 //! What is printed before the first step: the plan, and how to go on with work that stops on the
 //! way.
 
-ghost use Rattle.std.specs.Prelude.{◌≡◌, ◌<◌, ◌-◌, ◌^◌, count_by, nat_eq};
+ghost use Rattle.std.specs.Prelude.{◌≡◌, count_by, nat_eq};
 ghost use Rattle.nor_base.specs.Device.{Counts, Writes};
 ghost use Rattle.norprog_flash.specs.Way.{is_listed, last_text, lines_text, plan_text, way_line};
 ghost use Rattle.norprog_flash.specs.Way.{way_text};
@@ -23,7 +23,6 @@ const FRONT: &[u8] =
 /// Writes a plan: all its lines where they are asked for, or else how many they are; and its
 /// report.
 pub(crate) fn write_plan<O: ByteOut>(job: &Job<'_>, work: &Work, out: &mut O) -> Result<(), Failed>
-    requires { O.count out.old < 2 ^ 64 - 1 }
     ensures bytes { Writes (O.held out.old) (O.held out.new) result
         (plan_text job.now (plan_of work.now)) }
     ensures count { Counts (O.count out.old) (O.count out.new) result }
@@ -41,7 +40,6 @@ fn is_listed(job: &Job<'_>) -> bool
 
 /// Writes lines, or how many they are.
 fn write_lines<O: ByteOut>(listed: bool, lines: &[u8], out: &mut O) -> Result<(), Failed>
-    requires { O.count out.old < 2 ^ 64 - 1 }
     ensures bytes { Writes (O.held out.old) (O.held out.new) result
         (lines_text listed lines.now) }
     ensures count { Counts (O.count out.old) (O.count out.new) result }
@@ -69,7 +67,6 @@ pub(crate) fn write_last<O: ByteOut>(
     steps: &[Step],
     out: &mut O,
 ) -> Result<(), Failed>
-    requires { O.count out.old < 2 ^ 64 - 1 }
     ensures bytes { Writes (O.held out.old) (O.held out.new) result
         (last_text job.now reading.now steps.now) }
     ensures count { Counts (O.count out.old) (O.count out.new) result }
@@ -80,7 +77,6 @@ pub(crate) fn write_last<O: ByteOut>(
 
 /// Writes how to go on.
 fn write_way<O: ByteOut>(job: &Job<'_>, steps: &[Step], out: &mut O) -> Result<(), Failed>
-    requires { O.count out.old < 2 ^ 64 - 1 }
     ensures bytes { Writes (O.held out.old) (O.held out.new) result
         (way_text job.now.dry steps.now job.now.texts.now) }
     ensures count { Counts (O.count out.old) (O.count out.new) result }
@@ -96,7 +92,6 @@ fn write_way<O: ByteOut>(job: &Job<'_>, steps: &[Step], out: &mut O) -> Result<(
 
 /// Writes the line, closed by LF.
 fn write_line<W: ByteOut>(texts: &FlashArgs<'_>, writer: &mut W) -> Result<(), Failed>
-    requires { W.count writer.old < 2 ^ 64 - 1 }
     ensures bytes { Writes (W.held writer.old) (W.held writer.new) result (way_line texts.now) }
     ensures count { Counts (W.count writer.old) (W.count writer.new) result }
 {

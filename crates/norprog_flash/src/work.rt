@@ -1,16 +1,11 @@
 //! The work on a chip that was read and planned for.
 
-ghost use Rattle.std.specs.Prelude.{◌≡◌, ◌<◌, ◌≤◌, ◌+◌, ◌-◌, ◌^◌, All, length};
-ghost use Rattle.nor_base.specs.Device.{HaveRoom};
+ghost use Rattle.std.specs.Prelude.{◌≡◌, ◌<◌, ◌≤◌, ◌^◌, All, length};
 ghost use Rattle.nor_base.specs.Step.{expected};
-ghost use Rattle.nor_probe.specs.Compared.{CountsMismatch};
 ghost use Rattle.nor_serprog.specs.Done.{IsDoable};
-ghost use Rattle.nor_serprog.specs.declared.fault.Fault.TheVariants.{Read, Write};
-ghost use Rattle.norprog_flash.specs.Blame.{fault_of_ending};
-ghost use Rattle.norprog_device.specs.Wire.{wire};
+ghost use Rattle.norprog_common.specs.Wire.{wire};
 ghost use Rattle.norprog_flash.specs.Worked.{IsFailureAt, ReadsBack, WorksOut, back_of, session};
 ghost use Rattle.norprog_work.specs.Work.{plan_of};
-ghost use Rattle.norprog_device.specs.Blame.{CountsBoth};
 
 use crate::begun::Held;
 use crate::ending::Ending;
@@ -45,13 +40,9 @@ pub(crate) fn do_work<R: ByteIn, W: ByteOut, P: ByteOut>(
 ) -> Ending
     requires form { All IsDoable work.now.steps.items }
     requires size { length work.now.goal.items ≤ 2 ^ 32 }
-    requires room { HaveRoom (R.count from.old) (W.count to.old) }
-    requires told { P.count progress.old < 2 ^ 64 - 1 }
     ensures ends { WorksOut (session job.now limits.now held.now.reading)
         (wire (W.held to.old) (R.ahead from.old)) (wire (W.held to.new) (R.ahead from.new))
         (back_of job.now held.now.by) (plan_of work.now) result }
-    ensures counts { CountsBoth (R.count from.old) (R.count from.new) (W.count to.old)
-        (W.count to.new) (fault_of_ending result) }
 {
     let steps = work.steps.as_slice();
     if let Err(halt) = do_steps(from, to, limits, job.ask.turns, steps, progress) {
@@ -85,11 +76,8 @@ fn read_back<R: ByteIn, W: ByteOut>(
     bytes: &[u8],
 ) -> Result<(), Mismatch>
     requires size { length bytes.now ≤ 2 ^ 32 }
-    requires room { HaveRoom (R.count from.old) (W.count to.old) }
     ensures back { ReadsBack limits.now.asked (wire (W.held to.old) (R.ahead from.old))
         (wire (W.held to.new) (R.ahead from.new)) result back bytes.now }
-    ensures counts { CountsMismatch Read (R.count from.old) (R.count from.new) result
-        × CountsMismatch Write (W.count to.old) (W.count to.new) result }
 {
     read_again(from, to, limits, back.by, bytes)?;
     if back.larger {

@@ -19,13 +19,13 @@ use Rattle.nor_hex.specs.declared.fault.HexFault.{HexFault}
 use Rattle.nor_hex.specs.Faults.{IsImage}
 use Rattle.nor_hex.specs.Image.{Pairs, Puts, byte_at}
 use Rattle.nor_hex.specs.Record.{Record}
+use Rattle.nor_job.proofs.ChipLemmas.{one_chip}
 use Rattle.nor_job.specs.Causes.{LayoutSays}
 use Rattle.nor_job.specs.Status.{start_of}
 use Rattle.nor_job.specs.Task.{Task}
 use Rattle.nor_laws.specs.Laws.{OneList}
 use Rattle.nor_layout.specs.Chosen.{is_chosen}
 use Rattle.nor_layout.specs.Region.{Region}
-use Rattle.nor_sfdp.specs.declared.fault.SfdpFault.{SfdpFault}
 use Rattle.nor_job.specs.Wanted.{wanted}
 use Rattle.norprog_laws.specs.Checked.{Tells, BuiltIsRight, BuiltIsChecked}
 use Rattle.nor_job.proofs.TargetLemmas.{map_same}
@@ -85,9 +85,6 @@ regions_same : (o : Option (List ℕ)) (a b : List Region) → LayoutSays o a �
 regions_same None a b is_a is_b = is_a ∙ sym is_b
 regions_same (Some text) a b is_a is_b = is_a.spelled ∙ sym is_b.spelled
 
-meaning_same : (r : Result Parameters SfdpFault) (m n : Parameters) → r ≡ Ok m → r ≡ Ok n → m ≡ n
-meaning_same r m n is_m is_n = cc
-
 byte_same : (f g : ℕ → Option ℕ) (base : ℕ) (c : ℕ → Bool) → ((a : ℕ) → f a ≡ g a) → (a old : ℕ) → target_byte f base c a old ≡ target_byte g base c a old
 byte_same f g base c same a old = ap (λ o. if c a && nat_lt (base + a) (2 ^ 32) then unwrap_or o old else old) (same (base + a))
 
@@ -119,7 +116,7 @@ built_is_checked one t len before after rest x y found wrote tells checked =
     let start = start_of t in
     let named = checked.accepted.named in
     let own = wrote.accepted.named in
-    let m : checked.m ≡ wrote.m = meaning_same _ _ _ checked.accepted.means wrote.accepted.means in
+    let m : checked.m ≡ wrote.m = one_chip checked.accepted.means wrote.accepted.means in
     let content : checked.content ≡ wrote.content =
     given_same before rest after checked.content wrote.content tells checked.given wrote.given (checked.whole ∙ sym wrote.whole) in
     let goal : wanted t checked.image checked.regions wrote.content ≡ wanted t wrote.image wrote.regions wrote.content =

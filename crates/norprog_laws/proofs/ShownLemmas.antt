@@ -19,17 +19,17 @@ use Rattle.nor_laws.specs.Laws.{OneList}
 use Rattle.nor_play.specs.Play.{play}
 use Rattle.norprog_laws.specs.Replay.{NoIsReplayed, ShowsSo}
 use Rattle.norprog_check.specs.declared.finding.ShowingChip.{ShowingChip}
-use Rattle.norprog_check.specs.Checked.{IsShownOn, ShowsNo}
+use Rattle.norprog_check.specs.Checked.{IsShownOn, ShowsNo, trial}
 use Rattle.norprog_run.specs.declared.request.ChipBehaviour.{ChipBehaviour}
 use Rattle.norprog_run.specs.declared.verdict.Verdict.{Verdict}
 use Rattle.norprog_run.specs.declared.verdict.Verdict.TheVariants.{Done, Wrong}
-use Rattle.norprog_run.specs.Play.{EndsSo, setting_of}
+use Rattle.norprog_run.specs.Play.{EndsSo, setting_of, run_of}
 use Rattle.norprog_laws.specs.Shown.{SaysSo, IsBenchOf, NoIsRun}
 use Rattle.norprog_laws.proofs.BuiltLemmas.{given_same}
 
 -- what a play shows its verdict says
 says_so : (s : Setting) (c d : Chip) (limit step : ℕ) (steps : List Step) (want : List ℕ) (cause : Why) (verdict : Verdict)
-    → ShowsSo cause step (length steps) want (play s limit c steps) → EndsSo s c limit steps verdict d → SaysSo cause step want d verdict
+    → ShowsSo cause step (length steps) want (play s limit c steps) → EndsSo (run_of s c limit) steps verdict d → SaysSo cause step want d verdict
 says_so s c d limit step steps want (why.Wrong cause) (Done transactions) shows ends = subst (ShowsSo (why.Wrong cause) step (length steps) want) ends.0 shows
 says_so s c d limit step steps want (why.Wrong cause) (Wrong at because) shows ends = subst (ShowsSo (why.Wrong cause) step (length steps) want) ends shows
 says_so s c d limit step steps want (why.Differs a) (Done transactions) shows ends =
@@ -47,9 +47,9 @@ same_chip u m start chip bench is starts =
 
 -- what was found shows the no
 found_shows : (m : Parameters) (start : Start) (have want : List ℕ) (steps : List Step) (v : Judged) (o : Option ShowingChip) (step : ℕ) (cause : Why) (chip : ShowingChip)
-    → v ≡ No step cause → o ≡ Some chip → IsShownOn m start have want steps v o → ShowsNo m start have want steps step cause chip
+    → v ≡ No step cause → o ≡ Some chip → IsShownOn (trial m start have want steps) v o → ShowsNo (trial m start have want steps) step cause chip
 found_shows m start have want steps v o step cause chip is some shown =
-    subst (IsShownOn m start have want steps (No step cause)) some (subst (λ w. IsShownOn m start have want steps w o) is shown)
+    subst (IsShownOn (trial m start have want steps) (No step cause)) some (subst (λ w. IsShownOn (trial m start have want steps) w o) is shown)
 
 pub no_is_run : OneList → NoIsReplayed → NoIsRun
 no_is_run one replays t u len text before after rest found step cause chip bench held held' verdict checked is some of ran tells same_m starts few =
@@ -64,9 +64,9 @@ no_is_run one replays t u len text before after rest found step cause chip bench
     let shown : ShowsSo cause step (length checked.steps) want (play s bench.limit (ready s have) checked.steps) =
     replays m start have want checked.steps step cause chip.each_busy (unwrap_or chip.page m.page) bench.limit most_times chip.keep shows.shows of.limit
     (subst (λ (xs : List Step). length xs ≤ most_times) steps few) in
-    let ends : EndsSo s (ready s have) bench.limit checked.steps verdict ran.chip =
-    subst (λ (xs : List Step). EndsSo s (ready s have) bench.limit xs verdict ran.chip) steps
-    (subst (λ (array : List ℕ). EndsSo s (ready s array) bench.limit ran.steps verdict ran.chip) content
-    (subst (λ (t : Setting). EndsSo t (ready t ran.content) bench.limit ran.steps verdict ran.chip) (same_chip u m start chip bench of starts)
-    (subst (λ (n : Parameters). EndsSo (setting_of u bench n) (ready (setting_of u bench n) ran.content) bench.limit ran.steps verdict ran.chip) same_m ran.ends))) in
+    let ends : EndsSo (run_of s (ready s have) bench.limit) checked.steps verdict ran.chip =
+    subst (λ (xs : List Step). EndsSo (run_of s (ready s have) bench.limit) xs verdict ran.chip) steps
+    (subst (λ (array : List ℕ). EndsSo (run_of s (ready s array) bench.limit) ran.steps verdict ran.chip) content
+    (subst (λ (t : Setting). EndsSo (run_of t (ready t ran.content) bench.limit) ran.steps verdict ran.chip) (same_chip u m start chip bench of starts)
+    (subst (λ (n : Parameters). EndsSo (run_of (setting_of u bench n) (ready (setting_of u bench n) ran.content) bench.limit) ran.steps verdict ran.chip) same_m ran.ends))) in
     says_so s (ready s have) ran.chip bench.limit step checked.steps want cause verdict shown ends

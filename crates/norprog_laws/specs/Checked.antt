@@ -11,7 +11,7 @@ use Rattle.nor_job.specs.Task.{Task}
 use Rattle.nor_job.specs.Wanted.{wanted}
 use Rattle.norprog.specs.Build.{WroteScript}
 use Rattle.norprog_check.specs.declared.finding.Finding.{Finding}
-use Rattle.norprog_check.specs.Checked.{IsChecked}
+use Rattle.norprog_check.specs.Checked.{IsChecked, checking}
 
 -- whatever steps the text that was appended spells, the worst verdict on them is Yes
 abbrev pub BuiltIsRight : Type 0
@@ -28,4 +28,4 @@ Tells (Endless byte_at) = ⊤
 -- a check of that text, for the same inputs and with the same bytes ahead, finds Yes
 abbrev pub BuiltIsChecked : Type 0
 BuiltIsChecked = (t : Task) (len : ℕ) (before after rest : Ahead) (x y : Option (List ℕ)) (found : Finding)
-    → (wrote : WroteScript t len before after x y) → Tells before → IsChecked t len wrote.text before rest found → found.verdict ≡ Yes
+    → (wrote : WroteScript t len before after x y) → Tells before → IsChecked (checking t len before rest) wrote.text found → found.verdict ≡ Yes

@@ -17,7 +17,7 @@ use Rattle.nor_hex.specs.Image.{address_of, base_after, base_in, byte_at, Puts}
 use Rattle.nor_hex.specs.Record.{Record, record_of}
 use Rattle.nor_hex.specs.Records.{line_records}
 use Rattle.nor_job.specs.Causes.{LayoutSays}
-use Rattle.nor_job.specs.Chip.{chip_says, uniform_says}
+use Rattle.nor_job.specs.Chip.{ChipSays, uniform_says}
 use Rattle.nor_job.specs.Status.{start_of, status_fault}
 use Rattle.nor_job.specs.Task.{Task, Uniform, contradiction}
 use Rattle.nor_job.specs.Wanted.{wanted}
@@ -178,8 +178,8 @@ pub record AreStates : Type 0 where
   pub said_twice : contradiction (record (plain 8192) { status = Some 0; part = W25q256jv; quad = true }) ≡ Some 3
   pub of_a_part : contradiction (record (plain 8192) { part = W25q256jv }) ≡ Some 4
   pub consistent : contradiction (plain 8192) ≡ None
-  pub says : chip_says (plain 8192) ≡ Ok (uniform_of 8192)
-  pub says_erased : chip_says (record (plain 8192) { erased_only = true }) ≡ Ok (record (uniform_of 8192) { erased_only = true })
+  pub says : ChipSays (plain 8192) (uniform_of 8192)
+  pub says_erased : ChipSays (record (plain 8192) { erased_only = true }) (record (uniform_of 8192) { erased_only = true })
   pub no_size : uniform_says 8193 ≡ Err sfdp.Density
   pub page : map (may_page (uniform_of 8192)) (128 ∷ 256 ∷ 512 ∷ []) ≡ false ∷ true ∷ false ∷ []
   pub open_page :

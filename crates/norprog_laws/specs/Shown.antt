@@ -12,12 +12,13 @@ use Rattle.nor_job.specs.Task.{Task}
 use Rattle.nor_job.specs.Wanted.{wanted}
 use Rattle.norprog_check.specs.declared.finding.Finding.{Finding}
 use Rattle.norprog_check.specs.declared.finding.ShowingChip.{ShowingChip}
-use Rattle.norprog_check.specs.Checked.{IsChecked}
+use Rattle.norprog_check.specs.Checked.{IsChecked, checking}
 use Rattle.norprog_laws.specs.Checked.{Tells}
 use Rattle.norprog_run.specs.declared.request.ChipBehaviour.{ChipBehaviour}
 use Rattle.norprog_run.specs.declared.verdict.Verdict.{Verdict}
 use Rattle.norprog_run.specs.declared.verdict.Verdict.TheVariants.{Done, Wrong}
-use Rattle.norprog_run.specs.Play.{WasPlayed}
+use Rattle.nor_job.specs.Written.{passed}
+use Rattle.norprog_run.specs.Play.{play_of, WasPlayed}
 
 -- a run says just what a no says: it goes wrong at that step for that cause; or it ends well, and the chip has another byte there
 abbrev pub SaysSo : Why → ℕ → List ℕ → Chip → Verdict → Type 0
@@ -38,6 +39,6 @@ pub record IsBenchOf (chip : ShowingChip) (bench : ChipBehaviour) : Type 0 where
 abbrev pub NoIsRun : Type 0
 NoIsRun = (t u : Task) (len : ℕ) (text : List ℕ) (before after rest : Ahead) (found : Finding) (step : ℕ) (cause : Why) (chip : ShowingChip)
     (bench : ChipBehaviour) (held held' : Option (List ℕ)) (verdict : Verdict)
-    → (checked : IsChecked t len text before after found) → found.verdict ≡ No step cause → found.chip ≡ Some chip → IsBenchOf chip bench
-    → (ran : WasPlayed u bench text len before rest held held' verdict) → Tells before → ran.m ≡ checked.m → start_of u ≡ start_of t
+    → (checked : IsChecked (checking t len before after) text found) → found.verdict ≡ No step cause → found.chip ≡ Some chip → IsBenchOf chip bench
+    → (ran : WasPlayed (play_of u bench len (passed before rest held held')) text verdict) → Tells before → ran.m ≡ checked.m → start_of u ≡ start_of t
     → length ran.steps ≤ most_times → SaysSo cause step (wanted t checked.image checked.regions checked.content) ran.chip verdict

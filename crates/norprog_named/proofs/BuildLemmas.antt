@@ -1,6 +1,6 @@
 -- Why a job isn't done.
 use Rattle.std.proofs.Common.{◌≡◌, ◌⊎◌, ◌<◌, ℕ, ◌+◌, inl, inr, List, arith, subst, sym}
-use Rattle.nor_base.specs.Device.{Ahead}
+use Rattle.nor_base.specs.Device.{Ahead, one_more, raised}
 use Rattle.nor_job.specs.Causes.{RefusesInputs}
 use Rattle.nor_job.specs.Task.{Task}
 use Rattle.nor_job.specs.Written.{of_reader, of_writer}
@@ -16,15 +16,15 @@ use Rattle.norprog_named.specs.Job.{IsJobOf}
 use Rattle.norprog_named.specs.Build.{Breaking, Refused, Stopped, Undone, Work}
 
 -- a failure that is reported was counted
-read_rose : (m n : ℕ) (why : BuildFault) → n ≡ m + of_reader why → why ≡ fault.Read → m < n
-read_rose m n why counts is = let one : n ≡ m + 1 = subst (λ (w : BuildFault). n ≡ m + of_reader w) is counts in omega (arith, one)
+read_rose : (m n : ℕ) (why : BuildFault) → n ≡ raised m (of_reader why) → why ≡ fault.Read → n ≡ one_more m
+read_rose m n why counts is = subst (λ (w : BuildFault). n ≡ raised m (of_reader w)) is counts
 
-write_rose : (m n : ℕ) (why : BuildFault) → n ≡ m + of_writer why → why ≡ fault.Write → m < n
-write_rose m n why counts is = let one : n ≡ m + 1 = subst (λ (w : BuildFault). n ≡ m + of_writer w) is counts in omega (arith, one)
+write_rose : (m n : ℕ) (why : BuildFault) → n ≡ raised m (of_writer why) → why ≡ fault.Write → n ≡ one_more m
+write_rose m n why counts is = subst (λ (w : BuildFault). n ≡ raised m (of_writer w)) is counts
 
 pub stopped : (rules : ImageRules) (w : Work) (Stops : BuildFault → Type 0) (A B : Type 0) (k k' m m' : ℕ) (why : BuildFault)
     → MeetsRules rules w.task w.len → (RefusesInputs w.task w.len why × A × B) ⊎ Stops why → (B → w.ended ≡ w.begun)
-    → k' ≡ k + of_reader why → m' ≡ m + of_writer why → Undone rules w Stops (k < k') (m < m') (Build why)
+    → k' ≡ raised k (of_reader why) → m' ≡ raised m (of_writer why) → Undone rules w Stops (k' ≡ one_more k) (m' ≡ one_more m) (Build why)
 stopped rules w Stops A B k k' m m' why full (inl early) same read wrote = Refused why early.0 (same early.2)
 stopped rules w Stops A B k k' m m' why full (inr late) same read wrote =
     Stopped why full late (read_rose k k' why read) (write_rose m m' why wrote)

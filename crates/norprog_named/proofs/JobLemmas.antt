@@ -3,22 +3,23 @@ use Rattle.std.proofs.Common.{◌≡◌, ℕ, List, [], ◌∷◌, ◌++◌, Glo
 use Rattle.std.specs.Prelude.{IsErrAnd}
 use Rattle.nor_base.specs.Device.{Ahead}
 use Rattle.nor_job.specs.Task.{Task}
-use Rattle.norprog_common.specs.Chip.{Origin, Sfdp}
+use Rattle.norprog_common.specs.Chip.{Origin, Sfdp, Sheet}
 use Rattle.norprog_common.specs.declared.faults.FileName.{FileName}
 use Rattle.norprog_common.specs.declared.faults.FileName.TheVariants as file
 use Rattle.norprog_common.specs.declared.faults.Refusal.{Refusal}
 use Rattle.norprog_common.specs.declared.request.Request.{Request}
 use Rattle.norprog_files.specs.Files.{AreUsed, Denied, Denies, Event, Given, Here, IsGiven, IsOpened, NoneUsed, OneUsed, Opened, StopsOpening, came}
 use Rattle.norprog_files.proofs.FilesLemmas.{Inputs}
-use Rattle.norprog_named.specs.Job.{IsJobOf, Named, NoChip, NoTables, OfChip, Opens_job, Reading, Reads, ReadsNamed, ReadsTables, Tables, Unnamed, chip_files, job_files, named_by, tables_of}
+use Rattle.norprog_named.specs.Job.{IsJobOf, Named, NoChip, NoTables, OfChip, Opens_job, Reading, Reads, ReadsNamed, ReadsTables, Tables, Text, Unnamed, chip_files, job_files, named_by, origin_files}
 
 pub reads_used : (name : FileName) {path bytes : Option (List ℕ)} {log : List Event} → Reads path bytes log → AreUsed (named_by name path) log
 reads_used name Unnamed = NoneUsed
 reads_used name (Named path bytes) = OneUsed name path _ (Given path bytes) _ (IsGiven bytes) NoneUsed
 
-pub tables_used : {origin : Origin} {bytes : List ℕ} {log : List Event} → ReadsTables origin bytes log → AreUsed (named_by file.Sfdp (tables_of origin)) log
+pub tables_used : {origin : Origin} {bytes : List ℕ} {log : List Event} → ReadsTables origin bytes log → AreUsed (origin_files origin) log
 tables_used (Tables path bits bytes) = OneUsed file.Sfdp path _ (Given path bytes) _ (IsGiven bytes) NoneUsed
 tables_used (NoTables size bytes) = NoneUsed
+tables_used (Text path text) = OneUsed file.Sheet path _ (Given path text) _ (IsGiven text) NoneUsed
 
 -- all of a job were
 used_both : {xs ys : Inputs} {front log : List Event} → AreUsed xs front → AreUsed ys log → AreUsed (xs ++ ys) (front ++ log)
@@ -43,12 +44,18 @@ pub tables_read : (path bits : List ℕ) (result : Result (Vec ℕ Global) Refus
 tables_read path bits (Ok bytes) denied = Tables path bits bytes.items
 tables_read path bits (Err why) denied = Here file.Sfdp path [] why denied
 
+-- a sheet was read, or can't be
+pub sheet_read : (path : List ℕ) (result : Result (Vec ℕ Global) Refusal) → IfErr result (Denies file.Sheet)
+    → Reading ((file.Sheet, path) ∷ []) (λ bytes. ReadsTables (Sheet path) bytes.items) result (came result (λ bytes. Given path bytes.items) (Denied path))
+sheet_read path (Ok bytes) denied = Text path bytes.items
+sheet_read path (Err why) denied = Here file.Sheet path [] why denied
+
 pub named_used : {chip : Option Origin} {tables : List ℕ} {log : List Event} → ReadsNamed chip tables log → AreUsed (chip_files chip) log
 named_used (NoChip tables) = NoneUsed
 named_used (OfChip origin tables log read) = tables_used read
 
 pub chip_read : (origin : Origin) (result : Result (Vec ℕ Global) Refusal) (log : List Event)
-    → Reading (named_by file.Sfdp (tables_of origin)) (λ bytes. ReadsTables origin bytes.items) result log
+    → Reading (origin_files origin) (λ bytes. ReadsTables origin bytes.items) result log
     → Reading (chip_files (Some origin)) (λ tables. ReadsNamed (Some origin) tables.items) result log
 chip_read origin (Ok bytes) log read = OfChip origin bytes.items log read
 chip_read origin (Err why) log stops = stops

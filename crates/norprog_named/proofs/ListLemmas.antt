@@ -1,7 +1,7 @@
 -- How the listing of the script that was opened ends.
 use Rattle.std.proofs.Common.{◌≡◌, ◌<◌, ℕ, Bool, List, [], ◌∷◌, ◌++◌, Ok, Err, arith, subst, sym}
 use Rattle.nor_base.specs.Chip.{begins4}
-use Rattle.nor_base.specs.Device.{Ahead}
+use Rattle.nor_base.specs.Device.{Ahead, one_more}
 use Rattle.nor_base.specs.Parameters.{Parameters}
 use Rattle.nor_job.specs.Status.{start_of}
 use Rattle.nor_job.specs.Task.{Task}
@@ -36,7 +36,7 @@ module _ {t : Task} {m : Parameters} {four : Bool} {ahead : Ahead} (Unread : Typ
 
   -- its reader failed, or the output did, where its count of failures rose
   pub stopped : (n n' k k' : ℕ) (s : Stop) → Lists m four ahead rest out.before out.after (Err s) → CountsStop n n' (Err s) → CountsOut {T = Unit {0}} k k' (Err s)
-      → (n < n' → Unread) → (k < k' → Fails out) → EndsList Unread r out log (Err (refusal_of s))
+      → (n' ≡ one_more n → Unread) → (k' ≡ one_more k → Fails out) → EndsList Unread r out log (Err (refusal_of s))
   stopped n n' k k' (stop.Script (read.Script (script.Header i))) did reads writes unread broke = BadScript _ log (script.Header i) (of did.0 did.1) did.2
   stopped n n' k k' (stop.Script (read.Script (script.BadLine i))) did reads writes unread broke = BadScript _ log (script.BadLine i) (of did.0 did.1) did.2
   stopped n n' k k' (stop.Script (read.Script (script.BadSymbol i))) did reads writes unread broke = BadScript _ log (script.BadSymbol i) (of did.0 did.1) did.2
@@ -44,5 +44,5 @@ module _ {t : Task} {m : Parameters} {four : Bool} {ahead : Ahead} (Unread : Typ
   stopped n n' k k' (stop.Script (read.Script (script.NoEnd i))) did reads writes unread broke = BadScript _ log (script.NoEnd i) (of did.0 did.1) did.2
   stopped n n' k k' (stop.Script (read.Script (script.AfterEnd i))) did reads writes unread broke = BadScript _ log (script.AfterEnd i) (of did.0 did.1) did.2
   stopped n n' k k' (stop.Script (read.Script script.Memory)) did reads writes unread broke = NoMemory _ log (of did.0 did.1) did.2
-  stopped n n' k k' (stop.Script (read.Device failed)) did reads writes unread broke = BadReading _ log (of did.0 did.1) did.2 (unread (omega (arith, reads)))
-  stopped n n' k k' (stop.Out failed) did reads writes unread broke = BadOutput _ log (of did.0 did.1) did.2 (broke (omega (arith, writes)))
+  stopped n n' k k' (stop.Script (read.Device failed)) did reads writes unread broke = BadReading _ log (of did.0 did.1) did.2 (unread reads)
+  stopped n n' k k' (stop.Out failed) did reads writes unread broke = BadOutput _ log (of did.0 did.1) did.2 (broke writes)

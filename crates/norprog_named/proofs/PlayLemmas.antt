@@ -1,6 +1,8 @@
 -- A play that ended, or didn't begin.
 use Rattle.std.proofs.Common.{◌≡◌, ◌∙◌, ◌<◌, ◌+◌, ℕ, Bool, List, [], ◌∷◌, Result, Ok, Err, ap, arith, subst}
 use Rattle.std.specs.Prelude.{MatchResult}
+use Rattle.nor_base.proofs.DeviceLaws.{risen_some}
+use Rattle.nor_base.specs.Device.{raised}
 use Rattle.nor_base.specs.Port.{Shown}
 use Rattle.nor_base.specs.declared.meaning.Part.{Part}
 use Rattle.nor_base.specs.declared.meaning.Start.{Start}
@@ -11,7 +13,8 @@ use Rattle.norprog_common.specs.Content.{of_reader}
 use Rattle.norprog_common.specs.declared.faults.FileName.TheVariants as file
 use Rattle.norprog_common.specs.declared.faults.Refusal.{Refusal}
 use Rattle.norprog_common.specs.declared.faults.Refusal.TheVariants.{Build, File}
-use Rattle.norprog_files.specs.Files.{Unwired, Wire, Wired}
+use Rattle.norprog_common.specs.Wire.{Wire}
+use Rattle.norprog_files.specs.Files.{Unwired, Wired}
 use Rattle.norprog_named.specs.Play.{EndsPlaying, OnDevice, Stopped, begun}
 use Rattle.norprog_player.specs.Expected.{Expectation, Play}
 use Rattle.norprog_player.specs.Job.{of_script}
@@ -22,17 +25,17 @@ use Rattle.norprog_player.specs.declared.ending.Ending.{Ending}
 use Rattle.norprog_player.specs.declared.unplayed.Unplayed.{Unplayed}
 
 pub ends_playing : (device : List ℕ) (p : Play) (first last : Wire) (shown : Shown) (result : Result Ending Unplayed)
-    → MatchResult result (EndsOnDevice p (begun p first) (moment shown last.sent last.ahead)) (StopsOnDevice p (begun p first) (moment shown last.sent last.ahead))
+    → MatchResult result (EndsOnDevice p (begun p first) (moment shown last.held last.ahead)) (StopsOnDevice p (begun p first) (moment shown last.held last.ahead))
     → EndsPlaying device p (Wired device first ∷ Unwired device last ∷ []) result
 ends_playing device p first last shown (Ok ending) ends = OnDevice first last shown ending ends
 ends_playing device p first last shown (Err why) ends = Stopped first last shown why ends
 
 -- a reader that is blamed has failed, where none had before
-pub script_failed : (m n : ℕ) (why : Refusal) → n ≡ m + of_script why → why ≡ File file.Script → 0 < n
-script_failed m n why counts is = let one : n ≡ m + 1 = subst (λ (w : Refusal). n ≡ m + of_script w) is counts in omega (arith, one)
+pub script_failed : (m n : ℕ) (why : Refusal) → n ≡ raised m (of_script why) → why ≡ File file.Script → 0 < n
+script_failed m n why counts is = risen_some m n (subst (λ (w : Refusal). n ≡ raised m (of_script w)) is counts)
 
-pub content_failed : (m n : ℕ) (why : Refusal) → n ≡ m + of_reader why → why ≡ Build Read → 0 < n
-content_failed m n why counts is = let one : n ≡ m + 1 = subst (λ (w : Refusal). n ≡ m + of_reader w) is counts in omega (arith, one)
+pub content_failed : (m n : ℕ) (why : Refusal) → n ≡ raised m (of_reader why) → why ≡ Build Read → 0 < n
+content_failed m n why counts is = risen_some m n (subst (λ (w : Refusal). n ≡ raised m (of_reader w)) is counts)
 
 -- the chip that is expected, by what the code says of how it begins and of its tables
 abbrev expected_of : Part → Start → List ℕ → Bool → Expectation

@@ -1,6 +1,7 @@
 -- How a play on the files that were opened ends.
 use Rattle.std.proofs.Common.{◌≡◌, ◌<◌, ℕ, true, false, List, [], ◌∷◌, ◌++◌, Option, Some, None, Result, Ok, Err, IfOk, IfErr, is_ok, arith, refl, subst, sym}
-use Rattle.nor_base.specs.Device.{Ahead}
+use Rattle.nor_base.proofs.DeviceLaws.{risen_some}
+use Rattle.nor_base.specs.Device.{Ahead, one_more}
 use Rattle.nor_job.specs.declared.fault.BuildFault.TheVariants as fault
 use Rattle.nor_script.specs.Stream.{HadText}
 use Rattle.norprog_common.specs.declared.faults.FileName.TheVariants as file
@@ -11,7 +12,8 @@ use Rattle.norprog_common.specs.declared.given.OutFile.{OutFile}
 use Rattle.norprog_files.specs.declared.replaced.OutKind.TheVariants.{Content}
 use Rattle.norprog_files.specs.Files.{Event, Lost, Made, Sent, closing}
 use Rattle.norprog_named.specs.Run.{Closes, EndsRun, IsPlayOf, NoOut, OpensPlay, OutLost, OutSent, Played, Refused}
-use Rattle.norprog_run.specs.Stream.{Blames, IsPlayed, Play, Unplayed}
+use Rattle.norprog_run.specs.Play.{Play}
+use Rattle.norprog_run.specs.Stream.{Blames, IsPlayed, Unplayed}
 use Rattle.norprog_run.specs.declared.request.RunRequest.{RunRequest}
 use Rattle.norprog_run.specs.declared.verdict.Verdict.{Verdict}
 
@@ -41,8 +43,8 @@ closes p (Ok x) o out is = sent p o out is
 closes p (Err why) o out is = kept p o out is
 
 -- one that failed before isn't closed as one of which all has gone out
-pub unsent : {T E : Type 0} (result : Result T E) (m n : ℕ) → IfOk result (λ _. n ≡ 0) → m < n → is_ok result ≡ false
-unsent (Ok x) m n whole more = absurd (omega (arith, whole, more))
+pub unsent : {T E : Type 0} (result : Result T E) (m n : ℕ) → IfOk result (λ _. n ≡ 0) → n ≡ one_more m → is_ok result ≡ false
+unsent (Ok x) m n whole more = absurd (let some = risen_some m n more in omega (arith, some, whole))
 unsent (Err why) m n whole more = refl
 
 -- a play without an output

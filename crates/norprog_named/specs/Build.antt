@@ -1,5 +1,6 @@
 -- How `build` ends (this project's).
 use Rattle.std.specs.Prelude.{◌≡◌, ℕ, List, [], ◌∷◌, ◌++◌, Option, Result, Ok, Err}
+use Rattle.nor_job.specs.Written.{Passed}
 use Rattle.nor_base.specs.Device.{Ahead}
 use Rattle.nor_job.specs.declared.fault.BuildFault.{BuildFault}
 use Rattle.nor_job.specs.declared.fault.BuildFault.TheVariants as fault
@@ -28,8 +29,8 @@ pub record Work : Type 0 where
   pub begun : Option (List ℕ)
   pub ended : Option (List ℕ)
 
-abbrev pub work : Task → ℕ → Ahead → Ahead → Option (List ℕ) → Option (List ℕ) → Work
-work t len content rest begun ended = record { task = t; len = len; content = content; rest = rest; begun = begun; ended = ended }
+abbrev pub work : Task → ℕ → Passed → Work
+work t len by = record { task = t; len = len; content = by.ahead; rest = by.rest; begun = by.begun; ended = by.ended }
 
 -- the headline's: the script of the task was written whole, and this is its report
 abbrev pub IsBuiltBy : Work → Report → Type 0

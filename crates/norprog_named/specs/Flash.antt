@@ -1,5 +1,5 @@
 -- How `flash` ends (this project's).
-use Rattle.std.specs.Prelude.{◌≡◌, ℕ, ◌&&◌, not, List, [], ◌∷◌, ◌++◌, if◌then◌else◌, Option, Some, None, option_map, Result, Ok, Err}
+use Rattle.std.specs.Prelude.{◌≡◌, ⊤, ℕ, ◌&&◌, not, List, [], ◌∷◌, ◌++◌, if◌then◌else◌, Option, Some, None, option_map, Result, Ok, Err}
 use Rattle.nor_serprog.specs.Greeting.{Greeted}
 use Rattle.nor_serprog.specs.declared.fault.GreetFault.{GreetFault}
 use Rattle.nor_serprog.specs.declared.limits.Limits.{Limits}
@@ -10,7 +10,8 @@ use Rattle.norprog_common.specs.declared.faults.Refusal.{Refusal}
 use Rattle.norprog_device.specs.Blame.{is_cut}
 use Rattle.norprog_device.specs.Opened.{LetsGo}
 use Rattle.norprog_device.specs.declared.fault.DeviceFault.TheVariants.{Greet}
-use Rattle.norprog_files.specs.Files.{Event, Denied, Denies, Given, StopsOpening, Unwired, Wire, Wired}
+use Rattle.norprog_common.specs.Wire.{Wire}
+use Rattle.norprog_files.specs.Files.{Event, Denied, Denies, Given, StopsOpening, Unwired, Wired}
 use Rattle.norprog_flash.specs.Begun.{Printed}
 use Rattle.norprog_flash.specs.Blame.{fault_in}
 use Rattle.norprog_flash.specs.Early.{IsSoundEarly, RefusesEarly}
@@ -21,7 +22,7 @@ use Rattle.norprog_flash.specs.declared.ending.Unflashed.{Unflashed}
 use Rattle.norprog_flash.specs.declared.ending.Unflashed.TheVariants.{Device, Refused}
 use Rattle.norprog_flash.specs.declared.job.Job.{Job}
 use Rattle.norprog_flash.specs.declared.request.FlashRequest.{FlashRequest}
-use Rattle.norprog_named.specs.Job.{Reads, ReadsNamed, chip_files, named_by, wire_of}
+use Rattle.norprog_named.specs.Job.{Reads, ReadsNamed, chip_files, named_by}
 use Rattle.norprog_named.specs.Saved.{SavesIf}
 use Rattle.norprog_named.specs.declared.flash_files.FlashTexts.{FlashTexts}
 use Rattle.norprog_read.specs.Request.{IsAskOf}
@@ -40,6 +41,11 @@ pub data ReadsFlash (r : FlashRequest) (held : FlashTexts) : List Event → Type
       → ReadsNamed (option_map origin_of r.read.chip) held.sfdp.items tables
       → Reads (option_map (λ t. t.now) r.resume) (option_map (λ bytes. bytes.items) held.old) old
       → ReadsFlash r held (Given r.hex.now held.hex.items ∷ (layout ++ (tables ++ old)))
+
+-- standard output failed only where work was refused
+abbrev pub StillWorks : Result Ending Unflashed → ℕ → ℕ → Type 0
+StillWorks (Err (Refused why)) before after = ⊤
+StillWorks answer before after = after ≡ before
 
 -- how the chip is read: its content too, which is saved
 abbrev pub reading_of : FlashRequest → ReadRequest
@@ -82,15 +88,15 @@ pub data EndsHeld (limits : Limits) (name : List ℕ) (job : Job) (begun done : 
   where
     -- what the chip held is saved, and then the work on it ended so
     Ended : (r : Reading) (saved : List Event) (ending : Ending) → SavesIf (file_for job name) file.Before r.content.items saved (Ok tt)
-        → EndsTested limits job (wire_of begun) (wire_of done) out r ending → EndsHeld limits name job begun done out saved (Ok ending)
+        → EndsTested limits job begun done out r ending → EndsHeld limits name job begun done out saved (Ok ending)
     -- the chip isn't read, or can't take the work
-    NotHeld : (why : Unflashed) → StopsHolding limits job (wire_of begun) (wire_of done) why → out.after ≡ out.before
+    NotHeld : (why : Unflashed) → StopsHolding limits job begun done why → out.after ≡ out.before
         → EndsHeld limits name job begun done out [] (Err why)
     -- it was read, and nothing else was sent; what it holds can't be saved
-    NotSaved : (r : Reading) (saved : List Event) (why : Refusal) → HasHeld limits job (wire_of begun) (wire_of done) r
+    NotSaved : (r : Reading) (saved : List Event) (why : Refusal) → HasHeld limits job begun done r
         → SavesIf (file_for job name) file.Before r.content.items saved (Err why) → out.after ≡ out.before → EndsHeld limits name job begun done out saved (Err (Refused why))
     -- that is saved, and nothing else was sent; the work can't be planned or printed
-    NotPlanned : (r : Reading) (saved : List Event) (why : Refusal) → HasHeld limits job (wire_of begun) (wire_of done) r
+    NotPlanned : (r : Reading) (saved : List Event) (why : Refusal) → HasHeld limits job begun done r
         → SavesIf (file_for job name) file.Before r.content.items saved (Ok tt) → CantPlan job r out why
         → EndsHeld limits name job begun done out saved (Err (Refused why))
 
@@ -98,10 +104,10 @@ pub data EndsHeld (limits : Limits) (name : List ℕ) (job : Job) (begun done : 
 pub data EndsGreeted (name : List ℕ) (job : Job) (first last : Wire) (out : Printed) : List Event → Result Ending Unflashed → Type 0 where
   -- the device reported these limits, and the job ended so; then the pins were let go, unless a request was cut
   Session : (limits : Limits) (begun done : Wire) (log : List Event) (answer : Result Ending Unflashed)
-      → Greeted first.sent begun.sent first.ahead begun.ahead (Ok limits) → EndsHeld limits name job begun done out log answer
-      → LetsGo done.sent last.sent done.ahead last.ahead (limits.pins && not (is_cut (fault_in answer))) → EndsGreeted name job first last out log answer
+      → Greeted first.held begun.held first.ahead begun.ahead (Ok limits) → EndsHeld limits name job begun done out log answer
+      → LetsGo done last (limits.pins && not (is_cut (fault_in answer))) → EndsGreeted name job first last out log answer
   -- the handshake ended early
-  NotGreeted : (why : GreetFault) → Greeted first.sent last.sent first.ahead last.ahead (Err why) → out.after ≡ out.before
+  NotGreeted : (why : GreetFault) → Greeted first.held last.held first.ahead last.ahead (Err why) → out.after ≡ out.before
       → EndsGreeted name job first last out [] (Err (Device (Greet why)))
 
 -- of a job on the device of a name

@@ -2,14 +2,12 @@
 use Rattle.std.specs.Prelude.{◌≡◌, ℕ, List, [], ◌∷◌, ◌++◌, Option, Some, None, Result, Ok, Err, option_map}
 use Rattle.nor_base.specs.Device.{Ahead}
 use Rattle.nor_job.specs.Task.{Task}
-use Rattle.norprog_common.specs.Chip.{Origin, Sfdp, Uniform, origin_of}
+use Rattle.norprog_common.specs.Chip.{Origin, Sfdp, Uniform, Sheet, origin_of}
 use Rattle.norprog_common.specs.Held.{Held, task_by}
 use Rattle.norprog_common.specs.declared.faults.FileName.{FileName}
 use Rattle.norprog_common.specs.declared.faults.FileName.TheVariants as file
 use Rattle.norprog_common.specs.declared.faults.Refusal.{Refusal}
 use Rattle.norprog_common.specs.declared.request.Request.{Request}
-use Rattle.norprog_device.specs.Wire.{Wire, wire}
-use Rattle.norprog_files.specs.Files as files
 use Rattle.norprog_files.specs.Files.{Event, Given, Opened, StopsOpening}
 
 -- a file that an option names, where it does
@@ -17,15 +15,16 @@ abbrev pub named_by : FileName → Option (List ℕ) → List (FileName × List 
 named_by name None = []
 named_by name (Some path) = (name, path) ∷ []
 
--- that of the tables of a chip; one of a size has none
-abbrev pub tables_of : Origin → Option (List ℕ)
-tables_of (Sfdp path bits) = Some path
-tables_of (Uniform size) = None
+-- that of the tables of a chip, or of its sheet; one of a size has none
+abbrev pub origin_files : Origin → List (FileName × List ℕ)
+origin_files (Sfdp path bits) = (file.Sfdp, path) ∷ []
+origin_files (Uniform size) = []
+origin_files (Sheet path) = (file.Sheet, path) ∷ []
 
 -- the files that a job reads, each with its option, in the order in which they are opened
 abbrev pub job_files : Request → List (FileName × List ℕ)
 job_files r =
-    (file.Hex, r.hex.now) ∷ (named_by file.Layout (option_map (λ t. t.now) r.layout) ++ (named_by file.Sfdp (tables_of (origin_of r.chip))
+    (file.Hex, r.hex.now) ∷ (named_by file.Layout (option_map (λ t. t.now) r.layout) ++ (origin_files (origin_of r.chip)
     ++ ((file.Content, r.content.now) ∷ [])))
 
 -- the file of this name was read, where there is a name; it has these bytes
@@ -33,15 +32,16 @@ pub data Reads : Option (List ℕ) → Option (List ℕ) → List Event → Type
   Unnamed : Reads None None []
   Named : (path bytes : List ℕ) → Reads (Some path) (Some bytes) (Given path bytes ∷ [])
 
--- that of the tables of a chip was; of a chip of a size there is none, and its bytes have no part in it
+-- that of the tables of a chip, or of its sheet, was; of a chip of a size there is none, and its bytes have no part in it
 pub data ReadsTables : Origin → List ℕ → List Event → Type 0 where
   Tables : (path bits bytes : List ℕ) → ReadsTables (Sfdp path bits) bytes (Given path bytes ∷ [])
   NoTables : (size : ℕ) (bytes : List ℕ) → ReadsTables (Uniform size) bytes []
+  Text : (path text : List ℕ) → ReadsTables (Sheet path) text (Given path text ∷ [])
 
--- the file of the tables of a chip that is named, where it has one
+-- the file of a chip that is named, where it has one
 abbrev pub chip_files : Option Origin → List (FileName × List ℕ)
 chip_files None = []
-chip_files (Some origin) = named_by file.Sfdp (tables_of origin)
+chip_files (Some origin) = origin_files origin
 
 -- they were read; where no chip is named there are none, and the bytes have no part in it
 pub data ReadsNamed : Option Origin → List ℕ → List Event → Type 0 where
@@ -58,7 +58,3 @@ pub data IsJobOf (r : Request) (t : Task) (content : Ahead) (len : ℕ) : List E
   Opens_job : (held : Held) (layout tables : List Event) → t ≡ task_by r held → Reads (option_map (λ t. t.now) r.layout) held.layout layout
       → ReadsTables (origin_of r.chip) held.sfdp tables
       → IsJobOf r t content len (Given r.hex.now held.hex ∷ (layout ++ (tables ++ (Opened r.content.now content len ∷ []))))
-
--- the wire of a terminal, as it was opened or closed
-abbrev pub wire_of : files.Wire → Wire
-wire_of line = wire line.sent line.ahead

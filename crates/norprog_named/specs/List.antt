@@ -22,7 +22,7 @@ use Rattle.norprog_common.specs.declared.faults.Refusal.TheVariants.{File, Build
 use Rattle.norprog_common.specs.Told.{Fails, Output}
 use Rattle.norprog_common.specs.declared.given.ListArgs.{ListArgs}
 use Rattle.norprog_files.specs.Files.{Event, Opened, StopsOpening}
-use Rattle.norprog_named.specs.Job.{ReadsTables, named_by, tables_of}
+use Rattle.norprog_named.specs.Job.{ReadsTables, origin_files}
 use Rattle.norprog_named.specs.declared.list_files.ListRequest.{ListRequest}
 
 -- the script's file is named, and each value is of its form
@@ -36,7 +36,7 @@ pub record AsksList (given : ListArgs) (request : ListRequest) : Type 0 where
 
 -- the files that a listing reads, in the order in which they are opened
 abbrev pub list_files : ListRequest → List (FileName × List ℕ)
-list_files r = named_by file.Sfdp (tables_of (origin_of r.setup.chip)) ++ ((file.Script, r.script.now) ∷ [])
+list_files r = origin_files (origin_of r.setup.chip) ++ ((file.Script, r.script.now) ∷ [])
 
 -- those were opened: this is the task that has the chip, and this is ahead of the script's reader
 pub data Opens (r : ListRequest) : Task → Ahead → List Event → Type 0 where

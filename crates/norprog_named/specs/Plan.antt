@@ -1,6 +1,7 @@
 -- How `plan` ends (this project's).
 use Rattle.std.specs.Prelude.{◌≡◌, ℕ, List, [], ◌∷◌, ◌++◌, Option, Some, None, is_some, option_map, Result, Ok, Err}
 use Rattle.std.specs.Io.KnownBytes.{Appends}
+use Rattle.nor_job.specs.Written.{passed}
 use Rattle.nor_base.specs.Device.{Ahead, Cuts}
 use Rattle.nor_job.specs.Task.{Task}
 use Rattle.nor_job.specs.declared.fault.BuildFault.TheVariants as fault
@@ -81,7 +82,7 @@ pub data EndsPlan (Unread : Type 0) (r : PlanRequest) (out : Output) : List Even
       → StopsOpening (named_by file.Map (option_map (λ m. m.path.now) r.map)) map why → out.after ≡ out.before → EndsPlan Unread r out (job ++ map) (Err why)
   -- the plan isn't told, and the file of the picture is left empty
   NotTold : (t : Task) (content rest : Ahead) (len : ℕ) (job map : List Event) (why : Refusal) → IsJobOf r.job t content len job → LeavesMap r.map map
-      → Untold r.job.rules (work t len content rest out.before out.after) Unread (Fails out) why → EndsPlan Unread r out (job ++ map) (Err why)
+      → Untold r.job.rules (work t len (passed content rest out.before out.after)) Unread (Fails out) why → EndsPlan Unread r out (job ++ map) (Err why)
   -- all lines were printed, and some of the picture hasn't gone out
   Undrawn : (o : Outline) (job map : List Event) → TellsJob r o job → LosesMap r.map map → Appends out.before out.after o.lines
       → EndsPlan Unread r out (job ++ map) (Err (Build fault.Write))

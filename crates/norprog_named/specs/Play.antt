@@ -10,8 +10,9 @@ use Rattle.norprog_common.specs.declared.faults.FileName.{FileName}
 use Rattle.norprog_common.specs.declared.faults.FileName.TheVariants as file
 use Rattle.norprog_common.specs.declared.faults.Refusal.{Refusal}
 use Rattle.norprog_common.specs.declared.faults.Refusal.TheVariants.{Build, File}
-use Rattle.norprog_files.specs.Files.{Event, Denied, Denies, Opened, StopsOpening, Unwired, Wire, Wired}
-use Rattle.norprog_named.specs.Job.{ReadsTables, named_by, tables_of}
+use Rattle.norprog_common.specs.Wire.{Wire}
+use Rattle.norprog_files.specs.Files.{Event, Denied, Denies, Opened, StopsOpening, Unwired, Wired}
+use Rattle.norprog_named.specs.Job.{ReadsTables, origin_files}
 use Rattle.norprog_player.specs.Early.{EndsInMemory, MayPlay}
 use Rattle.norprog_player.specs.Expected.{Expectation, Play}
 use Rattle.norprog_player.specs.Job.{IsReady, RefusesJob, Sources}
@@ -25,7 +26,7 @@ use Rattle.norprog_player.specs.declared.unplayed.Unplayed.TheVariants.{Refused}
 
 -- the files that are opened, in their order
 abbrev pub play_files : PlayRequest → List (FileName × List ℕ)
-play_files r = named_by file.Sfdp (tables_of (origin_of r.setup.chip)) ++ ((file.Content, r.content.now) ∷ (file.Script, r.script.now) ∷ [])
+play_files r = origin_files (origin_of r.setup.chip) ++ ((file.Content, r.content.now) ∷ (file.Script, r.script.now) ∷ [])
 
 -- those files were opened, and have this
 pub data Opens (r : PlayRequest) (s : Sources) : List Event → Type 0 where
@@ -46,7 +47,7 @@ pub record IsPlayOf (r : PlayRequest) (p : Play) (log : List Event) : Type 0 whe
 
 -- what the chip in memory, a device beside it and its line are, as that was opened
 abbrev pub begun : Play → Wire → Moment
-begun p wire = moment (shown_in p) wire.sent wire.ahead
+begun p wire = moment (shown_in p) wire.held wire.ahead
 
 -- how a play ends, by the device of this name
 pub data EndsPlaying (device : List ℕ) (p : Play) : List Event → Result Ending Unplayed → Type 0 where
@@ -56,10 +57,10 @@ pub data EndsPlaying (device : List ℕ) (p : Play) : List Event → Result Endi
   -- the device can't be opened
   NoDevice : (why : Refusal) → MayPlay (shown_in p) p.steps → Denies file.Device why → EndsPlaying device p (Denied device ∷ []) (Err (Refused why))
   -- it ended so on the device, which was closed
-  OnDevice : (first last : Wire) (shown : Shown) (ending : Ending) → EndsOnDevice p (begun p first) (moment shown last.sent last.ahead) ending
+  OnDevice : (first last : Wire) (shown : Shown) (ending : Ending) → EndsOnDevice p (begun p first) (moment shown last.held last.ahead) ending
       → EndsPlaying device p (Wired device first ∷ Unwired device last ∷ []) (Ok ending)
   -- the device can't be used, or memory ran out after its handshake
-  Stopped : (first last : Wire) (shown : Shown) (why : Unplayed) → StopsOnDevice p (begun p first) (moment shown last.sent last.ahead) why
+  Stopped : (first last : Wire) (shown : Shown) (why : Unplayed) → StopsOnDevice p (begun p first) (moment shown last.held last.ahead) why
       → EndsPlaying device p (Wired device first ∷ Unwired device last ∷ []) (Err why)
 
 -- how `play` ends, and what was done with files by then

@@ -12,14 +12,15 @@ use Rattle.norprog_common.specs.declared.faults.Refusal.TheVariants.{Build}
 use Rattle.norprog_files.specs.Files.{Event, Denied, Denies, Lost, Made, Opened, Sent, StopsOpening}
 use Rattle.norprog_common.specs.declared.given.OutFile.{OutFile}
 use Rattle.norprog_files.specs.declared.replaced.OutKind.TheVariants as kind
-use Rattle.norprog_named.specs.Job.{ReadsTables, named_by, tables_of}
-use Rattle.norprog_run.specs.Stream.{Blames, IsPlayed, Play, Unplayed}
+use Rattle.norprog_named.specs.Job.{ReadsTables, origin_files}
+use Rattle.norprog_run.specs.Play.{Play}
+use Rattle.norprog_run.specs.Stream.{Blames, IsPlayed, Unplayed}
 use Rattle.norprog_run.specs.declared.request.RunRequest.{RunRequest}
 use Rattle.norprog_run.specs.declared.verdict.Verdict.{Verdict}
 
 -- the files that a play reads, each with its option, in the order in which they are opened
 abbrev pub run_files : RunRequest → List (FileName × List ℕ)
-run_files r = named_by file.Sfdp (tables_of (origin_of r.setup.chip)) ++ ((file.Content, r.content.now) ∷ (file.Script, r.script.now) ∷ [])
+run_files r = origin_files (origin_of r.setup.chip) ++ ((file.Content, r.content.now) ∷ (file.Script, r.script.now) ∷ [])
 
 -- those were opened: the tables, and what is ahead of the readers of the content, which has so many bytes, and of the script
 pub data OpensPlay (r : RunRequest) (tables : List ℕ) (content : Ahead) (len : ℕ) (script : Ahead) : List Event → Type 0 where

@@ -7,7 +7,7 @@ use Rattle.norprog_common.specs.declared.faults.FileName.TheVariants as file
 use Rattle.norprog_common.specs.declared.faults.Refusal.{Refusal}
 use Rattle.norprog_common.specs.declared.setup.Setup.{Setup}
 use Rattle.norprog_files.specs.Files.{Event, StopsOpening}
-use Rattle.norprog_named.specs.Job.{ReadsTables, named_by, tables_of}
+use Rattle.norprog_named.specs.Job.{ReadsTables, origin_files}
 
 -- how the work of `sfdp` ends, and what was done with files by then
 pub data EndsSfdp (setup : Setup) : List Event → Result Parameters Refusal → Type 0 where
@@ -15,7 +15,7 @@ pub data EndsSfdp (setup : Setup) : List Event → Result Parameters Refusal →
   Means : (tables : List ℕ) (log : List Event) (m : Parameters) → ReadsTables (origin_of setup.chip) tables log → IsKnown (setup_task setup tables) m
       → EndsSfdp setup log (Ok m)
   -- that file can't be read
-  NoInput : (log : List Event) (why : Refusal) → StopsOpening (named_by file.Sfdp (tables_of (origin_of setup.chip))) log why → EndsSfdp setup log (Err why)
+  NoInput : (log : List Event) (why : Refusal) → StopsOpening (origin_files (origin_of setup.chip)) log why → EndsSfdp setup log (Err why)
   -- the options contradict one another, or the tables are refused
   NoChip : (tables : List ℕ) (log : List Event) (why : Refusal) → ReadsTables (origin_of setup.chip) tables log → RefusesChipOf (setup_task setup tables) why
       → EndsSfdp setup log (Err why)

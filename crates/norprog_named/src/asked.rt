@@ -1,6 +1,6 @@
 //! What the values of a command line ask for.
 
-ghost use Rattle.std.specs.Prelude.{◌≡◌, ◌<◌, ◌≤◌, ◌-◌, ◌^◌, IfOk};
+ghost use Rattle.std.specs.Prelude.{◌≡◌, ◌≤◌, IfOk};
 ghost use Rattle.norprog_files.specs.Files.{Did};
 ghost use Rattle.norprog_common.specs.Told.{output};
 ghost use Rattle.norprog_named.specs.Asked.{EndsBuildAsked, EndsCheckAsked};
@@ -57,7 +57,6 @@ pub fn build_asked<F: Files, O: ByteOut>(
     given: BuildArgs<'_>,
     out: &mut O,
 ) -> Result<u8, Refusal>
-    requires { O.count out.old < 2 ^ 64 - 1 }
     ensures status { IfOk result (λ status. status ≡ 0) }
     ensures ends { Did (F.Trail.did trail.old) (F.Trail.did trail.new)
         (λ log. EndsBuildAsked (F.unread files.now) given.entry
@@ -85,7 +84,6 @@ pub fn check_asked<F: Files, O: ByteOut>(
     given: CheckArgs<'_>,
     out: &mut O,
 ) -> Result<u8, Refusal>
-    requires { O.count out.old < 2 ^ 64 - 1 }
     ensures status { IfOk result (λ status. status ≤ 1) }
     ensures ends { Did (F.Trail.did trail.old) (F.Trail.did trail.new)
         (λ log. EndsCheckAsked (F.unread files.now) given.entry
@@ -130,7 +128,6 @@ pub fn script_asked<F: Files, O: ByteOut>(
     given: ScriptArgs<'_>,
     out: &mut O,
 ) -> Result<u8, Refusal>
-    requires { O.count out.old < 2 ^ 64 - 1 }
     ensures status { IfOk result (λ status. status ≡ 0) }
     ensures ends { Did (F.Trail.did trail.old) (F.Trail.did trail.new)
         (λ log. EndsScriptAsked given.entry (output O.held O.count out.old out.new) log
@@ -155,7 +152,6 @@ pub fn sfdp_asked<F: Files, O: ByteOut>(
     given: ChipArgs<'_>,
     out: &mut O,
 ) -> Result<u8, Refusal>
-    requires { O.count out.old < 2 ^ 64 - 1 }
     ensures status { IfOk result (λ status. status ≡ 0) }
     ensures ends { Did (F.Trail.did trail.old) (F.Trail.did trail.new)
         (λ log. EndsSfdpAsked given.entry (output O.held O.count out.old out.new) log
@@ -186,7 +182,6 @@ pub fn list_asked<F: Files, O: ByteOut>(
     given: ListArgs<'_>,
     out: &mut O,
 ) -> Result<u8, Refusal>
-    requires { O.count out.old < 2 ^ 64 - 1 }
     ensures status { IfOk result (λ status. status ≡ 0) }
     ensures ends { Did (F.Trail.did trail.old) (F.Trail.did trail.new)
         (λ log. EndsListAsked (F.unread files.now) given.entry
@@ -207,7 +202,6 @@ pub fn run_asked<F: Files, O: ByteOut>(
     given: RunArgs<'_>,
     out: &mut O,
 ) -> Result<u8, Refusal>
-    requires { O.count out.old < 2 ^ 64 - 1 }
     ensures status { IfOk result (λ status. status ≤ 1) }
     ensures ends { Did (F.Trail.did trail.old) (F.Trail.did trail.new)
         (λ log. EndsRunAsked (F.unread files.now) given.entry
@@ -229,7 +223,6 @@ pub fn plan_asked<F: Files, O: ByteOut>(
     given: PlanArgs<'_>,
     out: &mut O,
 ) -> Result<u8, Refusal>
-    requires { O.count out.old < 2 ^ 64 - 1 }
     ensures status { IfOk result (λ status. status ≡ 0) }
     ensures ends { Did (F.Trail.did trail.old) (F.Trail.did trail.new)
         (λ log. EndsPlanAsked (F.unread files.now) given.entry

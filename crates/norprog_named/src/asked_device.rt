@@ -1,6 +1,6 @@
 //! What the values of a command line of `read`, `play` and `flash` ask for.
 
-ghost use Rattle.std.specs.Prelude.{◌≡◌, ◌<◌, ◌≤◌, ◌+◌, ◌-◌, ◌^◌, IfErr, IfOk};
+ghost use Rattle.std.specs.Prelude.{◌≡◌, ◌≤◌, IfErr, IfOk};
 ghost use Rattle.nor_job.specs.declared.fault.BuildFault.TheVariants.{Write};
 ghost use Rattle.norprog_common.specs.Lines.{printed};
 ghost use Rattle.norprog_common.specs.Told.{Tells, cut_status, output};
@@ -9,6 +9,7 @@ ghost use Rattle.norprog_files.specs.Files.{Did};
 ghost use Rattle.norprog_named.specs.AskedDevice.{EndsPlayAsked, EndsReadAsked, Reported};
 ghost use Rattle.norprog_named.specs.AskedDevice.{EndsFlashAsked, ReportsFlash, SaysFlash};
 ghost use Rattle.norprog_named.specs.AskedDevice.{SaysPlay, SaysRead};
+ghost use Rattle.norprog_named.specs.Flash.{StillWorks};
 ghost use Rattle.norprog_flash.specs.Begun.{printed as on_screen};
 
 use crate::flash_files::flash;
@@ -36,8 +37,6 @@ pub fn read_asked<F: Files, O: ByteOut, E: ByteOut>(
     out: &mut O,
     err: &mut E,
 ) -> u8
-    requires out { O.count out.old < 2 ^ 64 - 1 }
-    requires err { E.count err.old < 2 ^ 64 - 1 }
     ensures status { result ≤ 3 }
     ensures quiet { result ≡ 0 → err.new ≡ err.old }
     ensures ends { Did (F.Trail.did trail.old) (F.Trail.did trail.new)
@@ -70,8 +69,6 @@ fn report_read<O: ByteOut, E: ByteOut>(
     out: &mut O,
     err: &mut E,
 ) -> u8
-    requires out { O.count out.old < 2 ^ 64 - 1 }
-    requires err { E.count err.old < 2 ^ 64 - 1 }
     ensures status { result ≤ 3 }
     ensures quiet { result ≡ 0 → err.new ≡ err.old }
     ensures says { SaysRead
@@ -88,7 +85,6 @@ fn report_read<O: ByteOut, E: ByteOut>(
 
 /// The status after lines were printed; where they couldn't be, that is told.
 fn status_after<E: ByteOut>(written: Result<(), Failed>, own: u8, err: &mut E) -> u8
-    requires { E.count err.old < 2 ^ 64 - 1 }
     ensures done { IfOk written (λ _. (result ≡ own) × (err.new ≡ err.old)) }
     ensures told { IfErr written (λ _. (result ≡ cut_status own)
         × Tells (output E.held E.count err.old err.new) (printed (Build Write))) }
@@ -111,9 +107,6 @@ pub fn play_asked<F: Files, O: ByteOut, E: ByteOut, P: ByteOut>(
     err: &mut E,
     progress: &mut P,
 ) -> u8
-    requires out { O.count out.old < 2 ^ 64 - 1 }
-    requires err { E.count err.old < 2 ^ 64 - 1 }
-    requires progress { P.count progress.old < 2 ^ 64 - 1 }
     ensures status { result ≤ 3 }
     ensures quiet { result ≡ 0 → err.new ≡ err.old }
     ensures ends { Did (F.Trail.did trail.old) (F.Trail.did trail.new)
@@ -132,7 +125,6 @@ fn play_given<F: Files, P: ByteOut>(
     given: PlayArgs<'_>,
     progress: &mut P,
 ) -> Result<Ending, Unplayed>
-    requires { P.count progress.old < 2 ^ 64 - 1 }
     ensures { Did (F.Trail.did trail.old) (F.Trail.did trail.new)
         (λ log. EndsPlayAsked (F.unread files.now) given.entry log result) }
 {
@@ -148,8 +140,6 @@ fn report_play<O: ByteOut, E: ByteOut>(
     out: &mut O,
     err: &mut E,
 ) -> u8
-    requires out { O.count out.old < 2 ^ 64 - 1 }
-    requires err { E.count err.old < 2 ^ 64 - 1 }
     ensures status { result ≤ 3 }
     ensures quiet { result ≡ 0 → err.new ≡ err.old }
     ensures says { SaysPlay
@@ -175,9 +165,6 @@ pub fn flash_asked<F: Files, O: ByteOut, E: ByteOut, P: ByteOut>(
     err: &mut E,
     progress: &mut P,
 ) -> u8
-    requires out { O.count out.old < 2 ^ 64 - 2 }
-    requires err { E.count err.old < 2 ^ 64 - 1 }
-    requires progress { P.count progress.old < 2 ^ 64 - 1 }
     ensures status { result ≤ 3 }
     ensures quiet { result ≡ 0 → err.new ≡ err.old }
     ensures ends { Did (F.Trail.did trail.old) (F.Trail.did trail.new) (ReportsFlash given.entry
@@ -197,11 +184,9 @@ fn flash_given<F: Files, O: ByteOut, P: ByteOut>(
     out: &mut O,
     progress: &mut P,
 ) -> Result<Flashed, Unflashed>
-    requires { (O.count out.old < 2 ^ 64 - 1) × (P.count progress.old < 2 ^ 64 - 1) }
     ensures ends { Did (F.Trail.did trail.old) (F.Trail.did trail.new) (λ log. EndsFlashAsked
         given.now (on_screen (O.held out.old) (O.held out.new)) log result) }
-    ensures count { (O.count out.old ≤ O.count out.new)
-        × (O.count out.new ≤ O.count out.old + 1) }
+    ensures works { StillWorks result (O.count out.old) (O.count out.new) }
 {
     match work_of(given) {
         Some(request) => flash(alloc, files, trail, &request, out, progress),
@@ -216,8 +201,6 @@ fn report_flash<O: ByteOut, E: ByteOut>(
     out: &mut O,
     err: &mut E,
 ) -> u8
-    requires out { O.count out.old < 2 ^ 64 - 1 }
-    requires err { E.count err.old < 2 ^ 64 - 1 }
     ensures status { result ≤ 3 }
     ensures quiet { result ≡ 0 → err.new ≡ err.old }
     ensures says { SaysFlash given.now

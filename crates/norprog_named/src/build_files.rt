@@ -1,7 +1,8 @@
 //! `build` on its files.
 
-ghost use Rattle.std.specs.Prelude.{◌≡◌, ◌<◌, IfErr, IfOk};
-ghost use Rattle.nor_base.specs.Device.{HaveRoom};
+ghost use Rattle.std.specs.Prelude.{◌≡◌, IfErr, IfOk};
+ghost use Rattle.nor_base.specs.Device.{one_more};
+ghost use Rattle.nor_job.specs.Written.{passed};
 ghost use Rattle.norprog_common.specs.Rules.{MeetsRules};
 ghost use Rattle.norprog_files.specs.Files.{Did};
 ghost use Rattle.norprog_named.specs.Build.{EndsBuild, IsBuiltBy, Unbuilt, work};
@@ -53,13 +54,13 @@ fn built<R: ByteIn, W: ByteOut>(
     len: u64,
     out: &mut W,
 ) -> Result<Report, Refusal>
-    requires room { HaveRoom (R.count content.old) (W.count out.old) }
     ensures meets { IfOk result (λ _. MeetsRules rules inputs.now len) }
-    ensures built { IfOk result (IsBuiltBy (work inputs.now len (R.ahead content.old)
-        (R.ahead content.new) (W.held out.old) (W.held out.new))) }
-    ensures unbuilt { IfErr result (Unbuilt rules (work inputs.now len (R.ahead content.old)
-        (R.ahead content.new) (W.held out.old) (W.held out.new))
-        (R.count content.old < R.count content.new) (W.count out.old < W.count out.new)) }
+    ensures built { IfOk result (IsBuiltBy (work inputs.now len
+        (passed (R.ahead content.old) (R.ahead content.new) (W.held out.old) (W.held out.new)))) }
+    ensures unbuilt { IfErr result (Unbuilt rules (work inputs.now len
+        (passed (R.ahead content.old) (R.ahead content.new) (W.held out.old) (W.held out.new)))
+        (R.count content.new ≡ one_more (R.count content.old))
+        (W.count out.new ≡ one_more (W.count out.old))) }
 {
     refuse_image(alloc, rules, inputs, len)?;
     match norprog::build(alloc, inputs, content, len, out) {

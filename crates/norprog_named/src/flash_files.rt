@@ -1,12 +1,13 @@
 //! `flash` on its files and its device.
 
-ghost use Rattle.std.specs.Prelude.{◌≡◌, ◌<◌, ◌≤◌, ◌+◌, ◌-◌, ◌^◌};
-ghost use Rattle.std.specs.Prelude.{◌&&◌, not, true, option_map, IfOk};
+ghost use Rattle.std.specs.Prelude.{◌≡◌};
+ghost use Rattle.std.specs.Prelude.{◌&&◌, not, true, option_map};
 ghost use Rattle.norprog_device.specs.Blame.{is_cut};
-ghost use Rattle.norprog_files.specs.Files.{Did, wire};
+ghost use Rattle.norprog_common.specs.Wire.{wire};
+ghost use Rattle.norprog_files.specs.Files.{Did};
 ghost use Rattle.norprog_flash.specs.Blame.{fault_in as told_in};
 ghost use Rattle.norprog_named.specs.Flash.{EndsFlash, EndsGreeted, EndsHeld, EndsJob, IsJobOf};
-ghost use Rattle.norprog_named.specs.Flash.{ReadsFlash, file_for, flash_files};
+ghost use Rattle.norprog_named.specs.Flash.{ReadsFlash, StillWorks, file_for, flash_files};
 ghost use Rattle.norprog_flash.specs.Begun.{printed};
 ghost use Rattle.norprog_named.specs.Flash.{reading_of};
 ghost use Rattle.norprog_named.specs.Job.{Reading};
@@ -44,12 +45,9 @@ pub fn flash<F: Files, O: ByteOut, P: ByteOut>(
     out: &mut O,
     progress: &mut P,
 ) -> Result<Ending, Unflashed>
-    requires { (O.count out.old < 2 ^ 64 - 1) × (P.count progress.old < 2 ^ 64 - 1) }
     ensures ends { Did (F.Trail.did trail.old) (F.Trail.did trail.new) (λ log. EndsFlash
         request.now (printed (O.held out.old) (O.held out.new)) log result) }
-    ensures count { (O.count out.old ≤ O.count out.new)
-        × (O.count out.new ≤ O.count out.old + 1)
-        × IfOk result (λ _. O.count out.new ≡ O.count out.old) }
+    ensures works { StillWorks result (O.count out.old) (O.count out.new) }
 {
     let texts = read_texts(alloc, files, trail, request)?;
     let job = job_for(request, &texts);
@@ -152,12 +150,9 @@ fn flash_job<F: Files, O: ByteOut, P: ByteOut>(
     progress: &mut P,
 ) -> Result<Ending, Unflashed>
     requires whole { job.now.ask.content ≡ true }
-    requires room { (O.count out.old < 2 ^ 64 - 1) × (P.count progress.old < 2 ^ 64 - 1) }
     ensures ends { Did (F.Trail.did trail.old) (F.Trail.did trail.new) (λ log. EndsJob device.now
         before.now job.now (printed (O.held out.old) (O.held out.new)) log result) }
-    ensures count { (O.count out.old ≤ O.count out.new)
-        × (O.count out.new ≤ O.count out.old + 1)
-        × IfOk result (λ _. O.count out.new ≡ O.count out.old) }
+    ensures works { StillWorks result (O.count out.old) (O.count out.new) }
 {
     look_at(alloc, job)?;
     let (mut from, mut to) = files.open_device(trail, alloc, device)?;
@@ -182,15 +177,11 @@ fn flash_greeted<F: Files, O: ByteOut, P: ByteOut>(
     progress: &mut P,
 ) -> Result<Ending, Unflashed>
     requires whole { job.now.ask.content ≡ true }
-    requires device { (F.FromDevice.count from.old ≡ 0) × (F.ToDevice.count to.old ≡ 0) }
-    requires room { (O.count out.old < 2 ^ 64 - 1) × (P.count progress.old < 2 ^ 64 - 1) }
     ensures ends { Did (F.Trail.did trail.old) (F.Trail.did trail.new) (λ log. EndsGreeted
         before.now job.now (wire (F.ToDevice.held to.old) (F.FromDevice.ahead from.old))
         (wire (F.ToDevice.held to.new) (F.FromDevice.ahead from.new))
         (printed (O.held out.old) (O.held out.new)) log result) }
-    ensures count { (O.count out.old ≤ O.count out.new)
-        × (O.count out.new ≤ O.count out.old + 1)
-        × IfOk result (λ _. O.count out.new ≡ O.count out.old) }
+    ensures works { StillWorks result (O.count out.old) (O.count out.new) }
 {
     let limits = match greet(from, to) {
         Ok(limits) => limits,
@@ -232,18 +223,11 @@ fn flash_held<F: Files, O: ByteOut, P: ByteOut>(
     progress: &mut P,
 ) -> Result<Ending, Unflashed>
     requires whole { job.now.ask.content ≡ true }
-    requires device { (F.FromDevice.count from.old < 2 ^ 64 - 4)
-        × (F.ToDevice.count to.old < 2 ^ 64 - 4) }
-    requires room { (O.count out.old < 2 ^ 64 - 1) × (P.count progress.old < 2 ^ 64 - 1) }
     ensures ends { Did (F.Trail.did trail.old) (F.Trail.did trail.new) (λ log. EndsHeld limits.now
         before.now job.now (wire (F.ToDevice.held to.old) (F.FromDevice.ahead from.old))
         (wire (F.ToDevice.held to.new) (F.FromDevice.ahead from.new))
         (printed (O.held out.old) (O.held out.new)) log result) }
-    ensures count { (O.count out.old ≤ O.count out.new)
-        × (O.count out.new ≤ O.count out.old + 1)
-        × IfOk result (λ _. O.count out.new ≡ O.count out.old) }
-    ensures device { (F.FromDevice.count from.new ≤ F.FromDevice.count from.old + 1)
-        × (F.ToDevice.count to.new ≤ F.ToDevice.count to.old + 1) }
+    ensures works { StillWorks result (O.count out.old) (O.count out.new) }
 {
     let held = hold(alloc, from, to, limits, job)?;
     let content = held.reading.content.as_slice();

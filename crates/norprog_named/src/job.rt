@@ -1,12 +1,11 @@
 //! The files of a job.
 
-ghost use Rattle.std.specs.Prelude.{◌≡◌, IfOk, option_map};
+ghost use Rattle.std.specs.Prelude.{◌≡◌, option_map};
 ghost use Rattle.norprog_common.specs.Chip.{origin_of};
 ghost use Rattle.norprog_common.specs.Held.{held_in, task_by};
-ghost use Rattle.norprog_common.specs.declared.faults.FileName.TheVariants.{Sfdp};
 ghost use Rattle.norprog_files.specs.Files.{Did};
 ghost use Rattle.norprog_named.specs.Job.{IsJobOf, Reading, Reads, ReadsNamed, ReadsTables};
-ghost use Rattle.norprog_named.specs.Job.{chip_files, job_files, named_by, tables_of};
+ghost use Rattle.norprog_named.specs.Job.{chip_files, job_files, named_by, origin_files};
 
 use norprog_common::{Chip, FileName, Refusal, Request, Texts};
 use norprog_files::{Files, Trail};
@@ -23,7 +22,6 @@ pub(crate) fn open_job<F: Files>(
     ensures did { Did (F.Trail.did trail.old) (F.Trail.did trail.new) (Reading
         (job_files request.now) (λ job. IsJobOf request.now
         (task_by request.now (held_in job.0)) (F.Input.ahead job.1) job.2) result) }
-    ensures unfailed { IfOk result (λ job. F.Input.count job.1 ≡ 0) }
 {
     let hex = files.read(trail, alloc, request.hex, FileName::Hex)?;
     let layout = read_named(alloc, files, trail, request.layout, FileName::Layout)?;
@@ -51,7 +49,7 @@ pub(crate) fn read_named<F: Files>(
     }
 }
 
-/// Reads the tables of a chip, where it has a file.
+/// Reads the file of the tables of a chip, or of its sheet, where it has one.
 pub(crate) fn read_tables<F: Files>(
     alloc: Global,
     files: &F,
@@ -59,16 +57,17 @@ pub(crate) fn read_tables<F: Files>(
     chip: Chip<'_>,
 ) -> Result<Vec<u8>, Refusal>
     ensures { Did (F.Trail.did trail.old) (F.Trail.did trail.new) (Reading
-        (named_by Sfdp (tables_of (origin_of chip.entry)))
+        (origin_files (origin_of chip.entry))
         (λ bytes. ReadsTables (origin_of chip.entry) bytes.items) result) }
 {
     match chip {
         Chip::Sfdp { file, bits: _ } => files.read(trail, alloc, file, FileName::Sfdp),
         Chip::Uniform(_) => Ok(Vec::new(alloc)),
+        Chip::Sheet { file } => files.read(trail, alloc, file, FileName::Sheet),
     }
 }
 
-/// Reads the tables of a chip that is named, where it has a file.
+/// The same of a chip that is named.
 pub(crate) fn read_chip<F: Files>(
     alloc: Global,
     files: &F,

@@ -1,6 +1,6 @@
 //! `list` on its files.
 
-ghost use Rattle.std.specs.Prelude.{◌≡◌, ◌<◌, ◌-◌, ◌^◌, is_some, IfOk, IfSome};
+ghost use Rattle.std.specs.Prelude.{◌≡◌, is_some, IfSome};
 ghost use Rattle.norprog_files.specs.Files.{Did};
 ghost use Rattle.norprog_named.specs.List.{AsksList, EndsList, is_list, refusal_of};
 ghost use Rattle.norprog_common.specs.Told.{output};
@@ -39,7 +39,6 @@ pub fn list<F: Files, O: ByteOut>(
     request: ListRequest<'_>,
     out: &mut O,
 ) -> Result<u8, Refusal>
-    requires { O.count out.old < 2 ^ 64 - 1 }
     ensures { Did (F.Trail.did trail.old) (F.Trail.did trail.new)
         (λ log. EndsList (F.unread files.now) request.entry
         (output O.held O.count out.old out.new)

@@ -1,9 +1,10 @@
 //! `plan` on its files.
 
-ghost use Rattle.std.specs.Prelude.{◌≡◌, ◌<◌, ◌-◌, ◌^◌, ◌++◌, ℕ, List, Option, is_some};
+ghost use Rattle.std.specs.Prelude.{◌≡◌, ◌++◌, ℕ, List, Option, is_some};
+ghost use Rattle.nor_base.specs.Device.{one_more};
 ghost use Rattle.std.specs.Prelude.{option_map, IfErr, IfOk, IfSome, MatchResult};
 ghost use Rattle.std.specs.Io.KnownBytes.{Appends};
-ghost use Rattle.nor_base.specs.Device.{HaveRoom};
+ghost use Rattle.nor_job.specs.Written.{passed};
 ghost use Rattle.norprog_common.specs.Request.{is_well_formed};
 ghost use Rattle.norprog_common.specs.Rules.{MeetsRules};
 ghost use Rattle.norprog_common.specs.declared.faults.FileName.TheVariants.{Map};
@@ -66,7 +67,6 @@ pub fn plan<F: Files, O: ByteOut>(
     request: &PlanRequest<'_>,
     out: &mut O,
 ) -> Result<u8, Refusal>
-    requires { O.count out.old < 2 ^ 64 - 1 }
     ensures { Did (F.Trail.did trail.old) (F.Trail.did trail.new)
         (λ log. EndsPlan (F.unread files.now) request.now
         (output O.held O.count out.old out.new)
@@ -102,7 +102,6 @@ fn make_map<'a, F: Files>(
     ensures did { Did (F.Trail.did trail.old) (F.Trail.did trail.new)
         (Reading (named_by Map (option_map (λ o. o.path.now) named.entry))
         (MakesMap F.Output.held named.entry) result) }
-    ensures unfailed { IfOk result (λ map. IfSome map (λ map. F.Output.count map.file ≡ 0)) }
 {
     match named {
         Some(out) => Ok(Some(MapFile {
@@ -123,15 +122,15 @@ fn print_lines<R: ByteIn, O: ByteOut>(
     len: u64,
     out: &mut O,
 ) -> Result<Told, Refusal>
-    requires { HaveRoom (R.count content.old) (O.count out.old) }
     ensures meets { IfOk result (λ _. MeetsRules request.now.job.rules inputs.now len) }
     ensures told { IfOk result (λ told. (lines : List ℕ)
         × IsOutline (shows_of request.now) inputs.now len (R.ahead content.old)
         (outline lines told) × Appends (O.held out.old) (O.held out.new) lines) }
     ensures count { IfOk result (λ _. O.count out.new ≡ O.count out.old) }
     ensures untold { IfErr result (Untold request.now.job.rules (work inputs.now len
-        (R.ahead content.old) (R.ahead content.new) (O.held out.old) (O.held out.new))
-        (R.count content.old < R.count content.new) (O.count out.old < O.count out.new)) }
+        (passed (R.ahead content.old) (R.ahead content.new) (O.held out.old) (O.held out.new)))
+        (R.count content.new ≡ one_more (R.count content.old))
+        (O.count out.new ≡ one_more (O.count out.old))) }
 {
     refuse_image(alloc, request.job.rules, inputs, len)?;
     let shows = Shows {
@@ -180,7 +179,6 @@ fn send_map<F: Files>(
     map: Option<MapFile<'_, F::Output>>,
     picture: &[u8],
 ) -> Result<(), Failed>
-    requires { IfSome map (λ map. F.Output.count map.file ≡ 0) }
     ensures { (named : Option OutFile) (made : List Event)
         → MakesMap F.Output.held named map.entry made
         → Did (F.Trail.did trail.old) (F.Trail.did trail.new) (λ log. MatchResult result

@@ -1,6 +1,6 @@
 //! `play` on its files and its device.
 
-ghost use Rattle.std.specs.Prelude.{◌≡◌, ◌<◌, ◌-◌, ◌^◌, length};
+ghost use Rattle.std.specs.Prelude.{◌≡◌, length};
 ghost use Rattle.nor_base.specs.Chip.{IsPossible};
 ghost use Rattle.norprog_files.specs.Files.{Did};
 ghost use Rattle.norprog_named.specs.Play.{EndsPlay, EndsPlaying};
@@ -24,7 +24,6 @@ pub fn play<F: Files, P: ByteOut>(
     request: PlayRequest<'_>,
     progress: &mut P,
 ) -> Result<Ending, Unplayed>
-    requires { P.count progress.old < 2 ^ 64 - 1 }
     ensures { Did (F.Trail.did trail.old) (F.Trail.did trail.new)
         (λ log. EndsPlay (F.unread files.now) request.entry log result) }
 {
@@ -64,7 +63,6 @@ fn play_job<F: Files, P: ByteOut>(
 ) -> Result<Ending, Unplayed>
     requires chip { (length job.content.items ≡ job.meaning.size)
         × IsPossible job.meaning expected.start }
-    requires progress { P.count progress.old < 2 ^ 64 - 1 }
     ensures { Did (F.Trail.did trail.old) (F.Trail.did trail.new)
         (λ log. EndsPlaying device.now (play_of job.steps.items (expectation_of expected.entry)
         job.meaning job.content.items limit) log result) }

@@ -7,7 +7,7 @@ use crate::job::read_chip;
 use crate::saved::save_if;
 use norprog_common::{FileName, Refusal};
 use norprog_files::{Files, Trail};
-use norprog_read::{Ask, ReadRequest, Reading, Unread, ask_of, read_opened};
+use norprog_read::{Ask, ReadRequest, Reading, Unread, ask_of, check_file, read_opened};
 use std::alloc::Global;
 
 /// Reads the chip behind a device, closes the device, and saves what the chip gave in new files
@@ -23,6 +23,7 @@ pub fn read<F: Files>(
 {
     let tables = read_chip(alloc, files, trail, request.chip)?;
     let ask = ask_of(request, tables.as_slice());
+    check_file(&ask)?;
     let reading = read_device(alloc, files, trail, request.device, &ask)?;
     save_reading(alloc, files, trail, request, &reading)?;
     Ok(reading)

@@ -1,6 +1,6 @@
 //! `run` on its files.
 
-ghost use Rattle.std.specs.Prelude.{◌≡◌, ◌<◌, IfOk};
+ghost use Rattle.std.specs.Prelude.{◌≡◌, ◌<◌};
 ghost use Rattle.norprog_files.specs.Files.{Did};
 ghost use Rattle.norprog_named.specs.Job.{Reading};
 ghost use Rattle.norprog_named.specs.Run.{EndsRun, OpensPlay, run_files};
@@ -67,8 +67,6 @@ fn open_play<F: Files>(
     ensures did { Did (F.Trail.did trail.old) (F.Trail.did trail.new) (Reading
         (run_files request.now) (λ play. OpensPlay request.now play.0.items
         (F.Input.ahead play.1) play.2 (F.Input.ahead play.3)) result) }
-    ensures unfailed { IfOk result (λ play.
-        (F.Input.count play.1 ≡ 0) × (F.Input.count play.3 ≡ 0)) }
 {
     let tables = read_tables(alloc, files, trail, request.setup.chip)?;
     let (content, len) = files.open(trail, request.content, FileName::Content)?;

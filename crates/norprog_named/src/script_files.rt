@@ -1,6 +1,7 @@
 //! `script` on its files.
 
-ghost use Rattle.std.specs.Prelude.{◌≡◌, ◌<◌, ◌-◌, ◌^◌, IfErr, IfOk, option_map};
+ghost use Rattle.std.specs.Prelude.{◌≡◌, IfErr, IfOk, option_map};
+ghost use Rattle.nor_base.specs.Device.{one_more};
 ghost use Rattle.nor_job.specs.declared.fault.BuildFault.TheVariants.{Write};
 ghost use Rattle.norprog_common.specs.Chip.{origin_of};
 ghost use Rattle.norprog_common.specs.declared.faults.Refusal.TheVariants.{Build};
@@ -73,12 +74,12 @@ fn write_log<W: ByteOut>(
     text: &[u8],
     out: &mut W,
 ) -> Result<Tally, Refusal>
-    requires { W.count out.old < 2 ^ 64 - 1 }
     ensures written { IfOk result (WasWritten (source_of request.entry tables.now) text.now
         (W.held out.old) (W.held out.new)) }
     ensures refused { IfErr result (RefusesLog (source_of request.entry tables.now) text.now
         (W.held out.old) (W.held out.new)) }
-    ensures failed { IfErr result (λ why. why ≡ Build Write → W.count out.old < W.count out.new) }
+    ensures failed { IfErr result
+        (λ why. why ≡ Build Write → W.count out.new ≡ one_more (W.count out.old)) }
 {
     match request.chip {
         Some(setup) => script_listing(alloc, &setup_inputs(setup, tables), text, out),

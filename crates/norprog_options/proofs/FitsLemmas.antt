@@ -20,9 +20,6 @@ leaf c = built_leaf (inherited whole.top (command c))
 abbrev pub leaves : List (Text × List Rule) → List Shape
 leaves cs = map leaf cs ++ built_leaf help_shape ∷ []
 
-all_leaves : whole.subs ≡ leaves commands
-all_leaves = refl
-
 -- the command is one of these
 abbrev pub IsOneOf : Text → List (Text × List Rule) → Type 0
 IsOneOf name [] = ⊥

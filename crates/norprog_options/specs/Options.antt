@@ -49,6 +49,7 @@ pub record IsOutIn (found : Found) (name : List ℕ) (out : Option OutFile) : Ty
 pub record IsChipIn (found : Found) (given : ChipArgs) : Type 0 where
   pub sfdp : Has found (codes "sfdp") (option_map (λ t. t.now) given.sfdp)
   pub uniform : Has found (codes "uniform") (option_map (λ t. t.now) given.uniform)
+  pub sheet : Has found (codes "sheet") (option_map (λ t. t.now) given.sheet)
   pub bits : Has found (codes "bits") (option_map (λ t. t.now) given.bits)
   pub part : Has found (codes "part") (option_map (λ t. t.now) given.part)
 
@@ -57,6 +58,7 @@ pub record IsJobIn (found : Found) (given : Given) : Type 0 where
   pub layout : Has found (codes "layout") (option_map (λ t. t.now) given.layout)
   pub sfdp : Has found (codes "sfdp") (option_map (λ t. t.now) given.sfdp)
   pub uniform : Has found (codes "uniform") (option_map (λ t. t.now) given.uniform)
+  pub sheet : Has found (codes "sheet") (option_map (λ t. t.now) given.sheet)
   pub bits : Has found (codes "bits") (option_map (λ t. t.now) given.bits)
   pub part : Has found (codes "part") (option_map (λ t. t.now) given.part)
   pub status : Has found (codes "status") (option_map (λ t. t.now) given.status)

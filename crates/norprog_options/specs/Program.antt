@@ -35,7 +35,7 @@ image = needed (codes "hex") ∷ optional (codes "layout") ∷ optional (codes "
 
 -- the options of the chip
 abbrev pub chip : List Rule
-chip = optional (codes "sfdp") ∷ optional (codes "uniform") ∷ optional (codes "bits") ∷ optional (codes "part") ∷ []
+chip = optional (codes "sfdp") ∷ optional (codes "uniform") ∷ optional (codes "sheet") ∷ optional (codes "bits") ∷ optional (codes "part") ∷ []
 
 -- the file of what the chip holds
 abbrev pub content : List Rule

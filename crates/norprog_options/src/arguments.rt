@@ -97,7 +97,7 @@ const SFDP: Choice = Choice {
     name: "sfdp",
     takes: Takes::File,
     required: false,
-    help: "The chip's SFDP bytes, a binary file; this or --uniform",
+    help: "The chip's SFDP bytes, a binary file; this, --uniform or --sheet",
 };
 
 const UNIFORM: Choice = Choice {
@@ -108,11 +108,18 @@ const UNIFORM: Choice = Choice {
         16777216",
 };
 
+const SHEET: Choice = Choice {
+    name: "sheet",
+    takes: Takes::File,
+    required: false,
+    help: "A sheet: what the chip is, in the lines that `norprog sfdp` prints, a text file",
+};
+
 const BITS: Choice = Choice {
     name: "bits",
     takes: Takes::Value("T"),
     required: false,
-    help: "Configuration bits of the SFDP sector map, 0 or 1 each; not with --uniform [default: \
+    help: "Configuration bits of the SFDP sector map, 0 or 1 each; only with --sfdp [default: \
         none]",
 };
 
@@ -420,7 +427,7 @@ const ANY_SIZE: Choice = Choice {
     name: "any-size",
     takes: Takes::Nothing,
     required: false,
-    help: "The chip's tables may say another size than --uniform [default: no]",
+    help: "The chip's tables may say another size than --uniform or the sheet [default: no]",
 };
 
 const REPEATS: Choice = Choice {
@@ -480,7 +487,7 @@ const EACH: &[Choice] = &[DETAILS, PLAIN];
 
 const IMAGE: &[Choice] = &[HEX, LAYOUT, BASE, REGIONS];
 
-const CHIP: &[Choice] = &[SFDP, UNIFORM, BITS, PART];
+const CHIP: &[Choice] = &[SFDP, UNIFORM, SHEET, BITS, PART];
 
 const CONTENT: &[Choice] = &[CONTENT_FILE];
 

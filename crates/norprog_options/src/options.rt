@@ -237,6 +237,7 @@ fn given_in<'a>(alloc: Global, job: &ArgMatches<'a>) -> Result<Given<'a>, Refusa
         layout: job.get_str("layout"),
         sfdp: job.get_str("sfdp"),
         uniform: job.get_str("uniform"),
+        sheet: job.get_str("sheet"),
         bits: job.get_str("bits"),
         part: job.get_str("part"),
         status: job.get_str("status"),
@@ -305,6 +306,7 @@ fn chip_in<'a>(chip: &ArgMatches<'a>) -> ChipArgs<'a>
     ChipArgs {
         sfdp: chip.get_str("sfdp"),
         uniform: chip.get_str("uniform"),
+        sheet: chip.get_str("sheet"),
         bits: chip.get_str("bits"),
         part: chip.get_str("part"),
     }

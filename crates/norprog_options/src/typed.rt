@@ -17,6 +17,7 @@ const NAMES: &[&str] = &[
     "base",
     "sfdp",
     "uniform",
+    "sheet",
     "bits",
     "part",
     "content",

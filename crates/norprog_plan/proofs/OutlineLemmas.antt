@@ -3,10 +3,10 @@ use Rattle.std.proofs.Common.{◌≡◌, ◌⊎◌, ℕ, Bool, List, Option, Res
 use Rattle.std.specs.Io.KnownBytes.{Appends}
 use Rattle.nor_base.specs.Device.{Ahead}
 use Rattle.nor_base.specs.Parameters.{Parameters}
-use Rattle.nor_job.specs.Chip.{chip_says}
+use Rattle.nor_job.proofs.ChipLemmas.{one_chip}
 use Rattle.nor_job.specs.Job.{IsJob}
 use Rattle.nor_job.specs.Task.{Task}
-use Rattle.nor_job.specs.Written.{CountsReader, CountsWriter}
+use Rattle.nor_job.specs.Written.{CountsReader, CountsWriter, passed}
 use Rattle.nor_job.specs.declared.fault.BuildFault.{BuildFault}
 use Rattle.nor_job.specs.declared.fault.BuildFault.TheVariants.{Memory}
 use Rattle.nor_job.specs.declared.job.Job.{Job}
@@ -19,24 +19,21 @@ use Rattle.norprog_plan.specs.declared.outline.Shows.{Shows}
 use Rattle.norprog_plan.specs.declared.outline.Told.{Told}
 use Rattle.norprog_plan.specs.declared.sums.Sums.{Sums}
 
-same_chip : {E : Type 0} (says : Result Parameters E) (m n : Parameters) → says ≡ Ok m → says ≡ Ok n → m ≡ n
-same_chip (Ok k) m n one other = cc
-same_chip (Err why) m n one other = cc
-
 pub tells : (shows : Shows) (t : Task) (len : ℕ) (a b : Ahead) (x y : Option (List ℕ)) (job : Job) (begun done : Sums) (report : Report) (drawn : Bool)
-    (r : Result Told BuildFault) → (all : PrintsLines job begun done t len a b x y report) → IsJob t len job → drawn ≡ shows.picture
+    (r : Result Told BuildFault) → (all : PrintsLines job begun done (passed a b x y) report) → IsJob t len job → drawn ≡ shows.picture
     → IfOk r (λ told. EndsWith shows.regions t len (behind_lines shows.times report t job.meaning all.lines) told.rest.items)
     → IfOk r (λ told. IsPicture drawn t job.meaning all.lines told.picture.items)
     → IfOk r (λ told. (lines : List ℕ) × IsOutline shows t len a (outline lines told) × Appends x y lines)
 tells shows t len a b x y job begun done report drawn (Err why) all is asked ends picture = tt
 tells shows t len a b x y job begun done report drawn (Ok told) all is asked ends picture =
-    let same = same_chip (chip_says t) job.meaning all.planned.m is.accepted.means all.planned.accepted.means in (
+    let planned = all.planned t len is in
+    let same = one_chip is.accepted.means planned.accepted.means in (
       lines_text all.lines,
       record {
         after = b;
         lines = all.lines;
         report = report;
-        planned = all.planned;
+        planned = planned;
         text = refl;
         ends = subst (λ (m : Parameters). EndsWith shows.regions t len (behind_lines shows.times report t m all.lines) told.rest.items) same ends;
         picture = subst (λ (m : Parameters). IsPicture shows.picture t m all.lines told.picture.items) same

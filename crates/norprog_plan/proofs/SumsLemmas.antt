@@ -5,6 +5,7 @@ use Rattle.std.specs.Io.KnownBytes.{Appends}
 use Rattle.std.proofs.lemmas.Grind.{flat_map-append}
 use Rattle.std.proofs.lemmas.List.{take-append-drop, append_assoc}
 use Rattle.std.proofs.lemmas.List.Sums.{sum_by-append}
+use Rattle.nor_job.specs.Written.{passed}
 use Rattle.nor_base.specs.Device.{Ahead, Cuts}
 use Rattle.nor_base.specs.Script.{closed}
 use Rattle.nor_base.proofs.DeviceLaws.{Appends-append}
@@ -51,13 +52,13 @@ room_of few q first now lines more job times sums ready its are = record {
 
 -- all windows were, and the report is that of the plan
 pub prints_lines : (p q : Planning) (job : Job) (begun done : Sums) (a b : Ahead) (x y : Option (List ℕ)) (r : Result Report BuildFault) → p.job ≡ job
-    → PrintsAll p q begun done a b x y → IfOk r (EndsPlan q)
-    → IfOk r (λ report. (t : Task) (len : ℕ) → IsJob t len job → PrintsLines job begun done t len a b x y report)
-prints_lines p q job begun done a b x y (Ok report) same all ends = λ t len is.
+    → PrintsAll p q begun done (passed a b x y) → IfOk r (EndsPlan q)
+    → IfOk r (PrintsLines job begun done (passed a b x y))
+prints_lines p q job begun done a b x y (Ok report) same all ends =
     let so = all.printed in
     record {
       lines = so.lines;
-      planned = ends t len a b so.lines (subst (λ (j : Job). IsJob t len j) (sym (all.job ∙ same)) is) so.told;
+      planned = λ t len is. ends t len a b so.lines (subst (λ (j : Job). IsJob t len j) (sym (all.job ∙ same)) is) so.told;
       put = so.put;
       sums = subst (λ (j : Job). GrewBy j begun done so.lines) (all.job ∙ same) so.sums;
     }
@@ -65,7 +66,7 @@ prints_lines p q job begun done a b x y (Err why) same all ends = tt
 
 -- or it isn't closed
 pub cuts_lines : (p q : Planning) (job : Job) (begun done : Sums) (a b : Ahead) (x y : Option (List ℕ)) (r : Result Report BuildFault) → p.job ≡ job
-    → PrintsAll p q begun done a b x y → IfErr r (λ why. (ahead : Ahead) → StopsLines q ahead ahead why) → IfErr r (IsCutPlan job a b x y)
+    → PrintsAll p q begun done (passed a b x y) → IfErr r (λ why. (ahead : Ahead) → StopsLines q ahead ahead why) → IfErr r (IsCutPlan job a b x y)
 cuts_lines p q job begun done a b x y (Ok report) same all stops = tt
 cuts_lines p q job begun done a b x y (Err why) same all stops =
     let so = all.printed in
@@ -75,9 +76,9 @@ pub lines_two : (these more : List PlanLine) → lines_text (these ++ more) ≡ 
 lines_two these more = flat_map-append (λ (l : PlanLine). closed (line_words l)) these more
 
 -- a window whose lines were added up, and then printed or not
-pub adds_window : (p q : Planning) (begun done more : Sums) (a b c : Ahead) (x y z : Option (List ℕ)) (lines : List PlanLine) → (so : HasPrinted p begun done a b x y) → q.job ≡ p.job
+pub adds_window : (p q : Planning) (begun done more : Sums) (a b c : Ahead) (x y z : Option (List ℕ)) (lines : List PlanLine) → (so : HasPrinted p begun done (passed a b x y)) → q.job ≡ p.job
     → HasTold q a c (so.lines ++ lines) → ((job : Job) (known : Option Times) (told : List PlanLine) → AreSums job known done told → AreSums job known more (told ++ lines))
-    → Appends y z (lines_text lines) → HasPrinted q begun more a c x z
+    → Appends y z (lines_text lines) → HasPrinted q begun more (passed a c x z)
 adds_window p q begun done more a b c x y z lines so same told added put = record {
   lines = so.lines ++ lines;
   told = told;
@@ -86,7 +87,7 @@ adds_window p q begun done more a b c x y z lines so same told added put = recor
 }
 
 -- the writer stopped at the lines of a window
-pub cut_window : CutsAnywhere → (p q : Planning) (begun done : Sums) (a b c : Ahead) (x y z : Option (List ℕ)) (lines : List PlanLine) → (so : HasPrinted p begun done a b x y)
+pub cut_window : CutsAnywhere → (p q : Planning) (begun done : Sums) (a b c : Ahead) (x y z : Option (List ℕ)) (lines : List PlanLine) → (so : HasPrinted p begun done (passed a b x y))
     → IsReady q → HasTold q a c (so.lines ++ lines) → Cuts y z (lines_text lines) → IsCutPlan q.job a c x z fault.Write
 cut_window anywhere p q begun done a b c x y z lines so ready told cut =
     let text = lines_text lines in
@@ -96,7 +97,7 @@ cut_window anywhere p q begun done a b c x y z lines so ready told cut =
     (Appends-append x y z (lines_text so.lines) (take cut.0 text) so.put cut.2) (inl refl)
 
 -- or nothing of them was written, since a growth was refused
-pub cut_before : CutsAnywhere → (p q : Planning) (begun done : Sums) (a b c : Ahead) (x y : Option (List ℕ)) (lines : List PlanLine) → (so : HasPrinted p begun done a b x y)
+pub cut_before : CutsAnywhere → (p q : Planning) (begun done : Sums) (a b c : Ahead) (x y : Option (List ℕ)) (lines : List PlanLine) → (so : HasPrinted p begun done (passed a b x y))
     → IsReady q → HasTold q a c (so.lines ++ lines) → IsCutPlan q.job a c x y fault.Memory
 cut_before anywhere p q begun done a b c x y lines so ready told =
     anywhere q a c x y (so.lines ++ lines) (lines_text so.lines) (lines_text lines) fault.Memory ready told (lines_two so.lines lines) so.put (inr refl)
@@ -107,15 +108,15 @@ pub ends_on : {L : Type 0} (items : L → List PlanLine) (p q : Planning) (b c :
 ends_on items p q b c None none goes = goes
 ends_on items p q b c (Some x) none goes = absurd (none x refl)
 
-pub prints_all : (p l q : Planning) (begun done : Sums) (a b c : Ahead) (x y : Option (List ℕ)) → IsReady l → l.job ≡ p.job → HasPrinted l begun done a b x y → q ≡ l → c ≡ b
-    → l.at ≡ l.job.meaning.size → PrintsAll p q begun done a c x y
+pub prints_all : (p l q : Planning) (begun done : Sums) (a b c : Ahead) (x y : Option (List ℕ)) → IsReady l → l.job ≡ p.job → HasPrinted l begun done (passed a b x y) → q ≡ l → c ≡ b
+    → l.at ≡ l.job.meaning.size → PrintsAll p q begun done (passed a c x y)
 prints_all p l q begun done a b c x y ready job so same still whole =
-    subst (λ (q : Planning). PrintsAll p q begun done a c x y) (sym same)
-    (subst (λ (c : Ahead). PrintsAll p l begun done a c x y) (sym still) (record { ready = ready; job = job; whole = whole; printed = so }))
+    subst (λ (q : Planning). PrintsAll p q begun done (passed a c x y)) (sym same)
+    (subst (λ (c : Ahead). PrintsAll p l begun done (passed a c x y)) (sym still) (record { ready = ready; job = job; whole = whole; printed = so }))
 
 -- all were, and memory may run out after them
 pub cut_after : {T : Type 0} → CutsAnywhere → (p q : Planning) (job : Job) (begun done : Sums) (a b : Ahead) (x y : Option (List ℕ)) (r : Result T BuildFault) → p.job ≡ job
-    → PrintsAll p q begun done a b x y → IfOk r (λ _. IsCutPlan job a b x y fault.Memory)
+    → PrintsAll p q begun done (passed a b x y) → IfOk r (λ _. IsCutPlan job a b x y fault.Memory)
 cut_after anywhere p q job begun done a b x y (Err why) same all = tt
 cut_after anywhere p q job begun done a b x y (Ok report) same all =
     let so = all.printed in

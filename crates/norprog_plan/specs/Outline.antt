@@ -5,7 +5,7 @@ use Rattle.nor_base.specs.Parameters.{Parameters}
 use Rattle.nor_hex.specs.Image.{Pairs}
 use Rattle.nor_job.specs.Causes.{HasRegions}
 use Rattle.nor_job.specs.Status.{start_of}
-use Rattle.nor_job.specs.Task.{Task, Origin, Sfdp, Uniform}
+use Rattle.nor_job.specs.Task.{Task, Origin, Sfdp, Uniform, Sheet}
 use Rattle.nor_layout.specs.Chosen.{has, is_chosen}
 use Rattle.nor_layout.specs.declared.chosen.Interval.{Interval}
 use Rattle.nor_layout.specs.Region.{Region}
@@ -25,10 +25,11 @@ use Rattle.norprog_plan.specs.declared.outline.Shows.{Shows}
 use Rattle.norprog_plan.specs.declared.outline.Told.{Told}
 use Rattle.norprog_plan.specs.Regions.{EndsWith}
 
--- the times that a chip's tables tell; a chip of a size alone has none
+-- the times that a chip's tables tell; a chip of a size alone, or of a sheet, has none
 abbrev pub tables_times : Origin → Option Times
 tables_times (Sfdp bytes bits) = times_of bytes
 tables_times (Uniform size) = None
+tables_times (Sheet text) = None
 
 -- the lines on how long the lines of a plan of the task take
 abbrev pub times_lines : Task → Parameters → List PlanLine → List ℕ

@@ -1,9 +1,10 @@
 -- What is added up of a plan's lines as they are printed (this project's).
 use Rattle.std.specs.Prelude.{◌≡◌, ℕ, ◌+◌, ◌^◌, ◌<◌, List, [], count_by, Option, IfSome}
 use Rattle.std.specs.Io.KnownBytes.{Appends}
-use Rattle.nor_base.specs.Device.{Ahead}
 use Rattle.nor_job.specs.declared.job.Job.{Job}
+use Rattle.nor_job.specs.Job.{IsJob}
 use Rattle.nor_job.specs.Task.{Task}
+use Rattle.nor_job.specs.Written.{Passed}
 use Rattle.nor_map.specs.Cells.{Wanted}
 use Rattle.nor_map.specs.Marks.{erases, marks_of, programs}
 use Rattle.nor_plan_read.specs.Lines.{lines_text}
@@ -34,22 +35,22 @@ abbrev pub GrewBy : Job → Sums → Sums → List PlanLine → Type 0
 GrewBy job begun done lines = (known : Option Times) → AreSums job known begun [] → AreSums job known done lines
 
 -- the lines of all windows so far were printed and added up
-pub record HasPrinted (p : Planning) (begun done : Sums) (before after : Ahead) (x y : Option (List ℕ)) : Type 0 where
+pub record HasPrinted (p : Planning) (begun done : Sums) (by : Passed) : Type 0 where
   pub lines : List PlanLine
-  pub told : HasTold p before after lines
-  pub put : Appends x y (lines_text lines)
+  pub told : HasTold p by.ahead by.rest lines
+  pub put : Appends by.begun by.ended (lines_text lines)
   pub sums : GrewBy p.job begun done lines
 
 -- those of all windows were
-pub record PrintsAll (p q : Planning) (begun done : Sums) (before after : Ahead) (x y : Option (List ℕ)) : Type 0 where
+pub record PrintsAll (p q : Planning) (begun done : Sums) (by : Passed) : Type 0 where
   pub ready : IsReady q
   pub job : q.job ≡ p.job
   pub whole : q.at ≡ q.job.meaning.size
-  pub printed : HasPrinted q begun done before after x y
+  pub printed : HasPrinted q begun done by
 
 -- the lines of the plan of whatever inputs the job is of were printed and added up, and this is its report
-pub record PrintsLines (job : Job) (begun done : Sums) (t : Task) (len : ℕ) (before after : Ahead) (x y : Option (List ℕ)) (report : Report) : Type 0 where
+pub record PrintsLines (job : Job) (begun done : Sums) (by : Passed) (report : Report) : Type 0 where
   pub lines : List PlanLine
-  pub planned : IsPlanned t len before after lines report
-  pub put : Appends x y (lines_text lines)
+  pub planned : (t : Task) (len : ℕ) → IsJob t len job → IsPlanned t len by.ahead by.rest lines report
+  pub put : Appends by.begun by.ended (lines_text lines)
   pub sums : GrewBy job begun done lines

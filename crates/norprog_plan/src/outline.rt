@@ -1,16 +1,16 @@
 //! What tells a plan: its lines, printed window after window, and what comes after them.
 
-ghost use Rattle.std.specs.Prelude.{◌≡◌, ◌⊎◌, ◌<◌, ◌-◌, ◌^◌, ℕ, List, [], Option, is_some};
+ghost use Rattle.std.specs.Prelude.{◌≡◌, ◌⊎◌, ℕ, List, [], Option, is_some};
 ghost use Rattle.std.specs.Prelude.{IfErr, IfOk};
 ghost use Rattle.std.specs.Io.KnownBytes.{Appends};
 ghost use Rattle.nor_base.specs.Accepted.{IsAccepted};
-ghost use Rattle.nor_base.specs.Device.{Counts, HaveRoom, Writes};
+ghost use Rattle.nor_base.specs.Device.{Counts, Writes};
 ghost use Rattle.nor_base.specs.Parameters.{Parameters};
 ghost use Rattle.nor_job.specs.Causes.{RefusesInputs};
 ghost use Rattle.nor_job.specs.Job.{IsJob};
 ghost use Rattle.nor_job.specs.Status.{start_of};
 ghost use Rattle.nor_job.specs.Task.{Task};
-ghost use Rattle.nor_job.specs.Written.{CountsReader, CountsWriter};
+ghost use Rattle.nor_job.specs.Written.{CountsReader, CountsWriter, passed};
 ghost use Rattle.nor_job.specs.declared.fault.BuildFault.TheVariants.{Memory};
 ghost use Rattle.nor_plan_read.specs.declared.line.PlanLine.{PlanLine as Line};
 ghost use Rattle.nor_times.specs.Timing.{timing_of};
@@ -68,7 +68,6 @@ pub fn tell<R: ByteIn, O: ByteOut>(
     title: &Title<'_>,
     out: &mut O,
 ) -> Result<Told, BuildFault>
-    requires room { HaveRoom (R.count content.old) (O.count out.old) }
     ensures told { IfOk result (λ told. (lines : List ℕ)
         × IsOutline shows inputs.now len (R.ahead content.old) (outline lines told)
         × Appends (O.held out.old) (O.held out.new) lines) }
@@ -100,11 +99,9 @@ fn print_lines<R: ByteIn, O: ByteOut>(
     out: &mut O,
 ) -> Result<Report, BuildFault>
     requires accepted { IsAccepted job.now.meaning }
-    requires room { HaveRoom (R.count content.old) (O.count out.old) }
     requires sums { (times : Option KnownTimes) × AreSums job.now times sums.old [] }
-    ensures printed { IfOk result (λ report. (t : Task) (len : ℕ) → IsJob t len job.now
-        → PrintsLines job.now sums.old sums.new t len (R.ahead content.old)
-        (R.ahead content.new) (O.held out.old) (O.held out.new) report) }
+    ensures printed { IfOk result (PrintsLines job.now sums.old sums.new
+        (passed (R.ahead content.old) (R.ahead content.new) (O.held out.old) (O.held out.new))) }
     ensures cut { IfErr result (IsCutPlan job.now (R.ahead content.old) (R.ahead content.new)
         (O.held out.old) (O.held out.new)) }
     ensures memory { IfOk result (λ _. IsCutPlan job.now (R.ahead content.old)
@@ -129,10 +126,9 @@ fn print_windows<R: ByteIn, O: ByteOut>(
 ) -> Result<(), BuildFault>
     requires begun { IsReady planner.old
         × HasTold planner.old (R.ahead content.old) (R.ahead content.old) [] }
-    requires room { HaveRoom (R.count content.old) (O.count out.old) }
     requires sums { (times : Option KnownTimes) × AreSums planner.old.job times sums.old [] }
     ensures printed { IfOk result (λ _. PrintsAll planner.old planner.new sums.old sums.new
-        (R.ahead content.old) (R.ahead content.new) (O.held out.old) (O.held out.new)) }
+        (passed (R.ahead content.old) (R.ahead content.new) (O.held out.old) (O.held out.new))) }
     ensures cut { IfErr result (IsCutPlan planner.old.job (R.ahead content.old)
         (R.ahead content.new) (O.held out.old) (O.held out.new)) }
     ensures counts { CountsReader (R.count content.old) (R.count content.new) result
@@ -203,7 +199,6 @@ fn put_report<W: ByteOut>(
     times: &PlanTimes<'_>,
     out: &mut W,
 ) -> Result<(), Failed>
-    requires { W.count out.old < 2 ^ 64 - 1 }
     ensures bytes { (t : Task) (m : Parameters) (lines : List Line)
         → times.now ≡ timing_of m (start_of t) t.verify (tables_times t.chip) lines
         → Writes (W.held out.old) (W.held out.new) result

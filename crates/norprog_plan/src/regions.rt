@@ -1,6 +1,6 @@
 //! The lines on what the image gives the chosen regions.
 
-ghost use Rattle.std.specs.Prelude.{◌≡◌, ◌<◌, ◌≤◌, ◌-◌, ◌^◌, ◌++◌, ℕ, IfOk, IfErr};
+ghost use Rattle.std.specs.Prelude.{◌≡◌, ◌++◌, ℕ, IfOk, IfErr};
 ghost use Rattle.nor_base.specs.Device.{Writes, Counts};
 ghost use Rattle.nor_hex.specs.Image.{byte_at};
 ghost use Rattle.nor_job.specs.Job.{IsJob};
@@ -89,7 +89,6 @@ fn write_line<W: ByteOut>(
     share: Option<Share>,
     out: &mut W,
 ) -> Result<(), Failed>
-    requires { W.count out.old < 2 ^ 64 - 1 }
     ensures bytes { Writes (W.held out.old) (W.held out.new) result (region_line region.now share) }
     ensures count { Counts (W.count out.old) (W.count out.new) result }
 {
@@ -108,7 +107,6 @@ fn write_share<W: ByteOut>(
     first: u32,
     out: &mut W,
 ) -> Result<(), Failed>
-    requires { W.count out.old < 2 ^ 64 - 1 }
     ensures bytes { Writes (W.held out.old) (W.held out.new) result
         (share_line region.now count words.now first) }
     ensures count { Counts (W.count out.old) (W.count out.new) result }

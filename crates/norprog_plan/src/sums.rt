@@ -60,12 +60,12 @@ impl<'m> Sums<'m> {
     }
 }
 
-/// The times that the chip's tables tell; a chip of a size alone has none.
+/// The times that the chip's tables tell; a chip of a size alone, or of a sheet, has none.
 fn known_times(inputs: &Inputs<'_>) -> Option<Times>
     ensures { result ≡ tables_times inputs.now.chip }
 {
     match inputs.chip {
         Source::Sfdp { bytes, .. } => read_times(bytes),
-        Source::Uniform(_) => None,
+        Source::Uniform(_) | Source::Sheet(_) => None,
     }
 }

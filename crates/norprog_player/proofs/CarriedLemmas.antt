@@ -22,7 +22,7 @@ use Rattle.norprog_player.specs.Carried.{IsCarried, AreCarried, IsFirstNotCarrie
 use Rattle.norprog_player.specs.Asked.{Begins}
 use Rattle.norprog_failure.specs.Reported.{FailsAs, read_address, other_byte, failure_by}
 use Rattle.norprog_player.specs.Ending.{asks, first, Course, EndsComparing, IsUnlikeAfter, MayBegin}
-use Rattle.norprog_device.specs.Wire.{wire, Wire}
+use Rattle.norprog_common.specs.Wire.{wire, Wire}
 use Rattle.norprog_player.specs.declared.follow.Halt.{Halt}
 use Rattle.norprog_player.specs.Moment.{halt_at, rules_of, DoesAll, Moment, Rules, StopsAt}
 use Rattle.norprog_player.proofs.TogetherLemmas.{head_of, all_right}

@@ -1,5 +1,4 @@
-pub mod BlameLemmas
-mod TakenLemmas
+pub mod TakenLemmas
 mod TogetherLemmas
 mod FollowedLemmas
 mod CarriedLemmas

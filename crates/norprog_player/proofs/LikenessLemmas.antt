@@ -9,7 +9,7 @@ use Rattle.nor_probe.specs.declared.difference.Mismatch.{Mismatch}
 use Rattle.nor_probe.specs.declared.own.AddressRegister.{AddressRegister}
 use Rattle.nor_probe.specs.Own.{register_of}
 use Rattle.nor_serprog.specs.declared.limits.Limits.{Limits}
-use Rattle.norprog_device.specs.Wire.{Wire}
+use Rattle.norprog_common.specs.Wire.{Wire}
 use Rattle.norprog_player.specs.declared.access.Access.{Access}
 use Rattle.norprog_player.specs.declared.ending.Ending.{Ending}
 use Rattle.norprog_player.specs.declared.ending.Ending.TheVariants.{Done, Wrong as GoesWrong, No, Unlike, Failed}

@@ -12,7 +12,7 @@ use Rattle.nor_loop.specs.Log.{Operation}
 use Rattle.nor_loop.specs.Reads.{switch_ops}
 use Rattle.nor_loop.proofs.DeviceLemmas.{logged_none, logged_both}
 use Rattle.nor_reader.specs.Switched.{StopsAmong}
-use Rattle.norprog_device.specs.Wire.{wire, Wire}
+use Rattle.norprog_common.specs.Wire.{wire, Wire}
 use Rattle.norprog_player.specs.declared.access.Access.TheVariants.{Entered}
 use Rattle.norprog_player.specs.Access.{reading, four_bytes, far_ops}
 use Rattle.norprog_player.specs.Compared.{asked, HasDone, Piece, ReadsBy, StopsOperating}

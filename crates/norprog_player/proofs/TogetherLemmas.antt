@@ -32,7 +32,7 @@ use Rattle.nor_serprog.specs.Follow.{Follows, Operates}
 use Rattle.nor_serprog.specs.Row.{CutsRow, HasHalted, IsRow, StopsWithin}
 use Rattle.norprog_failure.specs.declared.failure.Failure.{Failure}
 use Rattle.norprog_failure.specs.Reported.{FailsAs}
-use Rattle.norprog_device.specs.Wire.{wire, Wire}
+use Rattle.norprog_common.specs.Wire.{wire, Wire}
 use Rattle.norprog_player.specs.declared.follow.Halt.{Halt as Halted}
 use Rattle.norprog_player.specs.Moment.{halt_at, moment, stop_of, Does, DoesAll, IsTaken, Moment, Rules, Stop, StopsAt, StopsStep}
 use Rattle.norprog_player.specs.Together.{AreTaken, GivesExpected, IsPlain, MayGoTogether, StopsAlone}

@@ -35,18 +35,3 @@ abbrev pub fault_in : Result Ending Unplayed → Option Fault
 fault_in (Ok ending) = fault_of_ending ending
 fault_in (Err (Device why)) = fault_of_greeting why
 fault_in (Err (Refused why)) = None
-
--- so of work that ended early, by why it did
-abbrev pub fault_by : {T E : Type 0} → (E → Option Fault) → Result T E → Option Fault
-fault_by fault_of (Ok x) = None
-fault_by fault_of (Err why) = fault_of why
-
--- so of work that has an ending, by its ending
-abbrev pub fault_when : {T E : Type 0} → (T → Option Fault) → Result T E → Option Fault
-fault_when fault_of (Ok ending) = fault_of ending
-fault_when fault_of (Err why) = None
-
--- so of a port that failed, by why it did
-abbrev pub fault_of_reason : Reason → Option Fault
-fault_of_reason (reason.Exchange why) = Some why
-fault_of_reason other = None

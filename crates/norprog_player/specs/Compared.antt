@@ -9,7 +9,7 @@ use Rattle.nor_serprog.specs.declared.limits.Limits.{Limits}
 use Rattle.nor_serprog.specs.Exchange.{Answers, Asks, IsOther}
 use Rattle.nor_serprog.specs.Protocol.{request}
 use Rattle.nor_loop.specs.Log.{Operation, HasLogged}
-use Rattle.norprog_device.specs.Wire.{Wire}
+use Rattle.norprog_common.specs.Wire.{Wire}
 use Rattle.norprog_player.specs.declared.access.Access.{Access}
 use Rattle.norprog_player.specs.Access.{reading, read_ops}
 

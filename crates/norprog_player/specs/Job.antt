@@ -1,7 +1,7 @@
 -- What is to be played on which chip, and why that isn't known (this project's).
 use Rattle.std.specs.Prelude.{◌≡◌, ◌≢◌, ⊤, ℕ, ◌+◌, List, length, Result, Ok, Err}
 use Rattle.nor_base.specs.declared.step.Step.{Step}
-use Rattle.nor_base.specs.Device.{Ahead, Gives, IsAtEnd}
+use Rattle.nor_base.specs.Device.{Ahead, Gives, IsAtEnd, raised}
 use Rattle.nor_base.specs.Parameters.{Parameters}
 use Rattle.nor_base.specs.Script.{IsScript}
 use Rattle.nor_job.specs.declared.fault.BuildFault.TheVariants as fault
@@ -77,7 +77,7 @@ of_script other = 0
 
 abbrev pub CountsScript : {T : Type 0} → ℕ → ℕ → Result T Refusal → Type 0
 CountsScript before after (Ok x) = after ≡ before
-CountsScript before after (Err why) = after ≡ before + of_script why
+CountsScript before after (Err why) = after ≡ raised before (of_script why)
 
 -- a refusal that comes before any content is read
 abbrev pub IsEarly : Refusal → Type 0

@@ -4,7 +4,7 @@ use Rattle.nor_probe.specs.declared.difference.Mismatch.{Mismatch}
 use Rattle.nor_reader.specs.declared.by.ReadBy.{ReadBy}
 use Rattle.nor_reader.specs.declared.by.ReadBy.TheVariants.{Content}
 use Rattle.nor_reader.specs.Past.{ReadsPast}
-use Rattle.norprog_device.specs.Wire.{Wire}
+use Rattle.norprog_common.specs.Wire.{Wire}
 use Rattle.norprog_player.specs.declared.access.Access.{Access}
 use Rattle.norprog_player.specs.declared.access.Access.TheVariants.{Four}
 use Rattle.norprog_player.specs.Compared.{Comparison, HasCompared, StopsComparing}

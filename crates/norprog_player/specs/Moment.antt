@@ -11,7 +11,7 @@ use Rattle.nor_serprog.specs.declared.fault.Fault.TheVariants.{Write}
 use Rattle.nor_serprog.specs.declared.fault.Reason.{Reason}
 use Rattle.nor_serprog.specs.declared.fault.Reason.TheVariants.{Exchange}
 use Rattle.nor_serprog.specs.declared.limits.Limits.{Limits}
-use Rattle.norprog_device.specs.Wire.{wire, Wire}
+use Rattle.norprog_common.specs.Wire.{wire, Wire}
 use Rattle.norprog_failure.specs.declared.failure.Failure.{Failure}
 use Rattle.norprog_failure.specs.Reported.{FailsAs}
 use Rattle.norprog_player.specs.declared.follow.Halt.{Halt}

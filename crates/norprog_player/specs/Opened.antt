@@ -11,7 +11,7 @@ use Rattle.norprog_player.specs.declared.ending.Ending.{Ending}
 use Rattle.norprog_device.specs.declared.fault.DeviceFault.{DeviceFault}
 use Rattle.norprog_device.specs.declared.fault.DeviceFault.TheVariants.{Greet, Line}
 use Rattle.norprog_device.specs.Opened.{HasOpened, Opens}
-use Rattle.norprog_device.specs.Wire.{Wire}
+use Rattle.norprog_common.specs.Wire.{Wire}
 use Rattle.norprog_player.specs.declared.unplayed.Unplayed.{Unplayed}
 use Rattle.norprog_player.specs.declared.unplayed.Unplayed.TheVariants.{Refused, Device}
 use Rattle.norprog_player.specs.Ending.{EndsSo}
@@ -26,17 +26,17 @@ FailsTest before after limits (Greet why) = ⊥
 -- the handshake ended early, and the limits are those of before it; or the device reported these, and the test of the line ended early
 abbrev pub StopsOpening : Wire → Wire → Limits → Limits → DeviceFault → Type 0
 StopsOpening before after first limits (Greet why) = (limits ≡ first) × Greeted before.held after.held before.ahead after.ahead (Err why)
-StopsOpening before after first limits (Line why) = HasOpened before.held after.held before.ahead after.ahead limits (Err why)
+StopsOpening before after first limits (Line why) = HasOpened before after limits (Err why)
 
 -- the handshake and the test of the line ended so, the chip in memory as it was
 pub record GreetsSo (before after : Moment) (r : Result Limits DeviceFault) : Type 0 where
   pub shown : after.shown ≡ before.shown
-  pub opened : Opens before.wire.held after.wire.held before.wire.ahead after.wire.ahead r
+  pub opened : Opens before.wire after.wire r
 
 -- the device reported these limits, and the test of the line ended early, the chip in memory as it was
 pub record FailsLine (limits : Limits) (why : Fault) (before after : Moment) : Type 0 where
   pub shown : after.shown ≡ before.shown
-  pub opened : HasOpened before.wire.held after.wire.held before.wire.ahead after.wire.ahead limits (Err why)
+  pub opened : HasOpened before.wire after.wire limits (Err why)
 
 -- one of them ended early, the chip in memory as it was
 pub record StopsGreeting (first limits : Limits) (before after : Moment) (why : DeviceFault) : Type 0 where

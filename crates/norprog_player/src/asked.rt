@@ -1,15 +1,13 @@
 //! What the chip behind a device is asked before the steps.
 
-ghost use Rattle.std.specs.Prelude.{◌≡◌, ◌<◌, ◌≤◌, ◌+◌, ◌-◌, ◌*◌, ◌^◌, false, length, MatchResult};
+ghost use Rattle.std.specs.Prelude.{◌≡◌, ◌<◌, ◌≤◌, ◌*◌, ◌^◌, false, length, MatchResult};
 ghost use Rattle.std.specs.Prelude.{IfOk};
 ghost use Rattle.nor_probe.specs.Tables.{Compares as ComparesTables};
 ghost use Rattle.norprog_player.specs.Asked.{Begins, IsIdentified, IsSuited};
 ghost use Rattle.norprog_player.specs.Asked.{IsUnknown, IsUnmoved, StopsAsking, StopsMoved};
 ghost use Rattle.norprog_player.specs.Compared.{comparison};
-ghost use Rattle.norprog_device.specs.Blame.{fault_of_mismatch};
-ghost use Rattle.norprog_player.specs.Blame.{fault_by, fault_of_unlike};
 ghost use Rattle.norprog_player.specs.Expected.{expectation_of};
-ghost use Rattle.norprog_player.specs.Port.{asking, moment_of, Counts, FailsOnce, IsKept};
+ghost use Rattle.norprog_player.specs.Port.{asking, moment_of, IsKept};
 ghost use Rattle.nor_cells.specs.Marks.{IsMarked};
 
 use crate::access::Access;
@@ -34,18 +32,16 @@ pub(crate) fn begin<R: ByteIn + Drop, W: ByteOut + Drop>(
 ) -> Result<(), Unlike>
     requires marked { (length port.old.chip.chip.array < 2 ^ 32)
         × (length port.old.chip.chip.array ≡ 256 * length marks.now) }
-    requires count { port.old.failed < 2 ^ 64 - 1 }
     ensures begins { MatchResult result
         (λ _. Begins (asking port.old (expectation_of expected.entry))
-        (comparison port.old.limits access (IsMarked marks.now)) (moment_of port.old)
-        (moment_of port.new))
+        (comparison port.old.limits access (IsMarked marks.now)) (moment_of W.held R.ahead port.old)
+        (moment_of W.held R.ahead port.new))
         (λ why. (expected.entry.trusted ≡ false) × IsUnknown
         (asking port.old (expectation_of expected.entry))
-        (comparison port.old.limits access (IsMarked marks.now)) (moment_of port.old)
-        (moment_of port.new) why) }
+        (comparison port.old.limits access (IsMarked marks.now)) (moment_of W.held R.ahead port.old)
+        (moment_of W.held R.ahead port.new) why) }
     ensures kept { IsKept port.old port.new }
-    ensures failures { FailsOnce port.old port.new result }
-    ensures blamed { Counts port.old port.new (fault_by fault_of_unlike result) }
+    ensures fresh { IfOk result (λ _. port.new.reason ≡ port.old.reason) }
 {
     if expected.trusted {
         return Ok(());
@@ -63,15 +59,15 @@ fn identify<R: ByteIn + Drop, W: ByteOut + Drop>(
     port: &mut Shadowed<'_, R, W>,
     expected: Expected<'_>,
 ) -> Result<(), Unlike>
-    requires count { port.old.failed < 2 ^ 64 - 1 }
     ensures identified { MatchResult result
-        (λ _. IsIdentified (asking port.old (expectation_of expected.entry)) (moment_of port.old)
-        (moment_of port.new))
-        (StopsAsking (asking port.old (expectation_of expected.entry)) (moment_of port.old)
-        (moment_of port.new)) }
+        (λ _. IsIdentified (asking port.old (expectation_of expected.entry))
+        (moment_of W.held R.ahead port.old)
+        (moment_of W.held R.ahead port.new))
+        (StopsAsking (asking port.old (expectation_of expected.entry))
+        (moment_of W.held R.ahead port.old)
+        (moment_of W.held R.ahead port.new)) }
     ensures kept { IsKept port.old port.new }
-    ensures failures { FailsOnce port.old port.new result }
-    ensures blamed { Counts port.old port.new (fault_by fault_of_unlike result) }
+    ensures fresh { IfOk result (λ _. port.new.reason ≡ port.old.reason) }
 {
     ask_status(port, expected)?;
     if let Err(why) = ask_tables(port, expected.tables) {
@@ -86,15 +82,15 @@ fn ask_status<R: ByteIn + Drop, W: ByteOut + Drop>(
     port: &mut Shadowed<'_, R, W>,
     expected: Expected<'_>,
 ) -> Result<(), Unlike>
-    requires count { port.old.failed < 2 ^ 64 - 1 }
     ensures suited { MatchResult result
-        (λ _. IsSuited (asking port.old (expectation_of expected.entry)) (moment_of port.old)
-        (moment_of port.new))
-        (StopsAsking (asking port.old (expectation_of expected.entry)) (moment_of port.old)
-        (moment_of port.new)) }
+        (λ _. IsSuited (asking port.old (expectation_of expected.entry))
+        (moment_of W.held R.ahead port.old)
+        (moment_of W.held R.ahead port.new))
+        (StopsAsking (asking port.old (expectation_of expected.entry))
+        (moment_of W.held R.ahead port.old)
+        (moment_of W.held R.ahead port.new)) }
     ensures kept { IsKept port.old port.new }
-    ensures failures { FailsOnce port.old port.new result }
-    ensures blamed { Counts port.old port.new (fault_by fault_of_unlike result) }
+    ensures fresh { IfOk result (λ _. port.new.reason ≡ port.old.reason) }
 {
     match chip_status(&mut port.from, &mut port.to, expected.part, port.turns) {
         Ok(status) => {
@@ -107,7 +103,7 @@ fn ask_status<R: ByteIn + Drop, W: ByteOut + Drop>(
             }
         }
         Err(why) => {
-            port.failed += 1;
+            port.failed = port.failed.saturating_add(1);
             port.reason = Some(why);
             match why {
                 Reason::Exchange(fault) => Err(Unlike::Asking(fault)),
@@ -125,16 +121,14 @@ fn ask_tables<R: ByteIn + Drop, W: ByteOut + Drop>(
     tables: &[u8],
 ) -> Result<(), Mismatch>
     requires few { length tables.now ≤ 2 ^ 24 }
-    requires count { port.old.failed < 2 ^ 64 - 1 }
     ensures kept { IsKept port.old port.new }
     ensures compared { ComparesTables (W.held port.old.to) (W.held port.new.to)
         (R.ahead port.old.from) (R.ahead port.new.from) result port.old.limits tables.now }
-    ensures failures { FailsOnce port.old port.new result }
-    ensures blamed { Counts port.old port.new (fault_by fault_of_mismatch result) }
+    ensures fresh { IfOk result (λ _. port.new.reason ≡ port.old.reason) }
 {
     let compared = compare_tables(&mut port.from, &mut port.to, &port.limits, tables);
     if let Err(why) = compared {
-        port.failed += 1;
+        port.failed = port.failed.saturating_add(1);
         port.reason = Some(reason_of(why));
     }
     compared
@@ -146,13 +140,12 @@ fn ask_register<R: ByteIn + Drop, W: ByteOut + Drop>(
     port: &mut Shadowed<'_, R, W>,
     named: Option<AddressRegister>,
 ) -> Result<(), Unlike>
-    requires count { port.old.failed < 2 ^ 64 - 1 }
     ensures unmoved { MatchResult result
-        (λ _. IsUnmoved named (moment_of port.old) (moment_of port.new))
-        (StopsMoved named (moment_of port.old) (moment_of port.new)) }
+        (λ _. IsUnmoved named (moment_of W.held R.ahead port.old)
+        (moment_of W.held R.ahead port.new))
+        (StopsMoved named (moment_of W.held R.ahead port.old) (moment_of W.held R.ahead port.new)) }
     ensures kept { IsKept port.old port.new }
-    ensures failures { FailsOnce port.old port.new result }
-    ensures blamed { Counts port.old port.new (fault_by fault_of_unlike result) }
+    ensures fresh { IfOk result (λ _. port.new.reason ≡ port.old.reason) }
 {
     let Some(register) = named else {
         return Ok(());
@@ -161,7 +154,7 @@ fn ask_register<R: ByteIn + Drop, W: ByteOut + Drop>(
         Ok(value) if is_moved(register, value) => Err(Unlike::Moved(value)),
         Ok(_) => Ok(()),
         Err(why) => {
-            port.failed += 1;
+            port.failed = port.failed.saturating_add(1);
             port.reason = Some(Reason::Exchange(why));
             Err(Unlike::Asking(why))
         }

@@ -1,11 +1,8 @@
 //! What the chip behind a device holds, compared with a content.
 
-ghost use Rattle.std.specs.Prelude.{◌≡◌, ◌<◌, ◌≤◌, ◌+◌, ◌-◌, ◌*◌, ◌^◌, length, MatchResult};
-ghost use Rattle.nor_base.specs.Device.{HaveRoom};
+ghost use Rattle.std.specs.Prelude.{◌≡◌, ◌<◌, ◌≤◌, ◌*◌, ◌^◌, length, MatchResult};
 ghost use Rattle.nor_cells.specs.Marks.{IsMarked};
-ghost use Rattle.nor_probe.specs.Compared.{CountsMismatch};
-ghost use Rattle.nor_serprog.specs.declared.fault.Fault.TheVariants.{Read, Write};
-ghost use Rattle.norprog_device.specs.Wire.{wire};
+ghost use Rattle.norprog_common.specs.Wire.{wire};
 ghost use Rattle.norprog_player.specs.Compared.{comparison, HasCompared, IsOneSidedPiece};
 ghost use Rattle.norprog_player.specs.Compared.{StopsComparing};
 ghost use Rattle.norprog_player.specs.Likeness.{ComparesWhole, past_by};
@@ -33,12 +30,9 @@ pub(crate) fn compare_whole<R: ByteIn, W: ByteOut>(
 ) -> Result<(), Mismatch>
     requires size { length content.now < 2 ^ 32 }
     requires cells { length content.now ≡ 256 * length marks.now }
-    requires room { HaveRoom (R.count from.old) (W.count to.old) }
     ensures compared { ComparesWhole (wire (W.held to.old) (R.ahead from.old))
         (wire (W.held to.new) (R.ahead from.new))
         (comparison limits.now access (IsMarked marks.now)) content.now result }
-    ensures counts { CountsMismatch Read (R.count from.old) (R.count from.new) result
-        × CountsMismatch Write (W.count to.old) (W.count to.new) result }
 {
     compare(from, to, limits, access, content, marks)?;
     read_past(from, to, limits, past_by(access), content)?;
@@ -68,7 +62,6 @@ fn compare<R: ByteIn, W: ByteOut>(
 ) -> Result<(), Mismatch>
     requires size { length content.now < 2 ^ 32 }
     requires cells { length content.now ≡ 256 * length marks.now }
-    requires room { HaveRoom (R.count from.old) (W.count to.old) }
     ensures compared { MatchResult result
         (λ _. HasCompared (wire (W.held to.old) (R.ahead from.old))
         (wire (W.held to.new) (R.ahead from.new))
@@ -76,8 +69,6 @@ fn compare<R: ByteIn, W: ByteOut>(
         (StopsComparing (wire (W.held to.old) (R.ahead from.old))
         (wire (W.held to.new) (R.ahead from.new))
         (comparison limits.now access (IsMarked marks.now)) content.now) }
-    ensures counts { CountsMismatch Read (R.count from.old) (R.count from.new) result
-        × CountsMismatch Write (W.count to.old) (W.count to.new) result }
 {
     let mut done = 0;
     while let Some((start, most)) = next_piece(marks, done, limits.asked as usize) {

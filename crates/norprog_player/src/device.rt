@@ -1,19 +1,18 @@
 //! A script on a device.
 
-ghost use Rattle.std.specs.Prelude.{◌≡◌, ◌≤◌, ◌<◌, ◌+◌, ◌-◌, ◌*◌, ◌^◌, ◌⊎◌, [], None, false};
+ghost use Rattle.std.specs.Prelude.{◌≡◌, ◌≤◌, ◌<◌, ◌*◌, ◌^◌, ◌⊎◌, [], None, false};
 ghost use Rattle.std.specs.Prelude.{length, All, MatchResult};
 ghost use Rattle.nor_base.specs.Chip.{chip_of};
 ghost use Rattle.nor_base.specs.Run.{trail};
 ghost use Rattle.nor_base.specs.Sample.{sampled_count};
 ghost use Rattle.nor_base.specs.Step.{step_clocks};
 ghost use Rattle.nor_chip.specs.Ready.{ready_chip};
-ghost use Rattle.norprog_player.specs.Blame.{fault_of_ending, fault_when};
 ghost use Rattle.norprog_player.specs.Early.{GoesWellInMemory};
 ghost use Rattle.norprog_common.specs.Told.{output};
 ghost use Rattle.norprog_player.specs.Ending.{course, EndsComparing, EndsSo, MayBegin, SaysBlank};
 ghost use Rattle.norprog_player.specs.Expected.{expectation_of, play_of};
 ghost use Rattle.norprog_player.specs.Progress.{ReportsPlay};
-ghost use Rattle.norprog_player.specs.Port.{moment_of, rules_at, Counts};
+ghost use Rattle.norprog_player.specs.Port.{moment_of, rules_at};
 ghost use Rattle.nor_cells.specs.Cells.{IsInCellOf};
 ghost use Rattle.nor_cells.specs.Marks.{IsMarked};
 ghost use Rattle.nor_cells.specs.Wrap.{ShowsWrap};
@@ -46,9 +45,7 @@ pub fn play_on_device<R: ByteIn + Drop, W: ByteOut + Drop, P: ByteOut>(
     port: &mut Shadowed<'_, R, W>,
     progress: &mut P,
 ) -> Result<Ending, AllocError>
-    requires ready { (port.old.reason ≡ None)
-        × (port.old.failed < 2 ^ 64 - 1)
-        × (P.count progress.old < 2 ^ 64 - 1) }
+    requires ready { (port.old.reason ≡ None) }
     requires chip { (port.old.chip ≡ ready_chip (chip_of meaning.now expected.start [] false)
         port.old.chip.chip.array)
         × (length port.old.chip.chip.array ≡ meaning.now.size) }
@@ -57,12 +54,11 @@ pub fn play_on_device<R: ByteIn + Drop, W: ByteOut + Drop, P: ByteOut>(
         ≡ length (trail port.old.chip.setting port.old.chip.chip steps.now)) }
     ensures ends { MatchResult result
         (λ ending. EndsSo port.old.limits (play_of steps.now (expectation_of expected.entry)
-        meaning.now port.old.chip.chip.array port.old.turns) (moment_of port.old) ending
-        (moment_of port.new))
+        meaning.now port.old.chip.chip.array port.old.turns)
+        (moment_of W.held R.ahead port.old) ending
+        (moment_of W.held R.ahead port.new))
         (λ _. port.new ≡ port.old) }
-    ensures after { (port.new.failed ≤ port.old.failed + 1)
-        × (port.new.limits ≡ port.old.limits)
-        × Counts port.old port.new (fault_when fault_of_ending result) }
+    ensures after { (port.new.limits ≡ port.old.limits) }
     ensures told { MatchResult result
         (λ ending. ReportsPlay steps.now ending (output P.held P.count progress.old progress.new))
         (λ _. progress.new ≡ progress.old) }
@@ -105,22 +101,19 @@ fn play_compared<R: ByteIn + Drop, W: ByteOut + Drop, P: ByteOut>(
     room: &mut [u8],
     progress: &mut P,
 ) -> Ending
-    requires ready { (port.old.reason ≡ None)
-        × (port.old.failed < 2 ^ 64 - 1)
-        × (P.count progress.old < 2 ^ 64 - 1) }
+    requires ready { (port.old.reason ≡ None) }
     requires content { (length port.old.chip.chip.array < 2 ^ 32)
         × (length port.old.chip.chip.array ≡ 256 * length cells.old)
         × SaysBlank (expectation_of expected) port.old.chip.chip.array blank }
-    requires steps { MayBegin port.old.limits (moment_of port.old) steps.now
+    requires steps { MayBegin port.old.limits (moment_of W.held R.ahead port.old) steps.now
         × (transactions ≡ length (trail port.old.chip.setting port.old.chip.chip steps.now))
         × All (λ step. sampled_count (step_clocks step) ≤ length room.old) steps.now }
     ensures ends { EndsComparing (course (rules_at port.old meaning.now)
         (expectation_of expected.entry) access (IsMarked cells.old)
-        (λ left a. IsMarked cells.old a ⊎ IsInCellOf (ShowsWrap left) a)) (moment_of port.old)
-        steps.now result (moment_of port.new) }
-    ensures after { (port.new.failed ≤ port.old.failed + 1)
-        × (port.new.limits ≡ port.old.limits)
-        × Counts port.old port.new (fault_of_ending result) }
+        (λ left a. IsMarked cells.old a ⊎ IsInCellOf (ShowsWrap left) a))
+        (moment_of W.held R.ahead port.old)
+        steps.now result (moment_of W.held R.ahead port.new) }
+    ensures after { (port.new.limits ≡ port.old.limits) }
     ensures told { ReportsPlay steps.now result (output P.held P.count progress.old progress.new) }
 {
     if let Err(why) = begin(port, expected, access, cells) {

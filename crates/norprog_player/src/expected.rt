@@ -18,20 +18,20 @@ pub struct Expected<'a> {
     /// How it begins.
     pub start: Start,
     /// The SFDP bytes that it has to have, from address 0 on; none where it is only known by its
-    /// size.
+    /// size or a sheet.
     pub tables: &'a [u8],
     /// Nothing is asked of it before the steps, and nothing is read back after them.
     pub trusted: bool,
     ghost few: { length tables.now ≤ 2 ^ 24 },
 }
 
-/// The SFDP bytes of the inputs as far as their headers reach; none of a uniform chip.
+/// The SFDP bytes of the inputs as far as their headers reach; none of a uniform chip or a sheet.
 pub fn known_tables<'a>(inputs: &Inputs<'a>) -> &'a [u8]
     ensures tables { result.now ≡ tables_of inputs.now.chip }
     ensures few { length result.now ≤ 2 ^ 24 }
 {
     match inputs.chip {
         Source::Sfdp { bytes, bits: _ } => &bytes[..tables_reach(bytes).min(MOST_TABLES)],
-        Source::Uniform(_) => &[],
+        Source::Uniform(_) | Source::Sheet(_) => &[],
     }
 }

@@ -1,6 +1,6 @@
 //! Steps done by a device, beside a chip in memory.
 
-ghost use Rattle.std.specs.Prelude.{◌≡◌, ◌≤◌, ◌<◌, ◌+◌, ◌-◌, ◌^◌, None, Ok, get_or, length, take};
+ghost use Rattle.std.specs.Prelude.{◌≡◌, ◌≤◌, ◌<◌, None, Ok, get_or, length, take};
 ghost use Rattle.std.specs.Prelude.{All, MatchResult, IfOk, IfErr};
 ghost use Rattle.nor_base.specs.Chip.{Chip as ShownChip};
 ghost use Rattle.nor_base.specs.Run.{played};
@@ -9,12 +9,10 @@ ghost use Rattle.nor_base.specs.Step.{expected, step_clocks};
 ghost use Rattle.nor_progress.specs.Text.{Reports};
 ghost use Rattle.nor_serprog.specs.Row.{IsRow};
 ghost use Rattle.norprog_player.specs.Carried.{AreCarried};
-ghost use Rattle.norprog_failure.specs.Blame.{fault_of_failure};
 ghost use Rattle.norprog_failure.specs.Reported.{FailsAs};
-ghost use Rattle.norprog_player.specs.Blame.{fault_by, fault_of_reason};
 ghost use Rattle.norprog_player.specs.Moment.{Does, DoesAll, IsTaken, StopsAt};
 ghost use Rattle.norprog_player.specs.Together.{MayGoTogether, StopsAlone};
-ghost use Rattle.norprog_player.specs.Port.{moment_of, rules_at, Counts};
+ghost use Rattle.norprog_player.specs.Port.{moment_of, rules_at};
 
 use crate::together::{expected, row_of, take_row};
 use nor_base::{ByteIn, ByteOut, Meaning, PortFault, Step, sampled};
@@ -41,24 +39,20 @@ pub(crate) fn follow_steps<R: ByteIn + Drop, W: ByteOut + Drop, P: ByteOut>(
     room: &mut [u8],
     progress: &mut P,
 ) -> Result<(), Halt>
-    requires ready { (port.old.reason ≡ None)
-        × (port.old.failed < 2 ^ 64 - 1)
-        × (P.count progress.old < 2 ^ 64 - 1) }
+    requires ready { (port.old.reason ≡ None) }
     requires steps { All (λ step. sampled_count (step_clocks step) ≤ length room.old) steps.now
         × ((chip : ShownChip)
         × (played port.old.chip.setting 1 port.old.chip.chip steps.now ≡ Ok chip))
         × AreCarried port.old.limits steps.now }
     ensures chip { IfOk result (λ _. played port.old.chip.setting 1 port.old.chip.chip steps.now
         ≡ Ok port.new.chip.chip) }
-    ensures failures { IfOk result (λ _. port.new.failed ≡ port.old.failed)
-        × (port.new.failed ≤ port.old.failed + 1)
-        × (port.new.limits ≡ port.old.limits)
-        × Counts port.old port.new (fault_by (λ halt. fault_of_failure halt.why) result) }
+    ensures limits { port.new.limits ≡ port.old.limits }
     ensures done { MatchResult result
-        (λ _. DoesAll port.old.limits port.old.turns (moment_of port.old) steps.now
-        (moment_of port.new))
-        (λ halt. StopsAt (rules_at port.old meaning.now) (moment_of port.old) steps.now halt
-        (moment_of port.new)) }
+        (λ _. DoesAll port.old.limits port.old.turns (moment_of W.held R.ahead port.old) steps.now
+        (moment_of W.held R.ahead port.new))
+        (λ halt. StopsAt (rules_at port.old meaning.now)
+        (moment_of W.held R.ahead port.old) steps.now halt
+        (moment_of W.held R.ahead port.new)) }
     ensures told { MatchResult result
         (λ _. Reports steps.now (length steps.now) (P.held progress.old) (P.held progress.new)
         (P.count progress.old)
@@ -98,21 +92,19 @@ fn follow_row<R: ByteIn + Drop, W: ByteOut + Drop>(
         × (count ≤ length steps.now)
         × IsRow port.old.limits (take count steps.now)
         × MayGoTogether (take count steps.now) }
-    requires ready { (port.old.reason ≡ None)
-        × (port.old.failed < 2 ^ 64 - 1) }
+    requires ready { (port.old.reason ≡ None) }
     requires steps { All (λ step. sampled_count (step_clocks step) ≤ length room.old) steps.now
         × ((chip : ShownChip)
         × (played port.old.chip.setting 1 port.old.chip.chip steps.now ≡ Ok chip)) }
     ensures done { MatchResult result
-        (λ _. DoesAll port.old.limits port.old.turns (moment_of port.old) (take count steps.now)
-        (moment_of port.new))
-        (λ halt. StopsAt (rules_at port.old meaning.now) (moment_of port.old) (take count steps.now)
-        halt (moment_of port.new)) }
-    ensures failures { (port.new.failed ≤ port.old.failed + 1)
-        × IfOk result (λ _. port.new.reason ≡ None)
-        × IfOk result (λ _. port.new.failed ≡ port.old.failed)
-        × IfErr result (λ halt. halt.step < count)
-        × Counts port.old port.new (fault_by (λ halt. fault_of_failure halt.why) result) }
+        (λ _. DoesAll port.old.limits port.old.turns
+        (moment_of W.held R.ahead port.old) (take count steps.now)
+        (moment_of W.held R.ahead port.new))
+        (λ halt. StopsAt (rules_at port.old meaning.now)
+        (moment_of W.held R.ahead port.old) (take count steps.now)
+        halt (moment_of W.held R.ahead port.new)) }
+    ensures fresh { IfOk result (λ _. port.new.reason ≡ None) }
+    ensures within { IfErr result (λ halt. halt.step < count) }
     ensures kept { (port.new.limits ≡ port.old.limits)
         × (port.new.turns ≡ port.old.turns)
         × (length room.new ≡ length room.old) }
@@ -129,7 +121,7 @@ fn follow_row<R: ByteIn + Drop, W: ByteOut + Drop>(
     match do_row(&mut port.from, &mut port.to, &port.limits, port.turns, row) {
         Ok(()) => Ok(()),
         Err(halt) => {
-            port.failed += 1;
+            port.failed = port.failed.saturating_add(1);
             port.reason = Some(halt.why);
             Err(failed(meaning, row, halt.step, halt.why))
         }
@@ -142,7 +134,6 @@ fn failed(meaning: &Meaning, row: &[Step], step: u64, why: Reason) -> Halt
     ensures step { result.step ≡ step }
     ensures why { (x : Step) → x ≡ get_or row.now step x
         → FailsAs meaning.now (step_clocks x) (expected x) why result.why }
-    ensures fault { fault_of_failure result.why ≡ fault_of_reason why }
 {
     let at = &row[step as usize];
     let why = failure_of(meaning, at.clocks(), expected(at), why);
@@ -156,19 +147,16 @@ fn follow_step<R: ByteIn + Drop, W: ByteOut + Drop>(
     port: &mut Shadowed<'_, R, W>,
     room: &mut [u8],
 ) -> Result<(), Failure>
-    requires ready { (port.old.reason ≡ None)
-        × (port.old.failed < 2 ^ 64 - 1) }
+    requires ready { (port.old.reason ≡ None) }
     requires step { (sampled_count (step_clocks step.now) ≤ length room.old)
         × IsTaken port.old.chip (step_clocks step.now) }
     ensures done { MatchResult result
-        (λ _. Does port.old.limits port.old.turns (moment_of port.old) (step_clocks step.now)
-        (moment_of port.new))
-        (λ failed. StopsAlone (rules_at port.old meaning.now) (moment_of port.old)
-        (step_clocks step.now) failed (moment_of port.new)) }
-    ensures failures { (port.new.failed ≤ port.old.failed + 1)
-        × IfOk result (λ _. port.new.reason ≡ None)
-        × IfOk result (λ _. port.new.failed ≡ port.old.failed) }
-    ensures blamed { Counts port.old port.new (fault_by fault_of_failure result) }
+        (λ _. Does port.old.limits port.old.turns
+        (moment_of W.held R.ahead port.old) (step_clocks step.now)
+        (moment_of W.held R.ahead port.new))
+        (λ failed. StopsAlone (rules_at port.old meaning.now) (moment_of W.held R.ahead port.old)
+        (step_clocks step.now) failed (moment_of W.held R.ahead port.new)) }
+    ensures fresh { IfOk result (λ _. port.new.reason ≡ None) }
     ensures kept { (port.new.limits ≡ port.old.limits)
         × (port.new.turns ≡ port.old.turns)
         × (length room.new ≡ length room.old) }

@@ -1,7 +1,7 @@
 //! A script on a device, from its handshake on.
 
-ghost use Rattle.std.specs.Prelude.{◌≡◌, ◌<◌, ◌≤◌, ◌+◌, ◌-◌, ◌^◌, [], None, Ok, Err, false, length};
-ghost use Rattle.std.specs.Prelude.{◌&&◌, not, IfOk, MatchResult};
+ghost use Rattle.std.specs.Prelude.{◌≡◌, [], None, Ok, Err, false, length};
+ghost use Rattle.std.specs.Prelude.{◌&&◌, not, MatchResult};
 ghost use Rattle.nor_base.specs.Chip.{chip_of};
 ghost use Rattle.nor_base.specs.Run.{trail};
 ghost use Rattle.nor_chip.specs.Ready.{ready_chip};
@@ -10,14 +10,12 @@ ghost use Rattle.nor_serprog.specs.Line.{TestsLine};
 ghost use Rattle.norprog_player.specs.Early.{GoesWellInMemory};
 ghost use Rattle.norprog_player.specs.Expected.{expectation_of, play_of};
 ghost use Rattle.norprog_player.specs.Progress.{ReportsPlay};
-ghost use Rattle.norprog_device.specs.Blame.{fault_of_greeting};
 ghost use Rattle.norprog_common.specs.Told.{output};
 ghost use Rattle.norprog_device.specs.Opened.{Opens};
-ghost use Rattle.norprog_device.specs.Wire.{wire};
-ghost use Rattle.norprog_player.specs.Blame.{fault_by, fault_in};
+ghost use Rattle.norprog_common.specs.Wire.{wire};
 ghost use Rattle.norprog_player.specs.Opened.{FailsTest, HasPlayed, Releases, StopsBefore};
 ghost use Rattle.norprog_player.specs.Opened.{StopsOpening};
-ghost use Rattle.norprog_player.specs.Port.{moment_of, Counts};
+ghost use Rattle.norprog_player.specs.Port.{moment_of};
 
 use crate::device::play_on_device;
 use crate::ending::Ending;
@@ -43,9 +41,7 @@ pub(crate) fn greet_and_play<R: ByteIn + Drop, W: ByteOut + Drop, P: ByteOut>(
     port: &mut Shadowed<'_, R, W>,
     progress: &mut P,
 ) -> Result<Ending, Unplayed>
-    requires ready { (port.old.reason ≡ None)
-        × (port.old.failed < 2 ^ 64 - 1)
-        × (P.count progress.old < 2 ^ 64 - 1) }
+    requires ready { (port.old.reason ≡ None) }
     requires chip { (port.old.chip ≡ ready_chip (chip_of meaning.now expected.start [] false)
         port.old.chip.chip.array)
         × (length port.old.chip.chip.array ≡ meaning.now.size) }
@@ -54,14 +50,14 @@ pub(crate) fn greet_and_play<R: ByteIn + Drop, W: ByteOut + Drop, P: ByteOut>(
         ≡ length (trail port.old.chip.setting port.old.chip.chip steps.now)) }
     ensures ends { MatchResult result
         (λ ending. HasPlayed port.new.limits (play_of steps.now (expectation_of expected.entry)
-        meaning.now port.old.chip.chip.array port.old.turns) (moment_of port.old) ending
-        (moment_of port.new))
-        (StopsBefore port.old.limits port.new.limits (moment_of port.old) (moment_of port.new)) }
+        meaning.now port.old.chip.chip.array port.old.turns)
+        (moment_of W.held R.ahead port.old) ending
+        (moment_of W.held R.ahead port.new))
+        (StopsBefore port.old.limits port.new.limits (moment_of W.held R.ahead port.old)
+        (moment_of W.held R.ahead port.new)) }
     ensures told { MatchResult result
         (λ ending. ReportsPlay steps.now ending (output P.held P.count progress.old progress.new))
         (λ _. progress.new ≡ progress.old) }
-    ensures blamed { Counts port.old port.new (fault_in result)
-        × (port.new.failed ≤ port.old.failed + 1) }
 {
     greet_and_test(port)?;
     let ending = play_on_device(
@@ -81,18 +77,14 @@ pub(crate) fn greet_and_play<R: ByteIn + Drop, W: ByteOut + Drop, P: ByteOut>(
 fn greet_and_test<R: ByteIn + Drop, W: ByteOut + Drop>(
     port: &mut Shadowed<'_, R, W>,
 ) -> Result<(), DeviceFault>
-    requires count { port.old.failed < 2 ^ 64 - 1 }
     ensures opened { MatchResult result
-        (λ _. Opens (W.held port.old.to) (W.held port.new.to) (R.ahead port.old.from)
-        (R.ahead port.new.from) (Ok port.new.limits))
+        (λ _. Opens (wire (W.held port.old.to) (R.ahead port.old.from))
+        (wire (W.held port.new.to) (R.ahead port.new.from)) (Ok port.new.limits))
         (StopsOpening (wire (W.held port.old.to) (R.ahead port.old.from))
         (wire (W.held port.new.to) (R.ahead port.new.from)) port.old.limits port.new.limits) }
     ensures chip { port.new.chip ≡ port.old.chip }
     ensures turns { port.new.turns ≡ port.old.turns }
     ensures fresh { port.new.reason ≡ port.old.reason }
-    ensures failures { IfOk result (λ _. port.new.failed ≡ port.old.failed)
-        × (port.new.failed ≤ port.old.failed + 1)
-        × Counts port.old port.new (fault_by fault_of_greeting result) }
 {
     greet_port(port)?;
     test_port(port)
@@ -102,7 +94,6 @@ fn greet_and_test<R: ByteIn + Drop, W: ByteOut + Drop>(
 fn greet_port<R: ByteIn + Drop, W: ByteOut + Drop>(
     port: &mut Shadowed<'_, R, W>,
 ) -> Result<(), DeviceFault>
-    requires count { port.old.failed < 2 ^ 64 - 1 }
     ensures greeted { MatchResult result
         (λ _. Greeted (W.held port.old.to) (W.held port.new.to) (R.ahead port.old.from)
         (R.ahead port.new.from) (Ok port.new.limits))
@@ -111,9 +102,6 @@ fn greet_port<R: ByteIn + Drop, W: ByteOut + Drop>(
     ensures chip { port.new.chip ≡ port.old.chip }
     ensures turns { port.new.turns ≡ port.old.turns }
     ensures fresh { port.new.reason ≡ port.old.reason }
-    ensures failures { IfOk result (λ _. port.new.failed ≡ port.old.failed)
-        × (port.new.failed ≤ port.old.failed + 1)
-        × Counts port.old port.new (fault_by fault_of_greeting result) }
 {
     match greet(&mut port.from, &mut port.to) {
         Ok(limits) => {
@@ -121,7 +109,7 @@ fn greet_port<R: ByteIn + Drop, W: ByteOut + Drop>(
             Ok(())
         }
         Err(why) => {
-            port.failed += 1;
+            port.failed = port.failed.saturating_add(1);
             Err(DeviceFault::Greet(why))
         }
     }
@@ -131,7 +119,6 @@ fn greet_port<R: ByteIn + Drop, W: ByteOut + Drop>(
 fn test_port<R: ByteIn + Drop, W: ByteOut + Drop>(
     port: &mut Shadowed<'_, R, W>,
 ) -> Result<(), DeviceFault>
-    requires count { port.old.failed < 2 ^ 64 - 1 }
     ensures tested { MatchResult result
         (λ _. TestsLine (W.held port.old.to) (W.held port.new.to) (R.ahead port.old.from)
         (R.ahead port.new.from) (Ok tt) port.old.limits)
@@ -141,14 +128,11 @@ fn test_port<R: ByteIn + Drop, W: ByteOut + Drop>(
         × (port.new.turns ≡ port.old.turns)
         × (port.new.reason ≡ port.old.reason) }
     ensures limits { port.new.limits ≡ port.old.limits }
-    ensures failures { IfOk result (λ _. port.new.failed ≡ port.old.failed)
-        × (port.new.failed ≤ port.old.failed + 1)
-        × Counts port.old port.new (fault_by fault_of_greeting result) }
 {
     match test_line(&mut port.from, &mut port.to, &port.limits) {
         Ok(()) => Ok(()),
         Err(why) => {
-            port.failed += 1;
+            port.failed = port.failed.saturating_add(1);
             Err(DeviceFault::Line(why))
         }
     }
@@ -160,12 +144,12 @@ pub(crate) fn release_pins<R: ByteIn + Drop, W: ByteOut + Drop>(
     port: &mut Shadowed<'_, R, W>,
     cut: bool,
 )
-    requires { port.old.failed < 2 ^ 64 - 1 }
-    ensures { Releases (port.old.limits.pins && not cut) (moment_of port.old) (moment_of port.new) }
+    ensures { Releases (port.old.limits.pins && not cut) (moment_of W.held R.ahead port.old)
+        (moment_of W.held R.ahead port.new) }
 {
     if port.limits.pins && !cut {
         if release(&mut port.from, &mut port.to).is_err() {
-            port.failed += 1;
+            port.failed = port.failed.saturating_add(1);
         }
     }
 }

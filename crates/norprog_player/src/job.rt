@@ -1,6 +1,6 @@
 //! From the bytes of the inputs to what is to be played, and on which chip.
 
-ghost use Rattle.std.specs.Prelude.{◌≡◌, ◌<◌, ◌-◌, ◌^◌, IfOk, IfErr};
+ghost use Rattle.std.specs.Prelude.{◌≡◌, IfOk, IfErr};
 ghost use Rattle.nor_base.specs.Script.{IsScript};
 ghost use Rattle.nor_job.specs.Status.{start_of};
 ghost use Rattle.norprog_common.specs.Content.{CountsReader};
@@ -39,8 +39,6 @@ pub fn job_of<A: ByteIn, R: ByteIn>(
     content: &mut R,
     len: u64,
 ) -> Result<Job, Refusal>
-    requires script { A.count script.old < 2 ^ 64 - 1 }
-    requires content { R.count content.old < 2 ^ 64 - 1 }
     ensures ready { IfOk result (λ job. (job.start ≡ start_of inputs.now) × IsReady (sources
         inputs.now len (source (A.ahead script.old) (A.ahead script.new))
         (source (R.ahead content.old) (R.ahead content.new))) job.meaning job.steps.items
@@ -67,7 +65,6 @@ pub fn job_of<A: ByteIn, R: ByteIn>(
 
 /// The steps of a script: its fault, or `File` of `Script` where its reader fails.
 fn steps_of<A: ByteIn>(alloc: Global, script: &mut A) -> Result<Vec<Step>, Refusal>
-    requires { A.count script.old < 2 ^ 64 - 1 }
     ensures read { IfOk result
         (λ steps. HadText (A.ahead script.old) (A.ahead script.new)
         (λ text. IsScript text steps.items)) }
@@ -84,7 +81,7 @@ fn steps_of<A: ByteIn>(alloc: Global, script: &mut A) -> Result<Vec<Step>, Refus
 
 /// The chip that the inputs describe, whose content has `len` bytes, and how it begins.
 ///
-/// `Contradiction`, `Sfdp`, `Status`, `ModeImpossible` and `ContentSize`, in this order.
+/// `Contradiction`, `Sfdp` or `Sheet`, `Status`, `ModeImpossible` and `ContentSize`, in this order.
 fn sized_chip(inputs: &Inputs<'_>, len: u64) -> Result<(Meaning, Start), Refusal>
     ensures sized { IfOk result (λ chip. IsSized inputs.now len chip.0) }
     ensures start { IfOk result (λ chip. chip.1 ≡ start_of inputs.now) }

@@ -1,13 +1,11 @@
 //! Whether the chip behind a device is like the chip in memory.
 
-ghost use Rattle.std.specs.Prelude.{◌≡◌, ◌<◌, ◌≤◌, ◌+◌, ◌-◌, ◌*◌, ◌^◌, false, length, Err};
+ghost use Rattle.std.specs.Prelude.{◌≡◌, ◌<◌, ◌*◌, ◌^◌, false, length, Err};
 ghost use Rattle.std.specs.Prelude.{IfOk, MatchResult};
 ghost use Rattle.nor_cells.specs.Marks.{IsMarked};
-ghost use Rattle.norprog_device.specs.Blame.{fault_of_mismatch};
-ghost use Rattle.norprog_player.specs.Blame.{fault_by};
 ghost use Rattle.norprog_player.specs.Compared.{comparison};
 ghost use Rattle.norprog_player.specs.Likeness.{Compares, Likens};
-ghost use Rattle.norprog_player.specs.Port.{moment_of, Counts, FailsOnce, IsKept};
+ghost use Rattle.norprog_player.specs.Port.{moment_of, IsKept};
 
 use crate::access::Access;
 use crate::content::compare_whole;
@@ -25,15 +23,13 @@ pub(crate) fn compare_unless_trusted<R: ByteIn + Drop, W: ByteOut + Drop>(
 ) -> Result<(), Mismatch>
     requires marked { (length port.old.chip.chip.array < 2 ^ 32)
         × (length port.old.chip.chip.array ≡ 256 * length marks.now) }
-    requires count { port.old.failed < 2 ^ 64 - 1 }
     ensures compared { MatchResult result
         (λ _. Compares (comparison port.old.limits access (IsMarked marks.now)) trusted
-        (moment_of port.old) (moment_of port.new))
+        (moment_of W.held R.ahead port.old) (moment_of W.held R.ahead port.new))
         (λ why. (trusted ≡ false) × Likens (comparison port.old.limits access (IsMarked marks.now))
-        (moment_of port.old) (moment_of port.new) (Err why)) }
+        (moment_of W.held R.ahead port.old) (moment_of W.held R.ahead port.new) (Err why)) }
     ensures kept { IsKept port.old port.new }
-    ensures failures { FailsOnce port.old port.new result }
-    ensures blamed { Counts port.old port.new (fault_by fault_of_mismatch result) }
+    ensures fresh { IfOk result (λ _. port.new.reason ≡ port.old.reason) }
 {
     if trusted {
         return Ok(());
@@ -50,12 +46,10 @@ pub(crate) fn compare_chip<R: ByteIn + Drop, W: ByteOut + Drop>(
 ) -> Result<(), Mismatch>
     requires marked { (length port.old.chip.chip.array < 2 ^ 32)
         × (length port.old.chip.chip.array ≡ 256 * length marks.now) }
-    requires count { port.old.failed < 2 ^ 64 - 1 }
     ensures compared { Likens (comparison port.old.limits access (IsMarked marks.now))
-        (moment_of port.old) (moment_of port.new) result }
+        (moment_of W.held R.ahead port.old) (moment_of W.held R.ahead port.new) result }
     ensures kept { IsKept port.old port.new }
-    ensures failures { FailsOnce port.old port.new result }
-    ensures blamed { Counts port.old port.new (fault_by fault_of_mismatch result) }
+    ensures fresh { IfOk result (λ _. port.new.reason ≡ port.old.reason) }
 {
     let content = port.chip.content();
     let compared = compare_whole(
@@ -67,7 +61,7 @@ pub(crate) fn compare_chip<R: ByteIn + Drop, W: ByteOut + Drop>(
         marks,
     );
     if let Err(why) = compared {
-        port.failed += 1;
+        port.failed = port.failed.saturating_add(1);
         port.reason = Some(reason_of(why));
     }
     compared

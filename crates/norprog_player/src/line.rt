@@ -1,6 +1,5 @@
 //! The line that tells how a script ends on a device.
 
-ghost use Rattle.std.specs.Prelude.{◌≡◌, ◌<◌, ◌-◌, ◌^◌};
 ghost use Rattle.nor_base.specs.Device.{Writes, Counts};
 ghost use Rattle.norprog_failure.specs.Line.{other_line};
 ghost use Rattle.norprog_player.specs.Line.{done_line, ending_line, exchange_line, mismatch_line};
@@ -23,7 +22,6 @@ use norprog_failure::{write_failure, write_wrong};
 ///
 /// `Failed` comes only from the writer.
 pub fn write_ending<W: ByteOut>(ending: &Ending, writer: &mut W) -> Result<(), Failed>
-    requires { W.count writer.old < 2 ^ 64 - 1 }
     ensures bytes { Writes (W.held writer.old) (W.held writer.new) result (ending_line ending.now) }
     ensures count { Counts (W.count writer.old) (W.count writer.new) result }
 {
@@ -42,7 +40,6 @@ pub fn write_ending<W: ByteOut>(ending: &Ending, writer: &mut W) -> Result<(), F
 /// Writes `ok N`, and `blank` on a line before it where the content says nothing of which chip it
 /// is.
 fn write_done<W: ByteOut>(transactions: u128, blank: bool, writer: &mut W) -> Result<(), Failed>
-    requires { W.count writer.old < 2 ^ 64 - 1 }
     ensures bytes { Writes (W.held writer.old) (W.held writer.new) result
         (done_line transactions blank) }
     ensures count { Counts (W.count writer.old) (W.count writer.new) result }
@@ -59,7 +56,6 @@ fn write_done<W: ByteOut>(transactions: u128, blank: bool, writer: &mut W) -> Re
 /// Writes `unlike WHY`: `busy`, `status` or `register` and its value, `tables` or `differs` and the
 /// first byte that is another, or the word of an exchange.
 fn write_unlike<W: ByteOut>(why: Unlike, writer: &mut W) -> Result<(), Failed>
-    requires { W.count writer.old < 2 ^ 64 - 1 }
     ensures bytes { Writes (W.held writer.old) (W.held writer.new) result (unlike_line why) }
     ensures count { Counts (W.count writer.old) (W.count writer.new) result }
 {
@@ -78,7 +74,6 @@ fn write_unlike<W: ByteOut>(why: Unlike, writer: &mut W) -> Result<(), Failed>
 
 /// Writes `unlike` and the word of an exchange.
 fn write_exchange<W: ByteOut>(fault: Fault, writer: &mut W) -> Result<(), Failed>
-    requires { W.count writer.old < 2 ^ 64 - 1 }
     ensures bytes { Writes (W.held writer.old) (W.held writer.new) result (exchange_line fault) }
     ensures count { Counts (W.count writer.old) (W.count writer.new) result }
 {
@@ -87,7 +82,6 @@ fn write_exchange<W: ByteOut>(fault: Fault, writer: &mut W) -> Result<(), Failed
 
 /// Writes `unlike status` and S7 to S0.
 fn write_status<W: ByteOut>(status: u32, writer: &mut W) -> Result<(), Failed>
-    requires { W.count writer.old < 2 ^ 64 - 1 }
     ensures bytes { Writes (W.held writer.old) (W.held writer.new) result (status_line status) }
     ensures count { Counts (W.count writer.old) (W.count writer.new) result }
 {
@@ -97,7 +91,6 @@ fn write_status<W: ByteOut>(status: u32, writer: &mut W) -> Result<(), Failed>
 
 /// Writes `unlike status` and S23 to S0.
 fn write_registers<W: ByteOut>(status: u32, writer: &mut W) -> Result<(), Failed>
-    requires { W.count writer.old < 2 ^ 64 - 1 }
     ensures bytes { Writes (W.held writer.old) (W.held writer.new) result (registers_line status) }
     ensures count { Counts (W.count writer.old) (W.count writer.new) result }
 {
@@ -124,7 +117,6 @@ fn write_mismatch<W: ByteOut>(
     why: Mismatch,
     writer: &mut W,
 ) -> Result<(), Failed>
-    requires { W.count writer.old < 2 ^ 64 - 1 }
     ensures bytes { Writes (W.held writer.old) (W.held writer.new) result
         (mismatch_line front.now last.now why) }
     ensures count { Counts (W.count writer.old) (W.count writer.new) result }
@@ -142,7 +134,6 @@ fn write_difference<W: ByteOut>(
     d: Difference,
     writer: &mut W,
 ) -> Result<(), Failed>
-    requires { W.count writer.old < 2 ^ 64 - 1 }
     ensures bytes { Writes (W.held writer.old) (W.held writer.new) result
         (other_line front.now last.now d) }
     ensures count { Counts (W.count writer.old) (W.count writer.new) result }

@@ -1,11 +1,8 @@
 //! One piece of what the chip behind a device holds, compared with bytes.
 
-ghost use Rattle.std.specs.Prelude.{◌≡◌, ◌<◌, ◌+◌, ◌-◌, ◌^◌, length};
-ghost use Rattle.nor_base.specs.Device.{HaveRoom};
-ghost use Rattle.nor_probe.specs.Compared.{CountsMismatch};
-ghost use Rattle.nor_serprog.specs.declared.fault.Fault.TheVariants.{Read, Write};
+ghost use Rattle.std.specs.Prelude.{◌≡◌, ◌<◌, ◌+◌, ◌^◌, length};
 ghost use Rattle.norprog_player.specs.Access.{far_ops, four_bytes, is_near};
-ghost use Rattle.norprog_device.specs.Wire.{wire};
+ghost use Rattle.norprog_common.specs.Wire.{wire};
 ghost use Rattle.norprog_player.specs.Compared.{piece_at, ReadsBy, ReadsOps, ReadsRange};
 ghost use Rattle.norprog_player.specs.declared.access.Access.TheVariants.{Entered};
 
@@ -34,11 +31,8 @@ pub(crate) fn compare_piece<R: ByteIn, W: ByteOut>(
 ) -> Result<(), Mismatch>
     requires size { length piece.now < 2 ^ 24 }
     requires end { address + length piece.now < 2 ^ 32 }
-    requires room { HaveRoom (R.count from.old) (W.count to.old) }
     ensures read { ReadsRange (wire (W.held to.old) (R.ahead from.old))
         (wire (W.held to.new) (R.ahead from.new)) result access (piece_at address piece.now) }
-    ensures counts { CountsMismatch Read (R.count from.old) (R.count from.new) result
-        × CountsMismatch Write (W.count to.old) (W.count to.new) result }
 {
     if is_near(access, address) {
         let [_, high, low, lowest] = address.to_be_bytes();
@@ -68,12 +62,9 @@ fn compare_far<R: ByteIn, W: ByteOut>(
 ) -> Result<(), Mismatch>
     requires size { length piece.now < 2 ^ 24 }
     requires end { address + length piece.now < 2 ^ 32 }
-    requires room { HaveRoom (R.count from.old) (W.count to.old) }
     ensures read { ReadsOps (wire (W.held to.old) (R.ahead from.old))
         (wire (W.held to.new) (R.ahead from.new)) result (far_ops access address) (piece_at address
         piece.now) }
-    ensures counts { CountsMismatch Read (R.count from.old) (R.count from.new) result
-        × CountsMismatch Write (W.count to.old) (W.count to.new) result }
 {
     match access {
         Access::Four => read_four(from, to, READ, address, piece),
@@ -96,12 +87,9 @@ fn compare_entered<R: ByteIn, W: ByteOut>(
 ) -> Result<(), Mismatch>
     requires size { length piece.now < 2 ^ 24 }
     requires end { address + length piece.now < 2 ^ 32 }
-    requires room { HaveRoom (R.count from.old) (W.count to.old) }
     ensures read { ReadsOps (wire (W.held to.old) (R.ahead from.old))
         (wire (W.held to.new) (R.ahead from.new)) result (far_ops (Entered enter leave) address)
         (piece_at address piece.now) }
-    ensures counts { CountsMismatch Read (R.count from.old) (R.count from.new) result
-        × CountsMismatch Write (W.count to.old) (W.count to.new) result }
 {
     switch_mode(from, to, enter, ENTER)?;
     match read_four(from, to, READ, address, piece) {
@@ -128,12 +116,9 @@ fn read_four<R: ByteIn, W: ByteOut>(
 ) -> Result<(), Mismatch>
     requires size { length piece.now < 2 ^ 24 }
     requires end { address + length piece.now < 2 ^ 32 }
-    requires room { HaveRoom (R.count from.old) (W.count to.old) }
     ensures read { ReadsBy (wire (W.held to.old) (R.ahead from.old))
         (wire (W.held to.new) (R.ahead from.new)) result (four_bytes opcode address) (piece_at
         address piece.now) }
-    ensures counts { CountsMismatch Read (R.count from.old) (R.count from.new) result
-        × CountsMismatch Write (W.count to.old) (W.count to.new) result }
 {
     let [highest, high, low, lowest] = address.to_be_bytes();
     read_by(
@@ -157,11 +142,8 @@ fn read_by<R: ByteIn, W: ByteOut>(
     requires sent { length sent.now < 2 ^ 24 }
     requires size { length piece.now < 2 ^ 24 }
     requires end { address + length piece.now < 2 ^ 32 }
-    requires room { HaveRoom (R.count from.old) (W.count to.old) }
     ensures read { ReadsBy (wire (W.held to.old) (R.ahead from.old))
         (wire (W.held to.new) (R.ahead from.new)) result sent.now (piece_at address piece.now) }
-    ensures counts { CountsMismatch Read (R.count from.old) (R.count from.new) result
-        × CountsMismatch Write (W.count to.old) (W.count to.new) result }
 {
     match operate_with(from, to, sent, piece) {
         Ok(()) => Ok(()),

@@ -1,6 +1,6 @@
 //! Steps that go well in memory, on a device that was opened.
 
-ghost use Rattle.std.specs.Prelude.{◌≡◌, ◌<◌, ◌-◌, ◌^◌, length, MatchResult};
+ghost use Rattle.std.specs.Prelude.{◌≡◌, length, MatchResult};
 ghost use Rattle.nor_base.specs.Chip.{IsPossible};
 ghost use Rattle.nor_base.specs.Port.{Shown};
 ghost use Rattle.nor_base.specs.Run.{trail};
@@ -35,7 +35,6 @@ pub fn play_on<R: ByteIn + Drop, W: ByteOut + Drop, P: ByteOut>(
     to: W,
     progress: &mut P,
 ) -> (Result<Ending, Unplayed>, R, W)
-    requires fresh { (R.count from ≡ 0) × (W.count to ≡ 0) }
     requires chip { (length job.content.items ≡ job.meaning.size)
         × IsPossible job.meaning expected.start }
     requires may { MayPlay (chip_with job.meaning expected.start job.content.items)
@@ -43,7 +42,6 @@ pub fn play_on<R: ByteIn + Drop, W: ByteOut + Drop, P: ByteOut>(
         × (transactions
         ≡ length (trail (chip_with job.meaning expected.start job.content.items).setting
         (chip_with job.meaning expected.start job.content.items).chip job.steps.items)) }
-    requires progress { P.count progress.old < 2 ^ 64 - 1 }
     ensures { (shown : Shown) × MatchResult result.0
         (EndsOnDevice (play_of job.steps.items (expectation_of expected.entry) job.meaning
         job.content.items limit) (moment (shown_in (play_of job.steps.items

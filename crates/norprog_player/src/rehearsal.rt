@@ -41,6 +41,7 @@ pub enum Rehearsal {
 ///
 /// Memory is taken for two more such contents; where a step tells chips of different pages apart,
 /// more.
+#[tactic(auto, using(nor_base::proofs::DeviceLaws::risen_some))]
 pub fn rehearse(
     alloc: Global,
     meaning: &Meaning,

@@ -1,6 +1,6 @@
 //! The steps of a script, as its file gives them.
 
-ghost use Rattle.std.specs.Prelude.{◌≡◌, ◌<◌, ◌-◌, ◌^◌, [], ◌∷◌, ◌++◌, IfOk, IfErr};
+ghost use Rattle.std.specs.Prelude.{◌≡◌, [], ◌∷◌, ◌++◌, IfOk, IfErr};
 ghost use Rattle.nor_base.specs.Script.{IsScript};
 ghost use Rattle.nor_script.specs.Stream.{CountsRead, HadText, StopsReader};
 ghost use Rattle.nor_script.specs.View.{step_of};
@@ -16,7 +16,6 @@ use std::alloc::Global;
 /// Its first fault, as [`StepReader`] reports it; `Device` where the device failed; `Memory` where
 /// a growth is refused.
 pub(crate) fn read_steps<A: ByteIn>(alloc: Global, script: &mut A) -> Result<Vec<Step>, ReadFault>
-    requires { A.count script.old < 2 ^ 64 - 1 }
     ensures read { IfOk result
         (λ steps. HadText (A.ahead script.old) (A.ahead script.new)
         (λ text. IsScript text steps.items)) }

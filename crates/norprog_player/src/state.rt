@@ -1,6 +1,6 @@
 //! What is reported beside an ending, and its status.
 
-ghost use Rattle.std.specs.Prelude.{◌≡◌, ◌≤◌, ◌<◌, ◌-◌, ◌^◌, false};
+ghost use Rattle.std.specs.Prelude.{◌≡◌, ◌≤◌, false};
 ghost use Rattle.nor_base.specs.Device.{Writes, Counts};
 ghost use Rattle.norprog_common.specs.Told.{Says, output};
 ghost use Rattle.norprog_player.specs.Line.{ending_line};
@@ -22,8 +22,6 @@ const STATE: &[u8] =
 /// ending to `out`, or to `err` that it can't be written. Returns the status: 0 where all was done
 /// and printed, 3 where the chip may hold a part of it, else 1.
 pub fn report_ending<O: ByteOut, E: ByteOut>(ending: &Ending, out: &mut O, err: &mut E) -> u8
-    requires out { O.count out.old < 2 ^ 64 - 1 }
-    requires err { E.count err.old < 2 ^ 64 - 1 }
     ensures said { Says (state_told ending.now) (ending_line ending.now) (status_of ending.now)
         (output O.held O.count out.old out.new) (output E.held E.count err.old err.new) result }
     ensures status { result ≤ 3 }
@@ -38,7 +36,6 @@ pub fn report_ending<O: ByteOut, E: ByteOut>(ending: &Ending, out: &mut O, err: 
 
 /// Writes what to do with a chip that may hold a part of the work, where that is so.
 fn write_state<E: ByteOut>(ending: &Ending, err: &mut E) -> Result<(), Failed>
-    requires { E.count err.old < 2 ^ 64 - 1 }
     ensures bytes { Writes (E.held err.old) (E.held err.new) result (state_told ending.now) }
     ensures count { Counts (E.count err.old) (E.count err.new) result }
     ensures quiet { is_partial ending.now ≡ false → err.new ≡ err.old }

@@ -81,6 +81,7 @@ pub(crate) fn take_row(chip: &mut Chip<'_>, steps: &[Step], count: usize, room: 
 }
 
 /// Has the chip in memory do a step that it takes.
+#[tactic(auto, using(nor_base::proofs::DeviceLaws::risen_some))]
 fn take_step(chip: &mut Chip<'_>, step: &Step, room: &mut [u8])
     requires wide { sampled_count (step_clocks step.now) ≤ length room.old }
     requires taken { IsTaken chip.old (step_clocks step.now) }

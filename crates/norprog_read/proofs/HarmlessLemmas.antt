@@ -10,7 +10,7 @@ use Rattle.nor_reader.specs.Harmless.{is_harmless, HasSentHarmless, SendsHarmles
 use Rattle.nor_reader.specs.Telling.{opcode_to}
 use Rattle.nor_reader.proofs.HarmlessLemmas.{both_sent, id_sends, id_sent, none_sent, past_sends, past_sent, register_sends, register_sent, status_sends, status_sent, switched_sends, switched_sent, tables_none, tables_sends, tables_sent, then_sends, twice_sends, twice_sent, whole_sent}
 use Rattle.nor_serprog.specs.declared.fault.Reason.TheVariants as reason
-use Rattle.norprog_device.specs.Wire.{Wire}
+use Rattle.norprog_common.specs.Wire.{Wire}
 use Rattle.norprog_read.specs.declared.asked.Ask.{Ask}
 use Rattle.norprog_read.specs.declared.asked.Known.{Known}
 use Rattle.norprog_read.specs.declared.asked.Reading.{Reading}
@@ -177,7 +177,7 @@ chip_sends most u w ask why (stops.Unexpected v status id idle p other) =
 chip_sends most u w ask why (stops.AtTables v said of p) =
     then_ u v w (identified u v ask said) (stops_asked most v w ask.known said.id of p)
 chip_sends most u w ask why (stops.AtMeaning is of refusal refused told) = whole u w (known most u w ask is)
-chip_sends most u w ask why (stops.AtSize is of told) = whole u w (known most u w ask is)
+chip_sends most u w ask why (stops.AtSize is m of means told) = whole u w (known most u w ask is)
 chip_sends most u w ask why (stops.AtMode v is m of means p) =
     then_ u v w (known most u v ask is) (stops_mode v w ask ask.content (begins4 m (start_by ask)) (modes_of ask.known is.chip m) of p)
 chip_sends most u w ask why (stops.AtRegister v is of p) = then_ u v w (made most u v ask is) (stops_moved v w _ of p)

@@ -21,7 +21,7 @@ use Rattle.norprog_read.specs.declared.fault.Unread.TheVariants.{Refused, Device
 use Rattle.norprog_device.specs.declared.fault.DeviceFault.TheVariants.{Greet, Line}
 use Rattle.norprog_device.specs.Blame.{is_cut}
 use Rattle.norprog_device.specs.Opened.{LetsGo}
-use Rattle.norprog_device.specs.Wire.{Wire}
+use Rattle.norprog_common.specs.Wire.{Wire}
 use Rattle.norprog_read.specs.Asked as asked
 use Rattle.norprog_read.specs.Asked.{StopsId, StopsStatus}
 use Rattle.norprog_read.specs.Blame.{fault_in}
@@ -47,13 +47,13 @@ as_well true = refl
 as_well false = refl
 
 -- the pins are let go, by a test of the same result
-freed : (v w : Wire) (pins frees : Bool) → pins ≡ frees → LetsGo v.held w.held v.ahead w.ahead pins → LetsGo v.held w.held v.ahead w.ahead frees
-freed v w pins frees is goes = subst (LetsGo v.held w.held v.ahead w.ahead) is goes
+freed : (v w : Wire) (pins frees : Bool) → pins ≡ frees → LetsGo v w pins → LetsGo v w frees
+freed v w pins frees is goes = subst (LetsGo v w) is goes
 
 -- a chip was read after the handshake, and then the pins were let go
 pub opened_by : (t u v w : Wire) (limits : Limits) (ask : Ask) (r : Result Reading Unread) (pins : Bool) → HasGreeted t u limits
     → IfOk r (λ reading. HasReadTested u v limits ask reading) → pins ≡ (limits.pins && not (is_cut (fault_in r)))
-    → LetsGo v.held w.held v.ahead w.ahead pins → IfOk r (λ reading. HasReadOpened t w ask reading)
+    → LetsGo v w pins → IfOk r (λ reading. HasReadOpened t w ask reading)
 opened_by t u v w limits ask (Ok reading) pins greeted read is goes = record {
   begun = u;
   limits = limits;
@@ -67,7 +67,7 @@ opened_by t u v w limits ask (Err why) pins greeted read is goes = tt
 -- or it stopped
 pub stops_by : (t u v w : Wire) (limits : Limits) (ask : Ask) (r : Result Reading Unread) (pins : Bool) → HasGreeted t u limits
     → IfErr r (StopsTested u v limits ask) → pins ≡ (limits.pins && not (is_cut (fault_in r)))
-    → LetsGo v.held w.held v.ahead w.ahead pins → IfErr r (StopsOpened t w ask)
+    → LetsGo v w pins → IfErr r (StopsOpened t w ask)
 stops_by t u v w limits ask (Ok reading) pins greeted stops is goes = tt
 stops_by t u v w limits ask (Err (Device (Greet why))) pins greeted stops is goes = absurd stops
 stops_by t u v w limits ask (Err (Device (Line why))) pins greeted stops is goes =
@@ -89,6 +89,7 @@ of_meaning t other refused = tt
 
 of_told : (by : Known) (id : List ℕ) (why : Refusal) → IsOfChip (Refused why) → IsOfChip (told_of by id why)
 of_told (known.Uniform size) id why is = is
+of_told (known.Sheet text) id why is = is
 of_told known.Own id (Build (fault.Sfdp why)) is = tt
 of_told known.Own id why is = is
 of_told (known.Tables file) id (Build (fault.Sfdp why)) is = tt
@@ -150,7 +151,7 @@ of_chip most v w ask why (stops.Unexpected u status id idle p other) = tt
 of_chip most v w ask why (stops.AtTables u said of p) = of_tables most u w ask.known said.id of p
 of_chip most v w ask why (stops.AtMeaning is of refusal refused told) =
     subst IsOfChip (sym told) (of_told ask.known is.identified.id refusal (of_meaning (chip_task ask is.chip) refusal refused))
-of_chip most v w ask why (stops.AtSize is of told) = of_size (other_size ask is.chip) of told
+of_chip most v w ask why (stops.AtSize is m of means told) = of_size (other_size ask m is.chip) of told
 of_chip most v w ask why (stops.AtMode u is m of means p) = of_mode u w ask _ of p
 of_chip most v w ask why (stops.AtRegister u is of p) = of_moved u w (asked_register ask.content is.known.chip) of p
 of_chip most v w ask why (stops.AtContent u is of wanted p) = of_content _ u w of p

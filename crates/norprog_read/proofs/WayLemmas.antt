@@ -12,7 +12,7 @@ use Rattle.nor_reader.specs.declared.by.ReadBy.TheVariants.{Content, FourBytes, 
 use Rattle.nor_reader.specs.Cut.{ReadApart}
 use Rattle.nor_reader.specs.Laws.{GivesBy}
 use Rattle.nor_reader.specs.Telling.{ApartKnows, GivesSaid, KnowsMode, ShowsMode, SureKnows}
-use Rattle.norprog_device.specs.Wire.{Wire}
+use Rattle.norprog_common.specs.Wire.{Wire}
 use Rattle.norprog_read.specs.Way.{first_by, has_both, is_near, is_readable, is_small, may_enter, second_by, IsShownBy}
 
 choose : (P : ReadBy → Type 0) (b : Bool) (x y : ReadBy) → (b ≡ true → P x) → (b ≡ false → P y) → P (if b then x else y)

@@ -5,7 +5,7 @@ use Rattle.nor_reader.specs.Id.{Identifies}
 use Rattle.nor_serprog.specs.declared.fault.Fault.{Fault}
 use Rattle.nor_serprog.specs.declared.fault.Reason.{Reason}
 use Rattle.nor_serprog.specs.declared.fault.Reason.TheVariants as reason
-use Rattle.norprog_device.specs.Wire.{Wire}
+use Rattle.norprog_common.specs.Wire.{Wire}
 use Rattle.norprog_read.specs.declared.asked.Ask.{Ask}
 use Rattle.norprog_read.specs.declared.fault.Unlike.TheVariants as unlike
 use Rattle.norprog_read.specs.declared.fault.Unread.{Unread}

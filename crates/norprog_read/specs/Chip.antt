@@ -1,32 +1,33 @@
 -- What the chip behind a device said and gave (this project's).
-use Rattle.std.specs.Prelude.{◌≡◌, ⊤, ℕ, min, Bool, true, false, List, [], ◌++◌, length, take, None, Ok}
+use Rattle.std.specs.Prelude.{◌≡◌, ⊤, ℕ, min, Bool, true, false, List, [], ◌++◌, length, take, Option, None, Some, IfSome, Ok}
 use Rattle.nor_base.specs.declared.meaning.Start.{Start}
 use Rattle.nor_base.specs.Chip.{begins4}
 use Rattle.nor_base.specs.Parameters.{Parameters}
 use Rattle.nor_job.specs.Chip.{HasChip}
 use Rattle.nor_job.specs.Status.{start_of}
-use Rattle.nor_job.specs.Task.{Task, Origin, Sfdp, Uniform as of_size}
+use Rattle.nor_job.specs.Task.{Task, Origin, Sfdp, Uniform as of_size, Sheet as of_sheet}
 use Rattle.nor_loop.specs.Log.{Operation}
 use Rattle.nor_probe.specs.Tables.{tables_reach}
 use Rattle.nor_reader.specs.declared.tables.TablesFault.{TablesFault}
 use Rattle.nor_reader.specs.declared.tables.TablesFault.TheVariants.{NoSignature}
 use Rattle.nor_reader.specs.Tables.{HasReadTables, StopsTables}
-use Rattle.norprog_device.specs.Wire.{Wire}
+use Rattle.norprog_common.specs.Wire.{Wire}
 use Rattle.norprog_read.specs.declared.asked.Ask.{Ask}
 use Rattle.norprog_read.specs.declared.asked.Known.{Known}
-use Rattle.norprog_read.specs.declared.asked.Known.TheVariants.{Tables, Uniform}
+use Rattle.norprog_read.specs.declared.asked.Known.TheVariants.{Sheet, Tables, Uniform}
 use Rattle.norprog_read.specs.declared.asked.Reading.{Reading}
 use Rattle.norprog_read.specs.Asked.{AsksId, AsksStatus, IsDriven, IsExpected}
 use Rattle.norprog_read.specs.Came.{ShowsLine}
 use Rattle.norprog_read.specs.Content.{HoldsWhole}
 use Rattle.norprog_read.specs.End.{past, GivesPast, IsOnce, Past}
 use Rattle.norprog_read.specs.Modes.{is_sure, mode_ops, modes_of, MakesMode}
-use Rattle.norprog_read.specs.Size.{asked_register, noted_size, other_size, IsUnmoved}
+use Rattle.norprog_read.specs.Size.{asked_register, noted_size, other_size, said_size, IsUnmoved}
 use Rattle.norprog_read.specs.Way.{past_by, way, Way}
 
--- where its meaning comes from: the tables that came, or its size
+-- where its meaning comes from: the tables that came, its size, or its sheet
 abbrev pub task_chip : Known → List ℕ → List ℕ → Origin
 task_chip (Uniform size) bits tables = of_size size
+task_chip (Sheet text) bits tables = of_sheet text.now
 task_chip other bits tables = Sfdp tables bits
 
 -- a task of that chip, with nothing to be done
@@ -45,10 +46,11 @@ chip_task ask tables = record {
   erased_only = ask.erased_only;
 }
 
--- a chip is known by its size
-abbrev pub is_uniform : Known → Bool
-is_uniform (Uniform size) = true
-is_uniform other = false
+-- a chip may have no tables: it is known by its size or by its sheet
+abbrev pub lacks_tables : Known → Bool
+lacks_tables (Uniform size) = true
+lacks_tables (Sheet text) = true
+lacks_tables other = false
 
 -- tables aren't read since there is no signature
 abbrev pub is_unsigned : TablesFault → Bool
@@ -76,11 +78,12 @@ way_by most ask tables m = way most m (start_by ask) (is_sure ask (begins4 m (st
 abbrev pub past_end : ℕ → Ask → Parameters → List ℕ → Past
 past_end most ask m content = past most (past_by m (start_by ask)) content
 
--- its tables came twice alike, by reads of no more than so many bytes; a chip of a size may have none
+-- its tables came twice alike, by reads of no more than so many bytes; a chip of a size or a sheet may
+-- have none
 pub data GivesTables (most : ℕ) (before after : Wire) (by : Known) : List ℕ → Type 0 where
   Come : (tables : List ℕ) → HasReadTables most before.held after.held before.ahead after.ahead tables
       → GivesTables most before after by tables
-  Unsigned : is_uniform by ≡ true → StopsTables most before.held after.held before.ahead after.ahead NoSignature
+  Unsigned : lacks_tables by ≡ true → StopsTables most before.held after.held before.ahead after.ahead NoSignature
       → GivesTables most before after by []
 
 -- its content came twice alike, in this way, where it was wanted
@@ -92,10 +95,15 @@ GivesContent w before after false content = (content ≡ []) × (after ≡ befor
 abbrev pub both_go : List ℕ → List ℕ → ℕ
 both_go chip file = min (length chip) (tables_reach file)
 
--- a file of tables, where one is given, has a meaning itself
-abbrev pub HasMeaning : Ask → Known → Type 0
-HasMeaning ask (Tables file) = (m : Parameters) × HasChip (chip_task ask file.now) m
-HasMeaning ask other = ⊤
+-- the file that it is known by: of tables, or of its sheet
+abbrev pub file_of : Known → Option (List ℕ)
+file_of (Tables file) = Some file.now
+file_of (Sheet text) = Some text.now
+file_of other = None
+
+-- such a file, where one is given, has a meaning itself
+abbrev pub HasMeaning : Ask → Type 0
+HasMeaning ask = IfSome (file_of ask.known) (λ file. (m : Parameters) × HasChip (chip_task ask file) m)
 
 -- and the chip's are alike with it, as far as both go
 abbrev pub AreAlike : Known → List ℕ → Type 0
@@ -105,7 +113,7 @@ AreAlike other tables = ⊤
 -- in this order, and nothing else was sent: its status until it was idle, its identification, its tables, what puts it into the mode that was
 -- said, the register that moves addresses where they name one, its content, what comes past its end, and its identification again, which was
 -- the same, that of a chip, and the one that is expected; each read of tables and content was of no more than so many bytes; its meaning is
--- that of the tables that came, or of its size; the content doesn't repeat itself; where the content was wanted, and the terminal isn't said
+-- that of the tables that came, of its size, or of its sheet; the content doesn't repeat itself; where the content was wanted, and the terminal isn't said
 -- to hand on each byte as it comes, what came shows that it changed nothing of tables and content
 pub record HasReadChip (most : ℕ) (before after : Wire) (ask : Ask) (r : Reading) : Type 0 where
   pub part : r.part ≡ ask.part
@@ -121,14 +129,14 @@ pub record HasReadChip (most : ℕ) (before after : Wire) (ask : Ask) (r : Readi
   pub first : ℕ
   pub idle : AsksStatus before asked ask (Ok first)
   pub id : AsksId asked identified (Ok r.id)
-  pub note : r.note ≡ noted_size ask.known r.id
+  pub note : r.note ≡ noted_size (said_size ask.known r.meaning) r.id
   pub driven : IsDriven r.id
   pub expected : IsExpected ask.expect_id r.id
   pub tables : GivesTables most identified known ask.known r.tables.items
-  pub file : HasMeaning ask ask.known
+  pub file : HasMeaning ask
   pub alike : AreAlike ask.known r.tables.items
   pub means : HasChip (chip_task ask r.tables.items) r.meaning
-  pub sized : other_size ask r.tables.items ≡ None
+  pub sized : other_size ask r.meaning r.tables.items ≡ None
   pub mode : MakesMode known made ask (ops_by ask r.tables.items r.meaning) first r.status
   pub unmoved : IsUnmoved made ready (asked_register ask.content r.tables.items)
   pub content : GivesContent (way_by most ask r.tables.items r.meaning) ready held ask.content r.content.items

@@ -4,7 +4,7 @@ use Rattle.nor_base.specs.Chip.{begins4}
 use Rattle.nor_reader.specs.Laws.{GivesBy, KnowsContent}
 use Rattle.nor_reader.specs.Telling.{KnowsMode}
 use Rattle.nor_reader.specs.Twice.{ReadTwice}
-use Rattle.norprog_device.specs.Wire.{Wire}
+use Rattle.norprog_common.specs.Wire.{Wire}
 use Rattle.norprog_read.specs.Way.{first_of, second_of, Way}
 
 -- a byte for each address, by just these two readings, each read of no more than so many bytes; what every ready chip of the meaning and

@@ -7,7 +7,7 @@ use Rattle.nor_probe.specs.declared.difference.Mismatch.TheVariants.{Exchange, D
 use Rattle.nor_reader.specs.declared.by.ReadBy.{ReadBy}
 use Rattle.nor_reader.specs.Past.{ReadsPast}
 use Rattle.nor_serprog.specs.declared.fault.Fault.{Fault}
-use Rattle.norprog_device.specs.Wire.{Wire}
+use Rattle.norprog_common.specs.Wire.{Wire}
 use Rattle.norprog_read.specs.declared.asked.Ask.{Ask}
 use Rattle.norprog_read.specs.declared.fault.Unlike.TheVariants as unlike
 use Rattle.norprog_read.specs.declared.fault.Unread.{Unread}

@@ -17,10 +17,10 @@ use Rattle.nor_reader.specs.Telling.{opcode_to}
 use Rattle.nor_serprog.specs.declared.fault.Fault.{Fault}
 use Rattle.nor_sfdp.specs.declared.fault.SfdpFault.{SfdpFault}
 use Rattle.nor_sfdp.specs.Reading.{meaning_of}
-use Rattle.norprog_device.specs.Wire.{Wire}
+use Rattle.norprog_common.specs.Wire.{Wire}
 use Rattle.norprog_read.specs.declared.asked.Ask.{Ask}
 use Rattle.norprog_read.specs.declared.asked.Known.{Known}
-use Rattle.norprog_read.specs.declared.asked.Known.TheVariants.{Uniform}
+use Rattle.norprog_read.specs.declared.asked.Known.TheVariants.{Sheet, Uniform}
 use Rattle.norprog_read.specs.declared.mode.Modes.{Modes}
 use Rattle.norprog_read.specs.declared.fault.Unlike.TheVariants as unlike
 use Rattle.norprog_read.specs.declared.fault.Unread.{Unread}
@@ -39,10 +39,19 @@ abbrev pub own_modes : Result Parameters SfdpFault → Modes
 own_modes (Ok m) = record { one = has_three m.width; enter = m.enter; leave = m.leave }
 own_modes (Err why) = record { one = false; enter = Absent; leave = Absent }
 
+-- a meaning says that a mode is the only one, and how another is entered and left
+abbrev pub said_modes : Parameters → Modes
+said_modes m = record { one = not (has_both m.width); enter = m.enter; leave = m.leave }
+
+-- a sheet that says three address bytes leaves the modes to the tables
+abbrev pub sheet_modes : Result Parameters SfdpFault → Parameters → Modes
+sheet_modes own m = if has_three m.width then own_modes own else said_modes m
+
 -- what is known of a chip's modes: by its meaning or, of a chip of a size, by the tables that came
 abbrev pub modes_of : Known → List ℕ → Parameters → Modes
 modes_of (Uniform size) tables m = own_modes (meaning_of tables [] Generic)
-modes_of other tables m = record { one = not (has_both m.width); enter = m.enter; leave = m.leave }
+modes_of (Sheet text) tables m = sheet_modes (meaning_of tables [] Generic) m
+modes_of other tables m = said_modes m
 
 -- how a chip whose content is wanted gets into the mode that is said
 abbrev pub switch_to : Bool → Bool → Modes → Switch

@@ -6,7 +6,7 @@ use Rattle.nor_serprog.specs.Line.{TestsLine}
 use Rattle.norprog_device.specs.declared.fault.DeviceFault.TheVariants.{Greet, Line}
 use Rattle.norprog_device.specs.Blame.{is_cut}
 use Rattle.norprog_device.specs.Opened.{LetsGo}
-use Rattle.norprog_device.specs.Wire.{Wire}
+use Rattle.norprog_common.specs.Wire.{Wire}
 use Rattle.norprog_read.specs.declared.asked.Ask.{Ask}
 use Rattle.norprog_read.specs.declared.asked.Reading.{Reading}
 use Rattle.norprog_read.specs.declared.fault.Unread.{Unread}
@@ -48,7 +48,7 @@ pub record HasReadOpened (before after : Wire) (ask : Ask) (r : Reading) : Type 
   pub greeted : HasGreeted before begun limits
   pub ended : Wire
   pub read : HasReadTested begun ended limits ask r
-  pub released : LetsGo ended.held after.held ended.ahead after.ahead limits.pins
+  pub released : LetsGo ended after limits.pins
 
 -- the handshake was done, what came after it stopped so, and the pins were let go, unless a request was cut: then nothing followed it
 pub record StopsGreeted (before after : Wire) (ask : Ask) (why : Unread) : Type 0 where
@@ -57,7 +57,7 @@ pub record StopsGreeted (before after : Wire) (ask : Ask) (why : Unread) : Type 
   pub greeted : HasGreeted before begun limits
   pub ended : Wire
   pub stops : StopsTested begun ended limits ask why
-  pub released : LetsGo ended.held after.held ended.ahead after.ahead (limits.pins && not (is_cut (fault_of_stop why)))
+  pub released : LetsGo ended after (limits.pins && not (is_cut (fault_of_stop why)))
 
 -- the handshake stopped so, or what came after it
 abbrev pub StopsOpened : Wire → Wire → Ask → Unread → Type 0

@@ -1,16 +1,17 @@
 -- What a chip says of its size, and whether a register of it moves all addresses (JESD216B, basic table: DWORD 2, and DWORD 16, bits 26 and
 -- 27; JEDEC: Read Identification 9Fh, whose third byte is usually the power of two that the size is).
 use Rattle.std.specs.Prelude.{◌≡◌, ℕ, ◌==◌, ◌^◌, nat_le, ◌&&◌, Bool, true, false, if◌then◌else◌, List, [], ◌∷◌, Option, Some, None, Result, Ok, Err}
+use Rattle.nor_base.specs.Parameters.{Parameters}
 use Rattle.nor_probe.specs.declared.own.AddressRegister.{AddressRegister}
 use Rattle.nor_probe.specs.Own.{is_moved, opcode_of, register_of}
 use Rattle.nor_probe.specs.Status.{ReadsRegister}
 use Rattle.nor_serprog.specs.declared.fault.Fault.{Fault}
 use Rattle.nor_sfdp.specs.declared.fault.SfdpFault.{SfdpFault}
 use Rattle.nor_sfdp.specs.Reading.{density_of}
-use Rattle.norprog_device.specs.Wire.{Wire}
+use Rattle.norprog_common.specs.Wire.{Wire}
 use Rattle.norprog_read.specs.declared.asked.Ask.{Ask}
 use Rattle.norprog_read.specs.declared.asked.Known.{Known}
-use Rattle.norprog_read.specs.declared.asked.Known.TheVariants.{Uniform}
+use Rattle.norprog_read.specs.declared.asked.Known.TheVariants.{Sheet, Uniform}
 use Rattle.norprog_read.specs.declared.fault.Unlike.TheVariants as unlike
 use Rattle.norprog_read.specs.declared.fault.Unread.{Unread}
 use Rattle.norprog_read.specs.declared.fault.Unread.TheVariants.{Unlike}
@@ -23,13 +24,19 @@ abbrev pub size_unless : ℕ → Result ℕ SfdpFault → Option ℕ
 size_unless size (Ok own) = unless size own
 size_unless size (Err why) = None
 
--- the size that the tables of a chip of a size say, where it is another one and none is allowed
-abbrev pub size_told : Known → Bool → List ℕ → Option ℕ
-size_told (Uniform size) false tables = size_unless size (density_of tables)
-size_told other any tables = None
+-- the size that is said of a chip of this meaning, itself or in its sheet
+abbrev pub said_size : Known → Parameters → Option ℕ
+said_size (Uniform size) m = Some size
+said_size (Sheet text) m = Some m.size
+said_size other m = None
 
-abbrev pub other_size : Ask → List ℕ → Option ℕ
-other_size ask tables = size_told ask.known ask.any_size tables
+-- the size that the tables of such a chip say, where it is another one and none is allowed
+abbrev pub size_told : Option ℕ → Bool → List ℕ → Option ℕ
+size_told (Some size) false tables = size_unless size (density_of tables)
+size_told said any tables = None
+
+abbrev pub other_size : Ask → Parameters → List ℕ → Option ℕ
+other_size ask m tables = size_told (said_size ask.known m) ask.any_size tables
 
 abbrev pub TellsSize : Option ℕ → Unread → Type 0
 TellsSize (Some size) why = why ≡ Unlike (unlike.Size size)
@@ -44,10 +51,10 @@ noted size (Some own) = unless size own
 noted size None = None
 
 -- the size that an identification says, where the size was said and is another one
-abbrev pub noted_size : Known → List ℕ → Option ℕ
-noted_size (Uniform size) (maker ∷ high ∷ exponent ∷ []) = noted size (size_by exponent)
-noted_size (Uniform size) other = None
-noted_size known id = None
+abbrev pub noted_size : Option ℕ → List ℕ → Option ℕ
+noted_size (Some size) (maker ∷ high ∷ exponent ∷ []) = noted size (size_by exponent)
+noted_size (Some size) other = None
+noted_size None id = None
 
 -- the register that moves all addresses of a chip whose content is wanted, where its tables name one
 abbrev pub asked_register : Bool → List ℕ → Option AddressRegister

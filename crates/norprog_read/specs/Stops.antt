@@ -1,5 +1,5 @@
 -- Why a chip isn't read (this project's).
-use Rattle.std.specs.Prelude.{◌≡◌, ◌≢◌, ◌<◌, ◌&&◌, ℕ, true, false, List, ◌++◌, take, slice_index, Ok}
+use Rattle.std.specs.Prelude.{◌≡◌, ◌≢◌, ◌<◌, ◌&&◌, ℕ, true, false, List, ◌++◌, take, slice_index, Some, Ok}
 use Rattle.nor_base.specs.Parameters.{Parameters}
 use Rattle.nor_job.specs.declared.fault.BuildFault.TheVariants.{Memory, Sfdp}
 use Rattle.nor_job.specs.Chip.{HasChip}
@@ -15,29 +15,30 @@ use Rattle.nor_sfdp.specs.declared.fault.SfdpFault.TheVariants.{Signature}
 use Rattle.norprog_common.specs.Setup.{RefusesChipOf}
 use Rattle.norprog_common.specs.declared.faults.Refusal.{Refusal}
 use Rattle.norprog_common.specs.declared.faults.Refusal.TheVariants.{Build}
-use Rattle.norprog_device.specs.Wire.{Wire}
+use Rattle.norprog_common.specs.Wire.{Wire}
 use Rattle.norprog_read.specs.declared.asked.Ask.{Ask}
 use Rattle.norprog_read.specs.declared.asked.Known.{Known}
-use Rattle.norprog_read.specs.declared.asked.Known.TheVariants.{Uniform}
+use Rattle.norprog_read.specs.declared.asked.Known.TheVariants.{Sheet, Uniform}
 use Rattle.norprog_read.specs.declared.fault.Unlike.TheVariants as unlike
 use Rattle.norprog_read.specs.declared.fault.Unread.{Unread}
 use Rattle.norprog_read.specs.declared.fault.Unread.TheVariants.{Refused, Unlike}
 use Rattle.norprog_read.specs.Asked.{AsksId, AsksStatus, IsDriven, IsExpected, StopsId, StopsStatus}
 use Rattle.norprog_read.specs.Came.{HidesLine}
-use Rattle.norprog_read.specs.Chip.{both_go, chip_task, is_uniform, is_unsigned, ops_by, past_end, way_by, AreAlike, IsFile, GivesContent, GivesTables}
+use Rattle.norprog_read.specs.Chip.{both_go, chip_task, lacks_tables, is_unsigned, ops_by, past_end, way_by, file_of, AreAlike, IsFile, GivesContent, GivesTables}
 use Rattle.norprog_read.specs.End.{GivesPast, IsOnce, StopsEnd}
 use Rattle.norprog_read.specs.Modes.{MakesMode, StopsMode}
 use Rattle.norprog_read.specs.Size.{asked_register, other_size, IsUnmoved, StopsMoved, TellsSize}
 use Rattle.norprog_read.specs.Way.{first_of, is_readable, second_of, IsShownBy, Way}
 
--- a file of tables has no meaning
+-- a file of tables or a sheet has no meaning
 pub data RefusesFile (ask : Ask) : Unread → Type 0 where
-  Meaningless : (file : List ℕ) (why : Refusal) → IsFile ask.known file → RefusesChipOf (chip_task ask file) why → RefusesFile ask (Refused why)
+  Meaningless : (file : List ℕ) (why : Refusal) → file_of ask.known ≡ Some file → RefusesChipOf (chip_task ask file) why → RefusesFile ask (Refused why)
 
--- how it is told that the bytes that came from a chip of this identification aren't accepted as its tables; a size that isn't is the
--- person's
+-- how it is told that the bytes that came from a chip of this identification aren't accepted as its tables; a size or a sheet that isn't is
+-- the person's
 abbrev pub told_of : Known → List ℕ → Refusal → Unread
 told_of (Uniform size) id why = Refused why
+told_of (Sheet text) id why = Refused why
 told_of other id (Build (Sfdp fault)) = Unlike (unlike.NoTables id fault)
 told_of other id why = Refused why
 
@@ -61,10 +62,10 @@ DiffersFrom chip file (Unlike (unlike.Tables d)) = IsOther chip file d
 DiffersFrom chip file other = ⊥
 
 -- its tables have no signature, didn't come twice alike, or aren't as the file's; each read of them is of no more than so many bytes. A chip
--- of a size may have none
+-- of a size or a sheet may have none
 pub data StopsAsked (most : ℕ) (before after : Wire) (by : Known) (id : List ℕ) : Unread → Type 0 where
   Uncome : (fault : TablesFault) (why : Unread) → StopsTables most before.held after.held before.ahead after.ahead fault → why ≡ stop_of id fault
-      → is_uniform by && is_unsigned fault ≡ false → StopsAsked most before after by id why
+      → lacks_tables by && is_unsigned fault ≡ false → StopsAsked most before after by id why
   Other : (file chip : List ℕ) (why : Unread) → IsFile by file → HasReadTables most before.held after.held before.ahead after.ahead chip
       → DiffersFrom chip file why → StopsAsked most before after by id why
 
@@ -148,7 +149,8 @@ pub data StopsChip (most : ℕ) (before after : Wire) (ask : Ask) : Unread → T
   AtMeaning : (known : IsKnown most before after ask) (why : Unread) (refusal : Refusal)
       → RefusesChipOf (chip_task ask known.chip) refusal → why ≡ told_of ask.known known.identified.id refusal
       → StopsChip most before after ask why
-  AtSize : (known : IsKnown most before after ask) (why : Unread) → TellsSize (other_size ask known.chip) why
+  AtSize : (known : IsKnown most before after ask) (m : Parameters) (why : Unread) → HasChip (chip_task ask known.chip) m
+      → TellsSize (other_size ask m known.chip) why
       → StopsChip most before after ask why
   AtMode : (between : Wire) (known : IsKnown most before between ask) (m : Parameters) (why : Unread) → HasChip (chip_task ask known.chip) m
       → StopsMode between after ask (ops_by ask known.chip m) why → StopsChip most before after ask why

@@ -12,6 +12,9 @@ pub enum Known<'a> {
     Tables(&'a [u8]),
     /// Its size in bytes; what its own tables say, if it has any, has no part in its meaning.
     Uniform(u32),
+    /// The text of its sheet has it; of what its own tables say, if it has any, only its size is
+    /// looked at.
+    Sheet(&'a [u8]),
 }
 
 /// What is asked of a chip.
@@ -37,7 +40,8 @@ pub struct Ask<'a> {
     /// Whether the chip's power is said to have been switched on just before, so that it is in the
     /// mode that was said.
     pub fresh: bool,
-    /// Whether the tables of a chip of a size may say another size, and its end isn't looked for.
+    /// Whether the tables of a chip of a size or a sheet may say another size, and its end isn't
+    /// looked for.
     pub any_size: bool,
     /// Whether the halves of its content may be alike.
     pub repeats: bool,
@@ -58,9 +62,9 @@ pub struct Reading {
     pub note: Option<u32>,
     /// S7 to S0; of a W25Q256JV S23 to S0.
     pub status: u32,
-    /// Its SFDP bytes; none where a chip of a size has none.
+    /// Its SFDP bytes; none where a chip of a size or a sheet has none.
     pub tables: Vec<u8>,
-    /// What they, or its size, mean.
+    /// What they, its size or its sheet mean.
     pub meaning: Meaning,
     /// The byte of each address, from 0 on; none where it isn't read.
     pub content: Vec<u8>,

@@ -1,24 +1,22 @@
 //! What the chip behind a device says and holds.
 
-ghost use Rattle.std.specs.Prelude.{◌≡◌, ◌≢◌, ◌<◌, ◌≤◌, ◌+◌, ◌-◌, ◌^◌, ◌∷◌, [], ◌++◌, true, false};
-ghost use Rattle.std.specs.Prelude.{length, take, IfOk, IfErr, MatchResult, List, ℕ, Ok};
-ghost use Rattle.nor_base.specs.Device.{HaveRoom};
+ghost use Rattle.std.specs.Prelude.{◌≡◌, ◌≢◌, ◌≤◌, ◌^◌, ◌∷◌, [], ◌++◌, true, false};
+ghost use Rattle.std.specs.Prelude.{length, option_map, take, IfOk, IfErr, MatchResult, List, ℕ};
+ghost use Rattle.std.specs.Prelude.{Ok};
 ghost use Rattle.nor_job.specs.Chip.{HasChip};
 ghost use Rattle.nor_job.specs.Status.{start_of};
 ghost use Rattle.nor_reader.specs.Harmless.{HasSentHarmless, SendsHarmless};
-ghost use Rattle.norprog_device.specs.Blame.{Blames, CountsBoth};
-ghost use Rattle.norprog_device.specs.Wire.{wire};
+ghost use Rattle.norprog_common.specs.Wire.{wire};
 ghost use Rattle.norprog_common.specs.Setup.{RefusesChipOf};
 ghost use Rattle.norprog_common.specs.declared.faults.Refusal.{Refusal};
 ghost use Rattle.norprog_read.specs.Asked.{AsksId, AsksStatus, IsDriven, IsExpected};
 ghost use Rattle.norprog_read.specs.Asked.{IsUndriven, StopsId, StopsStatus};
 ghost use Rattle.norprog_read.specs.declared.fault.Unlike.TheVariants as unlike;
 ghost use Rattle.norprog_read.specs.declared.fault.Unread.TheVariants as unread;
-ghost use Rattle.norprog_read.specs.Blame.{fault_in};
 ghost use Rattle.norprog_read.specs.Came.{HidesLine, ShowsLine};
-ghost use Rattle.norprog_read.specs.Chip.{both_go, chip_task, is_uniform, is_unsigned, AreAlike};
+ghost use Rattle.norprog_read.specs.Chip.{both_go, chip_task, lacks_tables, is_unsigned, AreAlike};
 ghost use Rattle.norprog_read.specs.Chip.{GivesContent, GivesTables, HasMeaning, HasReadChip};
-ghost use Rattle.norprog_read.specs.Chip.{IsFile};
+ghost use Rattle.norprog_read.specs.Chip.{file_of, IsFile};
 ghost use Rattle.norprog_read.specs.Stops.{stop_of, told_of, DiffersFrom, RefusesFile};
 ghost use Rattle.norprog_read.specs.Stops.{StopsAsked, StopsChip, StopsContent};
 ghost use Rattle.norprog_read.specs.Way.{way};
@@ -29,7 +27,7 @@ use crate::content::{past_by, read_whole};
 use crate::end::see_end;
 use crate::fault::{Unlike, Unread};
 use crate::mode::{is_sure, make_mode, modes_of};
-use crate::size::{asked_register, noted_size, see_register, see_size};
+use crate::size::{asked_register, noted_size, said_size, see_register, see_size};
 use nor_base::{ByteIn, ByteOut, Meaning, Start};
 use nor_job::{BuildFault, Inputs, Source};
 use nor_probe::{Difference, Mismatch, chip_status, first_difference, tables_reach};
@@ -43,8 +41,8 @@ use std::alloc::Global;
 /// byte twice, show that it ends there, and say again what it is. A content has to show the line,
 /// unless `ask` is `raw`.
 ///
-/// `Unlike` where it doesn't do so; `Refused` where its tables or size have no meaning, and for
-/// `Memory`.
+/// `Unlike` where it doesn't do so; `Refused` where its tables, size or sheet have no meaning, and
+/// for `Memory`.
 pub fn read_chip<R: ByteIn, W: ByteOut>(
     alloc: Global,
     from: &mut R,
@@ -52,7 +50,6 @@ pub fn read_chip<R: ByteIn, W: ByteOut>(
     limits: &Limits,
     ask: &Ask<'_>,
 ) -> Result<Reading, Unread>
-    requires room { HaveRoom (R.count from.old) (W.count to.old) }
     ensures read { IfOk result (λ reading. HasReadChip limits.now.asked
         (wire (W.held to.old) (R.ahead from.old)) (wire (W.held to.new) (R.ahead from.new)) ask.now
         reading) }
@@ -61,10 +58,6 @@ pub fn read_chip<R: ByteIn, W: ByteOut>(
         ask.now) }
     ensures harmless { MatchResult result (λ _. HasSentHarmless (W.held to.old) (W.held to.new))
         (λ _. SendsHarmless (W.held to.old) (W.held to.new)) }
-    ensures blamed { Blames (R.count from.old < R.count from.new)
-        (W.count to.old < W.count to.new) (fault_in result) }
-    ensures counts { CountsBoth (R.count from.old) (R.count from.new) (W.count to.old)
-        (W.count to.new) (fault_in result) }
 {
     ask_chip(alloc, from, to, limits, ask)
 }
@@ -77,15 +70,12 @@ fn ask_chip<R: ByteIn, W: ByteOut>(
     limits: &Limits,
     ask: &Ask<'_>,
 ) -> Result<Reading, Unread>
-    requires room { HaveRoom (R.count from.old) (W.count to.old) }
     ensures read { IfOk result (λ reading. HasReadChip limits.now.asked
         (wire (W.held to.old) (R.ahead from.old)) (wire (W.held to.new) (R.ahead from.new)) ask.now
         reading) }
     ensures stops { IfErr result (StopsChip limits.now.asked
         (wire (W.held to.old) (R.ahead from.old)) (wire (W.held to.new) (R.ahead from.new))
         ask.now) }
-    ensures counts { CountsBoth (R.count from.old) (R.count from.new) (W.count to.old)
-        (W.count to.new) (fault_in result) }
 {
     check_file(ask)?;
     let first = ask_status(from, to, ask)?;
@@ -93,7 +83,7 @@ fn ask_chip<R: ByteIn, W: ByteOut>(
     see_id(ask.expect_id, id)?;
     let tables = ask_tables(alloc, from, to, limits, ask, id)?;
     let (meaning, start) = known_meaning(ask, id, tables.as_slice())?;
-    see_size(ask, tables.as_slice())?;
+    see_size(ask, &meaning, tables.as_slice())?;
     let said = meaning.begins4(&start);
     let modes = modes_of(ask.known, tables.as_slice(), &meaning);
     let status = make_mode(from, to, ask, said, modes, first)?;
@@ -113,7 +103,7 @@ fn ask_chip<R: ByteIn, W: ByteOut>(
         part: ask.part,
         whole: ask.content,
         id,
-        note: noted_size(ask.known, id),
+        note: noted_size(said_size(ask.known, &meaning), id),
         status,
         tables,
         meaning,
@@ -167,14 +157,11 @@ fn is_undriven(id: [u8; 3]) -> bool
 
 /// What the chip says that it is, where it says something.
 fn ask_id<R: ByteIn, W: ByteOut>(from: &mut R, to: &mut W) -> Result<[u8; 3], Unread>
-    requires room { HaveRoom (R.count from.old) (W.count to.old) }
     ensures id { IfOk result (λ id. AsksId (wire (W.held to.old) (R.ahead from.old))
         (wire (W.held to.new) (R.ahead from.new)) (Ok id)) }
     ensures driven { IfOk result IsDriven }
     ensures stops { IfErr result (StopsId (wire (W.held to.old) (R.ahead from.old))
         (wire (W.held to.new) (R.ahead from.new))) }
-    ensures counts { CountsBoth (R.count from.old) (R.count from.new) (W.count to.old)
-        (W.count to.new) (fault_in result) }
 {
     match read_id(from, to) {
         Ok(id) if is_undriven(id) => Err(Unread::Unlike(Unlike::Id(id))),
@@ -189,13 +176,10 @@ pub(crate) fn ask_status<R: ByteIn, W: ByteOut>(
     to: &mut W,
     ask: &Ask<'_>,
 ) -> Result<u32, Unread>
-    requires room { HaveRoom (R.count from.old) (W.count to.old) }
     ensures status { IfOk result (λ status. AsksStatus (wire (W.held to.old) (R.ahead from.old))
         (wire (W.held to.new) (R.ahead from.new)) ask.now (Ok status)) }
     ensures stops { IfErr result (StopsStatus (wire (W.held to.old) (R.ahead from.old))
         (wire (W.held to.new) (R.ahead from.new)) ask.now) }
-    ensures counts { CountsBoth (R.count from.old) (R.count from.new) (W.count to.old)
-        (W.count to.new) (fault_in result) }
 {
     match chip_status(from, to, ask.part, ask.turns) {
         Ok(status) => Ok(status),
@@ -206,7 +190,7 @@ pub(crate) fn ask_status<R: ByteIn, W: ByteOut>(
 }
 
 /// Its tables, which came twice alike and, as far as a file's are given, are the same; none where a
-/// chip of a size has none.
+/// chip of a size or a sheet has none.
 fn ask_tables<R: ByteIn, W: ByteOut>(
     alloc: Global,
     from: &mut R,
@@ -215,7 +199,6 @@ fn ask_tables<R: ByteIn, W: ByteOut>(
     ask: &Ask<'_>,
     id: [u8; 3],
 ) -> Result<Vec<u8>, Unread>
-    requires room { HaveRoom (R.count from.old) (W.count to.old) }
     ensures tables { IfOk result (λ tables. GivesTables limits.now.asked
         (wire (W.held to.old) (R.ahead from.old)) (wire (W.held to.new) (R.ahead from.new))
         ask.now.known tables.items) }
@@ -223,8 +206,6 @@ fn ask_tables<R: ByteIn, W: ByteOut>(
     ensures stops { IfErr result (StopsAsked limits.now.asked
         (wire (W.held to.old) (R.ahead from.old)) (wire (W.held to.new) (R.ahead from.new))
         ask.now.known id) }
-    ensures counts { CountsBoth (R.count from.old) (R.count from.new) (W.count to.old)
-        (W.count to.new) (fault_in result) }
 {
     match read_tables(alloc, from, to, limits) {
         Ok(tables) => {
@@ -232,7 +213,7 @@ fn ask_tables<R: ByteIn, W: ByteOut>(
             Ok(tables)
         }
         Err(why) => {
-            if is_uniform(ask.known) && is_unsigned(why) {
+            if lacks_tables(ask.known) && is_unsigned(why) {
                 Ok(Vec::new(alloc))
             } else {
                 Err(stop_of(id, why))
@@ -251,12 +232,12 @@ fn is_unsigned(why: TablesFault) -> bool
     }
 }
 
-/// Whether a chip is known by its size.
-fn is_uniform(known: Known<'_>) -> bool
-    ensures { result ≡ is_uniform known.entry }
+/// Whether a chip may have no tables, since it is known by its size or its sheet.
+fn lacks_tables(known: Known<'_>) -> bool
+    ensures { result ≡ lacks_tables known.entry }
 {
     match known {
-        Known::Uniform(_) => true,
+        Known::Uniform(_) | Known::Sheet(_) => true,
         Known::Own | Known::Tables(_) => false,
     }
 }
@@ -284,7 +265,7 @@ fn compare_known(chip: &[u8], known: Known<'_>) -> Result<(), Unread>
         × DiffersFrom chip.now file why) }
 {
     match known {
-        Known::Own | Known::Uniform(_) => Ok(()),
+        Known::Own | Known::Uniform(_) | Known::Sheet(_) => Ok(()),
         Known::Tables(file) => compare_file(chip, file),
     }
 }
@@ -307,21 +288,32 @@ fn compare_file(chip: &[u8], file: &[u8]) -> Result<(), Unread>
     }
 }
 
-/// Sees that a file of tables, where one is given, has a meaning.
-fn check_file(ask: &Ask<'_>) -> Result<(), Unread>
-    ensures file { IfOk result (λ _. HasMeaning ask.now ask.now.known) }
+/// Sees that a file of tables or a sheet, where one is given, has a meaning.
+pub fn check_file(ask: &Ask<'_>) -> Result<(), Unread>
+    ensures file { IfOk result (λ _. HasMeaning ask.now) }
     ensures stops { IfErr result (RefusesFile ask.now) }
 {
-    match ask.known {
-        Known::Own | Known::Uniform(_) => Ok(()),
-        Known::Tables(file) => match meaning_of(ask, file) {
+    match file_of(ask.known) {
+        None => Ok(()),
+        Some(file) => match meaning_of(ask, file) {
             Ok(_) => Ok(()),
             Err(why) => Err(Unread::Refused(why)),
         },
     }
 }
 
-/// What the tables that came from a chip of this identification, or its size, mean.
+/// The file that a chip is known by: of tables, or of its sheet.
+fn file_of<'a>(known: Known<'a>) -> Option<&'a [u8]>
+    ensures { option_map (λ t. t.now) result ≡ file_of known.entry }
+{
+    match known {
+        Known::Own | Known::Uniform(_) => None,
+        Known::Tables(file) => Some(file),
+        Known::Sheet(text) => Some(text),
+    }
+}
+
+/// What the tables that came from a chip of this identification, its size or its sheet mean.
 fn known_meaning(ask: &Ask<'_>, id: [u8; 3], tables: &[u8]) -> Result<(Meaning, Start), Unread>
     ensures means { IfOk result (λ chip. HasChip (chip_task ask.now tables.now) chip.0) }
     ensures start { IfOk result (λ chip. chip.1 ≡ start_of (chip_task ask.now tables.now)) }
@@ -347,7 +339,7 @@ fn told_of(known: Known<'_>, id: [u8; 3], why: Refusal) -> Unread
     }
 }
 
-/// What the tables or the size mean, and how the chip begins.
+/// What the tables, the size or the sheet mean, and how the chip begins.
 fn meaning_of(ask: &Ask<'_>, tables: &[u8]) -> Result<(Meaning, Start), Refusal>
     ensures means { IfOk result (λ chip. HasChip (chip_task ask.now tables.now) chip.0) }
     ensures start { IfOk result (λ chip. chip.1 ≡ start_of (chip_task ask.now tables.now)) }
@@ -355,6 +347,7 @@ fn meaning_of(ask: &Ask<'_>, tables: &[u8]) -> Result<(Meaning, Start), Refusal>
 {
     let chip = match ask.known {
         Known::Uniform(size) => Source::Uniform(size),
+        Known::Sheet(text) => Source::Sheet(text),
         Known::Own | Known::Tables(_) => Source::Sfdp {
             bytes: tables,
             bits: ask.bits,
@@ -387,15 +380,12 @@ fn ask_content<R: ByteIn, W: ByteOut>(
     sure: bool,
     wanted: bool,
 ) -> Result<Vec<u8>, Unread>
-    requires room { HaveRoom (R.count from.old) (W.count to.old) }
     ensures content { IfOk result (λ content. GivesContent
         (way limits.now.asked meaning.now start sure) (wire (W.held to.old) (R.ahead from.old))
         (wire (W.held to.new) (R.ahead from.new)) wanted content.items) }
     ensures stops { IfErr result (StopsContent (way limits.now.asked meaning.now start sure)
         (wire (W.held to.old) (R.ahead from.old)) (wire (W.held to.new) (R.ahead from.new))) }
     ensures wanted { IfErr result (λ _. wanted ≡ true) }
-    ensures counts { CountsBoth (R.count from.old) (R.count from.new) (W.count to.old)
-        (W.count to.new) (fault_in result) }
 {
     if wanted {
         read_whole(alloc, from, to, limits, meaning, start, sure)

@@ -1,14 +1,11 @@
 //! The content of the chip behind a device.
 
-ghost use Rattle.std.specs.Prelude.{◌≡◌, ◌↔◌, ◌<◌, ◌≤◌, ◌+◌, ◌-◌, ◌^◌, true, false};
+ghost use Rattle.std.specs.Prelude.{◌≡◌, ◌↔◌, ◌≤◌, ◌^◌, true, false};
 ghost use Rattle.std.specs.Prelude.{length, IfOk, IfErr};
 ghost use Rattle.std.specs.Bool.{OnFalse, OnTrue};
 ghost use Rattle.nor_base.specs.Chip.{begins4};
-ghost use Rattle.nor_base.specs.Device.{HaveRoom};
 ghost use Rattle.nor_reader.specs.declared.by.ReadBy.TheVariants.{Entered};
-ghost use Rattle.norprog_device.specs.Blame.{CountsBoth};
-ghost use Rattle.norprog_device.specs.Wire.{wire};
-ghost use Rattle.norprog_read.specs.Blame.{fault_in};
+ghost use Rattle.norprog_common.specs.Wire.{wire};
 ghost use Rattle.norprog_read.specs.Content.{HoldsWhole};
 ghost use Rattle.norprog_read.specs.Stops.{StopsContent};
 ghost use Rattle.norprog_read.specs.Way.{first_by, is_near, is_readable, is_small, may_enter};
@@ -40,14 +37,11 @@ pub(crate) fn read_whole<R: ByteIn, W: ByteOut>(
     start: Start,
     sure: bool,
 ) -> Result<Vec<u8>, Unread>
-    requires room { HaveRoom (R.count from.old) (W.count to.old) }
     ensures whole { IfOk result (λ content. HoldsWhole (way limits.now.asked meaning.now start sure)
         (wire (W.held to.old) (R.ahead from.old)) (wire (W.held to.new) (R.ahead from.new))
         content.items) }
     ensures stops { IfErr result (StopsContent (way limits.now.asked meaning.now start sure)
         (wire (W.held to.old) (R.ahead from.old)) (wire (W.held to.new) (R.ahead from.new))) }
-    ensures counts { CountsBoth (R.count from.old) (R.count from.new) (W.count to.old)
-        (W.count to.new) (fault_in result) }
 {
     if !is_readable(meaning, start) {
         return Err(Unread::Unlike(Unlike::Unreadable));

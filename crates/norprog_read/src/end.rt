@@ -1,10 +1,7 @@
 //! Whether the chip behind a device ends where its content does.
 
-ghost use Rattle.std.specs.Prelude.{◌≡◌, ◌↔◌, ◌<◌, ◌-◌, ◌^◌, true, IfOk, IfErr};
-ghost use Rattle.nor_base.specs.Device.{HaveRoom};
-ghost use Rattle.norprog_device.specs.Blame.{CountsBoth};
-ghost use Rattle.norprog_device.specs.Wire.{wire};
-ghost use Rattle.norprog_read.specs.Blame.{fault_in};
+ghost use Rattle.std.specs.Prelude.{◌≡◌, ◌↔◌, true, IfOk, IfErr};
+ghost use Rattle.norprog_common.specs.Wire.{wire};
 ghost use Rattle.norprog_read.specs.End.{has_some, past, GivesPast, IsOnce, IsTwice, Repeats};
 ghost use Rattle.norprog_read.specs.End.{StopsEnd};
 
@@ -25,15 +22,12 @@ pub(crate) fn see_end<R: ByteIn, W: ByteOut>(
     by: ReadBy,
     content: &[u8],
 ) -> Result<(), Unread>
-    requires room { HaveRoom (R.count from.old) (W.count to.old) }
     ensures once { IfOk result (λ _. IsOnce ask.now content.now) }
     ensures past { IfOk result (λ _. GivesPast (wire (W.held to.old) (R.ahead from.old))
         (wire (W.held to.new) (R.ahead from.new)) (past limits.now.asked by content.now)
         ask.now.any_size) }
     ensures stops { IfErr result (StopsEnd (wire (W.held to.old) (R.ahead from.old))
         (wire (W.held to.new) (R.ahead from.new)) (past limits.now.asked by content.now) ask.now) }
-    ensures counts { CountsBoth (R.count from.old) (R.count from.new) (W.count to.old)
-        (W.count to.new) (fault_in result) }
 {
     if !ask.repeats && repeats(content) {
         return Err(Unread::Unlike(Unlike::Repeats));

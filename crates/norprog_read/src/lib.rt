@@ -23,7 +23,7 @@ mod size;
 
 pub use asked::{Ask, Known, Reading};
 pub use blame::fault_of_unlike;
-pub use chip::read_chip;
+pub use chip::{check_file, read_chip};
 pub use content::first_by;
 pub use fault::{Unlike, Unread};
 pub use laws::shown_line_keeps;

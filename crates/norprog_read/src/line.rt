@@ -1,6 +1,6 @@
 //! What is printed of a chip that was read, and of one that wasn't.
 
-ghost use Rattle.std.specs.Prelude.{◌≡◌, ◌<◌, ◌-◌, ◌^◌};
+ghost use Rattle.std.specs.Prelude.{◌≡◌};
 ghost use Rattle.nor_base.specs.Device.{Counts, Writes};
 ghost use Rattle.norprog_read.specs.Line.{content_line, digits_line, fault_number};
 ghost use Rattle.norprog_read.specs.declared.fault.Unlike.TheVariants.{Size};
@@ -28,7 +28,6 @@ const HIDDEN: &[u8] = b"unreadable: what the chip holds doesn't show its address
 /// At `Failed` a proper prefix was taken; it comes only from the writer, whose count of failures
 /// rose by one.
 pub fn write_reading<W: ByteOut>(reading: &Reading, writer: &mut W) -> Result<(), Failed>
-    requires { W.count writer.old < 2 ^ 64 - 1 }
     ensures bytes { Writes (W.held writer.old) (W.held writer.new) result
         (reading_text reading.now) }
     ensures count { Counts (W.count writer.old) (W.count writer.new) result }
@@ -46,7 +45,6 @@ pub fn write_reading<W: ByteOut>(reading: &Reading, writer: &mut W) -> Result<()
 /// At `Failed` a proper prefix was taken; it comes only from the writer, whose count of failures
 /// rose by one.
 pub fn write_note<W: ByteOut>(note: Option<u32>, writer: &mut W) -> Result<(), Failed>
-    requires { W.count writer.old < 2 ^ 64 - 1 }
     ensures bytes { Writes (W.held writer.old) (W.held writer.new) result (note_line note) }
     ensures count { Counts (W.count writer.old) (W.count writer.new) result }
 {
@@ -65,7 +63,6 @@ pub fn write_note<W: ByteOut>(note: Option<u32>, writer: &mut W) -> Result<(), F
 
 /// Writes how many bytes came twice alike, where they were wanted.
 fn write_count<W: ByteOut>(wanted: bool, content: &[u8], writer: &mut W) -> Result<(), Failed>
-    requires { W.count writer.old < 2 ^ 64 - 1 }
     ensures bytes { Writes (W.held writer.old) (W.held writer.new) result
         (content_line wanted content.now) }
     ensures count { Counts (W.count writer.old) (W.count writer.new) result }
@@ -80,7 +77,6 @@ fn write_count<W: ByteOut>(wanted: bool, content: &[u8], writer: &mut W) -> Resu
 
 /// Writes `status` and its digits.
 fn write_status<W: ByteOut>(part: Part, status: u32, writer: &mut W) -> Result<(), Failed>
-    requires { W.count writer.old < 2 ^ 64 - 1 }
     ensures bytes { Writes (W.held writer.old) (W.held writer.new) result
         (status_line part status) }
     ensures count { Counts (W.count writer.old) (W.count writer.new) result }
@@ -106,7 +102,6 @@ pub(crate) fn registers(status: u32) -> [u8; 3]
 
 /// Writes a text, three bytes in six digits, and LF.
 fn write_digits<W: ByteOut>(front: &[u8], bytes: &[u8; 3], writer: &mut W) -> Result<(), Failed>
-    requires { W.count writer.old < 2 ^ 64 - 1 }
     ensures bytes { Writes (W.held writer.old) (W.held writer.new) result
         (digits_line front.now bytes.now) }
     ensures count { Counts (W.count writer.old) (W.count writer.new) result }
@@ -133,7 +128,6 @@ fn write_digits<W: ByteOut>(front: &[u8], bytes: &[u8; 3], writer: &mut W) -> Re
 /// At `Failed` a proper prefix was taken; it comes only from the writer, whose count of failures
 /// rose by one.
 pub fn write_unlike<W: ByteOut>(why: Unlike, writer: &mut W) -> Result<(), Failed>
-    requires { W.count writer.old < 2 ^ 64 - 1 }
     ensures bytes { Writes (W.held writer.old) (W.held writer.new) result (unlike_line why) }
     ensures count { Counts (W.count writer.old) (W.count writer.new) result }
 {
@@ -158,7 +152,6 @@ pub fn write_unlike<W: ByteOut>(why: Unlike, writer: &mut W) -> Result<(), Faile
 
 /// Writes which size the tables say.
 fn write_size<W: ByteOut>(size: u32, writer: &mut W) -> Result<(), Failed>
-    requires { W.count writer.old < 2 ^ 64 - 1 }
     ensures bytes { Writes (W.held writer.old) (W.held writer.new) result
         (unlike_line (Size size)) }
     ensures count { Counts (W.count writer.old) (W.count writer.new) result }
@@ -173,7 +166,6 @@ fn write_size<W: ByteOut>(size: u32, writer: &mut W) -> Result<(), Failed>
 
 /// Writes what the chip says that it is, and why it has no tables.
 fn write_no_tables<W: ByteOut>(id: &[u8; 3], fault: SfdpFault, writer: &mut W) -> Result<(), Failed>
-    requires { W.count writer.old < 2 ^ 64 - 1 }
     ensures bytes { Writes (W.held writer.old) (W.held writer.new) result
         (no_tables_lines id.now fault) }
     ensures count { Counts (W.count writer.old) (W.count writer.new) result }
@@ -208,7 +200,6 @@ fn fault_number(fault: SfdpFault) -> u8
 
 /// Writes the first byte of the tables that is another than the file's.
 fn write_tables<W: ByteOut>(d: Difference, writer: &mut W) -> Result<(), Failed>
-    requires { W.count writer.old < 2 ^ 64 - 1 }
     ensures bytes { Writes (W.held writer.old) (W.held writer.new) result (tables_line d) }
     ensures count { Counts (W.count writer.old) (W.count writer.new) result }
 {

@@ -1,19 +1,16 @@
 //! The address mode that was said, and whether the chip is sure to be in it (JESD216B, basic table,
 //! DWORDs 1 and 16; W25Q256JV datasheet, B7h, E9h and ADS).
 
-ghost use Rattle.std.specs.Prelude.{◌≡◌, ◌≤◌, ◌<◌, ◌-◌, ◌^◌, [], IfOk, IfErr};
-ghost use Rattle.nor_base.specs.Device.{HaveRoom};
+ghost use Rattle.std.specs.Prelude.{◌≡◌, [], IfOk, IfErr};
 ghost use Rattle.nor_base.specs.Instructions.{is_there};
 ghost use Rattle.nor_base.specs.declared.meaning.Part.TheVariants.{Generic};
 ghost use Rattle.nor_reader.specs.Switched.{Operates};
 ghost use Rattle.nor_reader.specs.Telling.{opcode_to};
-ghost use Rattle.nor_serprog.specs.Exchange.{CountsReads, CountsWrites};
 ghost use Rattle.nor_sfdp.specs.Reading.{meaning_of};
-ghost use Rattle.norprog_device.specs.Blame.{CountsBoth};
-ghost use Rattle.norprog_device.specs.Wire.{wire};
-ghost use Rattle.norprog_read.specs.Blame.{fault_in};
+ghost use Rattle.norprog_common.specs.Wire.{wire};
 ghost use Rattle.norprog_read.specs.Modes.{has_three, is_otherwise, is_sure, mode_ops, modes_of};
-ghost use Rattle.norprog_read.specs.Modes.{own_modes, shows_mode, switch_to, MakesMode, StopsMode};
+ghost use Rattle.norprog_read.specs.Modes.{own_modes, said_modes, sheet_modes, shows_mode};
+ghost use Rattle.norprog_read.specs.Modes.{switch_to, MakesMode, StopsMode};
 ghost use Rattle.norprog_read.specs.Way.{has_both};
 
 use crate::asked::{Ask, Known};
@@ -40,15 +37,35 @@ pub(crate) fn modes_of(known: Known<'_>, tables: &[u8], meaning: &Meaning) -> Mo
 {
     match known {
         Known::Uniform(_) => own_modes(tables),
-        Known::Own | Known::Tables(_) => Modes {
-            one: !has_both(meaning.width),
-            enter: meaning.enter,
-            leave: meaning.leave,
-        },
+        Known::Sheet(_) => sheet_modes(tables, meaning),
+        Known::Own | Known::Tables(_) => said_modes(meaning),
     }
 }
 
-/// What the tables of a chip of a size say of them.
+/// What is known of them by the meaning of a sheet, and by the tables where that says three address
+/// bytes.
+fn sheet_modes(tables: &[u8], meaning: &Meaning) -> Modes
+    ensures { result ≡ sheet_modes (meaning_of tables.now [] Generic) meaning.now }
+{
+    if has_three(meaning.width) {
+        own_modes(tables)
+    } else {
+        said_modes(meaning)
+    }
+}
+
+/// What a meaning says of them.
+fn said_modes(meaning: &Meaning) -> Modes
+    ensures { result ≡ said_modes meaning.now }
+{
+    Modes {
+        one: !has_both(meaning.width),
+        enter: meaning.enter,
+        leave: meaning.leave,
+    }
+}
+
+/// What the tables of a chip say of them that is known by its size or by a sheet of one mode.
 fn own_modes(tables: &[u8]) -> Modes
     ensures { result ≡ own_modes (meaning_of tables.now [] Generic) }
 {
@@ -145,14 +162,11 @@ pub(crate) fn make_mode<R: ByteIn, W: ByteOut>(
     modes: Modes,
     status: u32,
 ) -> Result<u32, Unread>
-    requires room { HaveRoom (R.count from.old) (W.count to.old) }
     ensures made { IfOk result (MakesMode (wire (W.held to.old) (R.ahead from.old))
         (wire (W.held to.new) (R.ahead from.new)) ask.now (mode_ops ask.now.content said modes)
         status) }
     ensures stops { IfErr result (StopsMode (wire (W.held to.old) (R.ahead from.old))
         (wire (W.held to.new) (R.ahead from.new)) ask.now (mode_ops ask.now.content said modes)) }
-    ensures counts { CountsBoth (R.count from.old) (R.count from.new) (W.count to.old)
-        (W.count to.new) (fault_in result) }
 {
     let shows = shows_mode(ask.part);
     if shows && !is_otherwise(ask.part, ask.mode4, status) {
@@ -179,11 +193,8 @@ fn send_switch<R: ByteIn, W: ByteOut>(
     said: bool,
     modes: Modes,
 ) -> Result<(), Fault>
-    requires room { HaveRoom (R.count from.old) (W.count to.old) }
     ensures sends { Operates (W.held to.old) (W.held to.new) (R.ahead from.old) (R.ahead from.new)
         result (mode_ops wanted said modes) }
-    ensures counts { CountsReads (R.count from.old) (R.count from.new) result
-        × CountsWrites (W.count to.old) (W.count to.new) result }
 {
     let opcode = opcode_to(said);
     switch_mode(from, to, switch_to(wanted, said, modes), opcode)

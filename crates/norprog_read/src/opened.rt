@@ -1,8 +1,8 @@
 //! A chip behind a device, from the handshake on.
 
-ghost use Rattle.std.specs.Prelude.{◌≡◌, ◌≤◌, ◌<◌, ◌+◌, ◌-◌, ◌^◌, ◌&&◌, not, Ok, IfOk, IfErr};
-ghost use Rattle.norprog_device.specs.Blame.{is_cut, Blames, CountsBoth};
-ghost use Rattle.norprog_device.specs.Wire.{wire};
+ghost use Rattle.std.specs.Prelude.{◌≡◌, ◌&&◌, not, Ok, IfOk, IfErr};
+ghost use Rattle.norprog_device.specs.Blame.{is_cut};
+ghost use Rattle.norprog_common.specs.Wire.{wire};
 ghost use Rattle.norprog_read.specs.Blame.{fault_in};
 ghost use Rattle.norprog_read.specs.Opened.{HasReadOpened, HasReadTested, StopsOpened, StopsTested};
 
@@ -26,14 +26,10 @@ pub fn read_opened<R: ByteIn, W: ByteOut>(
     to: &mut W,
     ask: &Ask<'_>,
 ) -> Result<Reading, Unread>
-    requires reader { R.count from.old < 2 ^ 64 - 2 }
-    requires writer { W.count to.old < 2 ^ 64 - 2 }
     ensures read { IfOk result (λ reading. HasReadOpened (wire (W.held to.old) (R.ahead from.old))
         (wire (W.held to.new) (R.ahead from.new)) ask.now reading) }
     ensures stops { IfErr result (StopsOpened (wire (W.held to.old) (R.ahead from.old))
         (wire (W.held to.new) (R.ahead from.new)) ask.now) }
-    ensures blamed { Blames (R.count from.old < R.count from.new)
-        (W.count to.old < W.count to.new) (fault_in result) }
 {
     let limits = match greet(from, to) {
         Ok(limits) => limits,
@@ -61,14 +57,10 @@ fn read_tested<R: ByteIn, W: ByteOut>(
     limits: &Limits,
     ask: &Ask<'_>,
 ) -> Result<Reading, Unread>
-    requires reader { R.count from.old < 2 ^ 64 - 2 }
-    requires writer { W.count to.old < 2 ^ 64 - 2 }
     ensures read { IfOk result (λ reading. HasReadTested (wire (W.held to.old) (R.ahead from.old))
         (wire (W.held to.new) (R.ahead from.new)) limits.now ask.now reading) }
     ensures stops { IfErr result (StopsTested (wire (W.held to.old) (R.ahead from.old))
         (wire (W.held to.new) (R.ahead from.new)) limits.now ask.now) }
-    ensures counts { CountsBoth (R.count from.old) (R.count from.new) (W.count to.old)
-        (W.count to.new) (fault_in result) }
 {
     match test_line(from, to, limits) {
         Ok(()) => read_chip(alloc, from, to, limits, ask),

@@ -13,7 +13,7 @@ use norprog_common::{Chip, ChipArgs, ReadArgs, chip_of, limit, optional_status, 
 /// What `read` is asked for: each value is of its form.
 #[derive(Clone, Copy)]
 pub struct ReadRequest<'a> {
-    /// The file of the tables, or the size, where one is given.
+    /// The file of the tables, the size, or the file of the sheet, where one is given.
     pub chip: Option<Chip<'a>>,
     pub bits: &'a str,
     pub part: Part,
@@ -38,7 +38,8 @@ pub struct ReadRequest<'a> {
 }
 
 /// The request that the values spell. None where one isn't of its form, where no device is named,
-/// where tables are to be saved of a chip of a size, and where both outputs have one name.
+/// where tables are to be saved of a chip of a size or a sheet, and where both outputs have one
+/// name.
 pub fn request_of<'a>(given: ReadArgs<'a>) -> Option<ReadRequest<'a>>
     ensures forms { is_some result ≡ is_well_formed given.entry }
     ensures values { IfSome result (λ request. AsksFor given.entry request) }
@@ -75,21 +76,23 @@ fn expected_id(text: Option<&str>) -> Option<Option<[u8; 3]>>
     }
 }
 
-/// Whether the outputs have different names, and no tables are saved of a chip of a size.
+/// Whether the outputs have different names, and no tables are saved of a chip of a size or a
+/// sheet.
 fn are_apart(given: ReadArgs<'_>) -> bool
     ensures { result ≡ are_apart given.entry }
 {
-    !are_same(given.tables, given.out) && !(given.tables.is_some() && given.chip.uniform.is_some())
+    !are_same(given.tables, given.out)
+        && !(given.tables.is_some() && (given.chip.uniform.is_some() || given.chip.sheet.is_some()))
 }
 
 /// The chip that is named, if one is. None where it isn't of its form.
 fn named_chip<'a>(given: ChipArgs<'a>) -> Option<Option<Chip<'a>>>
     ensures { option_map (λ chip. option_map origin_of chip) result ≡ named_chip given.entry }
 {
-    if given.sfdp.is_none() && given.uniform.is_none() {
+    if given.sfdp.is_none() && given.uniform.is_none() && given.sheet.is_none() {
         return Some(None);
     }
-    Some(Some(chip_of(given.sfdp, given.uniform, given.bits)?))
+    Some(Some(chip_of(given.sfdp, given.uniform, given.sheet, given.bits)?))
 }
 
 /// Whether both are given, and are the same.
@@ -112,6 +115,7 @@ pub fn ask_of<'a>(request: ReadRequest<'a>, file: &'a [u8]) -> Ask<'a>
             None => Known::Own,
             Some(Chip::Sfdp { .. }) => Known::Tables(file),
             Some(Chip::Uniform(size)) => Known::Uniform(size),
+            Some(Chip::Sheet { .. }) => Known::Sheet(file),
         },
         bits: request.bits,
         part: request.part,

@@ -1,38 +1,46 @@
 //! What a chip says of its size, and whether a register of it moves all addresses (JESD216B, basic
 //! table, DWORDs 2 and 16; JEDEC, Read Identification 9Fh).
 
-ghost use Rattle.std.specs.Prelude.{◌≡◌, ◌≤◌, ◌<◌, ◌+◌, ◌-◌, ◌^◌, None, IfOk, IfErr};
-ghost use Rattle.nor_base.specs.Device.{HaveRoom};
-ghost use Rattle.norprog_device.specs.Blame.{CountsBoth};
-ghost use Rattle.norprog_device.specs.Wire.{wire};
-ghost use Rattle.norprog_read.specs.Blame.{fault_in};
-ghost use Rattle.norprog_read.specs.Size.{asked_register, noted_size, other_size, size_by};
-ghost use Rattle.norprog_read.specs.Size.{IsUnmoved, StopsMoved, TellsSize};
+ghost use Rattle.std.specs.Prelude.{◌≡◌, None, IfOk, IfErr};
+ghost use Rattle.norprog_common.specs.Wire.{wire};
+ghost use Rattle.norprog_read.specs.Size.{asked_register, noted_size, other_size, said_size};
+ghost use Rattle.norprog_read.specs.Size.{size_by, IsUnmoved, StopsMoved, TellsSize};
 
 use crate::asked::{Ask, Known};
 use crate::fault::{Unlike, Unread};
-use nor_base::{ByteIn, ByteOut};
+use nor_base::{ByteIn, ByteOut, Meaning};
 use nor_probe::{AddressRegister, address_register, is_moved, opcode_of, read_register};
 use nor_sfdp::density;
 
-/// Refuses a chip of a size whose tables say another one, unless any is allowed.
-pub(crate) fn see_size(ask: &Ask<'_>, tables: &[u8]) -> Result<(), Unread>
-    ensures same { IfOk result (λ _. other_size ask.now tables.now ≡ None) }
-    ensures other { IfErr result (TellsSize (other_size ask.now tables.now)) }
+/// Refuses a chip of a size or a sheet whose tables say another size, unless any is allowed.
+pub(crate) fn see_size(ask: &Ask<'_>, meaning: &Meaning, tables: &[u8]) -> Result<(), Unread>
+    ensures same { IfOk result (λ _. other_size ask.now meaning.now tables.now ≡ None) }
+    ensures other { IfErr result (TellsSize (other_size ask.now meaning.now tables.now)) }
 {
-    match other_size(ask, tables) {
+    match other_size(ask, meaning, tables) {
         None => Ok(()),
         Some(size) => Err(Unread::Unlike(Unlike::Size(size))),
     }
 }
 
-/// The size that the tables of a chip of a size say, where it is another one and none is allowed.
-fn other_size(ask: &Ask<'_>, tables: &[u8]) -> Option<u32>
-    ensures { result ≡ other_size ask.now tables.now }
+/// The size that is said of a chip, itself or in its sheet.
+pub(crate) fn said_size(known: Known<'_>, meaning: &Meaning) -> Option<u32>
+    ensures { result ≡ said_size known.entry meaning.now }
 {
-    match ask.known {
+    match known {
         Known::Own | Known::Tables(_) => None,
-        Known::Uniform(size) => {
+        Known::Uniform(size) => Some(size),
+        Known::Sheet(_) => Some(meaning.size),
+    }
+}
+
+/// The size that the tables of such a chip say, where it is another one and none is allowed.
+fn other_size(ask: &Ask<'_>, meaning: &Meaning, tables: &[u8]) -> Option<u32>
+    ensures { result ≡ other_size ask.now meaning.now tables.now }
+{
+    match said_size(ask.known, meaning) {
+        None => None,
+        Some(size) => {
             if ask.any_size {
                 return None;
             }
@@ -62,13 +70,10 @@ pub(crate) fn see_register<R: ByteIn, W: ByteOut>(
     to: &mut W,
     register: Option<AddressRegister>,
 ) -> Result<(), Unread>
-    requires room { HaveRoom (R.count from.old) (W.count to.old) }
     ensures unmoved { IfOk result (λ _. IsUnmoved (wire (W.held to.old) (R.ahead from.old))
         (wire (W.held to.new) (R.ahead from.new)) register) }
     ensures stops { IfErr result (StopsMoved (wire (W.held to.old) (R.ahead from.old))
         (wire (W.held to.new) (R.ahead from.new)) register) }
-    ensures counts { CountsBoth (R.count from.old) (R.count from.new) (W.count to.old)
-        (W.count to.new) (fault_in result) }
 {
     match register {
         None => Ok(()),
@@ -81,12 +86,12 @@ pub(crate) fn see_register<R: ByteIn, W: ByteOut>(
 }
 
 /// The size that an identification says, where the size was said and is another one.
-pub(crate) fn noted_size(known: Known<'_>, id: [u8; 3]) -> Option<u32>
-    ensures { result ≡ noted_size known.entry id }
+pub(crate) fn noted_size(said: Option<u32>, id: [u8; 3]) -> Option<u32>
+    ensures { result ≡ noted_size said id }
 {
-    match known {
-        Known::Own | Known::Tables(_) => None,
-        Known::Uniform(size) => {
+    match said {
+        None => None,
+        Some(size) => {
             let [_, _, exponent] = id;
             match size_by(exponent) {
                 Some(own) if own != size => Some(own),

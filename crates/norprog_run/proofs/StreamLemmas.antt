@@ -2,8 +2,9 @@
 use Rattle.std.proofs.Common.{◌≡◌, ◌<◌, ℕ, List, length, Option, Result, Ok, Err, refl, subst, arith}
 use Rattle.std.specs.Prelude.{IfOk, IfErr}
 use Rattle.std.specs.Io.KnownBytes.{Appends}
-use Rattle.nor_base.specs.Chip.{Setting, Chip, ready}
-use Rattle.nor_base.specs.Device.{Ahead, Finite, Gives}
+use Rattle.nor_base.specs.Chip.{Setting, Chip}
+use Rattle.nor_base.specs.Device.{Ahead, Finite, Gives, one_more}
+use Rattle.nor_base.proofs.DeviceLaws.{never_raised}
 use Rattle.nor_job.specs.declared.fault.BuildFault.TheVariants as fault
 use Rattle.nor_job.specs.Status.{start_of}
 use Rattle.nor_job.specs.Task.{Task}
@@ -22,9 +23,10 @@ use Rattle.norprog_run.specs.declared.kind.Kind.{Kind}
 use Rattle.norprog_run.specs.declared.request.ChipBehaviour.{ChipBehaviour}
 use Rattle.norprog_run.specs.declared.verdict.Verdict.{Verdict}
 use Rattle.norprog_run.specs.Kind.{kind_setting}
-use Rattle.norprog_run.specs.Play.{page_of, IsSized, WasPlayed, setting_of}
+use Rattle.nor_job.specs.Written.{passed, Passed}
+use Rattle.norprog_run.specs.Play.{page_of, play_of, ready_run, setting_of, IsSized, Play, Run}
 use Rattle.norprog_run.specs.Refusals.{RefusesPaged, RefusesPlay, IsEarly}
-use Rattle.norprog_run.specs.Stream.{BadReading, Blames, CountsOne, IsPlayed, NoChip, NoMemory, Play, PlaysText, Refused, RefusesScript, StopsText, Unplayed, of_script, play_of, refusal_of}
+use Rattle.norprog_run.specs.Stream.{BadReading, Blames, CountsOne, IsPlayed, NoChip, NoMemory, PlaysText, Refused, RefusesScript, StopsText, Unplayed, of_script, refusal_of}
 
 -- a text that has this has that
 pub text_wider : (before after : Ahead) (P Q : List ℕ → Type 0) → ((text : List ℕ) → P text → Q text) → HadText before after P → HadText before after Q
@@ -37,7 +39,7 @@ kind_is t bench kind start page = rw (start, page) refl
 module _ (t : Task) (bench : ChipBehaviour) (kind : Kind) (len : ℕ) (sized : IsSized t bench.page len kind.meaning) (start : kind.start ≡ start_of t)
     (page : kind.page ≡ page_of bench.page kind.meaning) (script script' before after : Ahead) (held held' : Option (List ℕ)) where
   abbrev Why : Refusal → Type 0
-  Why = Unplayed (play_of t bench len before after held held') script script'
+  Why = Unplayed (play_of t bench len (passed before after held held')) script script'
 
   -- the reading found no script
   pub script_refused : (why : Refusal) → RefusesScript script script' why → Why why
@@ -58,12 +60,12 @@ module _ (t : Task) (bench : ChipBehaviour) (kind : Kind) (len : ℕ) (sized : I
 
   -- the content was read
   module _ (content : List ℕ) (whole : length content ≡ len) (given : Gives before content after) where
-    pub play_refused : (why : Refusal) → StopsText script script' (kind_setting kind bench) (ready (kind_setting kind bench) content) bench.limit held held' why → Why why
+    pub play_refused : (why : Refusal) → StopsText (passed script script' held held') (ready_run (kind_setting kind bench) content bench.limit) why → Why why
     play_refused (Script why) p = script_refused (Script why) p
     play_refused (File file.Script) p = BadReading (kind.meaning, sized) p
     play_refused (Build fault.Memory) p = NoMemory (kind.meaning, sized)
     play_refused (Build fault.Write) p =
-        let here = subst (λ (s : Setting). StopsText script script' s (ready s content) bench.limit held held' (Build fault.Write)) (kind_is t bench kind start page) p in
+        let here = subst (λ (s : Setting). StopsText (passed script script' held held') (ready_run s content bench.limit) (Build fault.Write)) (kind_is t bench kind start page) p in
         Refused (Build fault.Write) (text_wider script script' _ _ (λ text is. record {
           m = kind.meaning;
           steps = is.0;
@@ -76,10 +78,10 @@ module _ (t : Task) (bench : ChipBehaviour) (kind : Kind) (len : ℕ) (sized : I
     play_refused other p = absurd p
 
     pub all_played : (verdict : Verdict) (chip : Chip)
-        → HadText script script' (PlaysText (kind_setting kind bench) (ready (kind_setting kind bench) content) bench.limit verdict chip) → Appends held held' chip.array
-        → HadText script script' (IsPlayed (play_of t bench len before after held held') verdict)
+        → HadText script script' (PlaysText (ready_run (kind_setting kind bench) content bench.limit) verdict chip) → Appends held held' chip.array
+        → HadText script script' (IsPlayed (play_of t bench len (passed before after held held')) verdict)
     all_played verdict chip p put =
-        let here = subst (λ (s : Setting). HadText script script' (PlaysText s (ready s content) bench.limit verdict chip)) (kind_is t bench kind start page) p in
+        let here = subst (λ (s : Setting). HadText script script' (PlaysText (ready_run s content bench.limit) verdict chip)) (kind_is t bench kind start page) p in
         text_wider script script' _ _ (λ text is. record {
           m = kind.meaning;
           steps = is.0;
@@ -96,14 +98,14 @@ module _ (t : Task) (bench : ChipBehaviour) (kind : Kind) (len : ℕ) (sized : I
 
     pub plays_all : (r : Result Verdict Refusal)
         → IfOk r (λ verdict. (chip : Chip)
-        × HadText script script' (PlaysText (kind_setting kind bench) (ready (kind_setting kind bench) content) bench.limit verdict chip)
+        × HadText script script' (PlaysText (ready_run (kind_setting kind bench) content bench.limit) verdict chip)
         × Appends held held' chip.array)
-        → IfOk r (λ verdict. HadText script script' (IsPlayed (play_of t bench len before after held held') verdict))
+        → IfOk r (λ verdict. HadText script script' (IsPlayed (play_of t bench len (passed before after held held')) verdict))
     plays_all (Ok verdict) p = all_played verdict p.0 p.1 p.2
     plays_all (Err why) p = tt
 
     pub refuses_all : (r : Result Verdict Refusal)
-        → IfErr r (StopsText script script' (kind_setting kind bench) (ready (kind_setting kind bench) content) bench.limit held held') → IfErr r Why
+        → IfErr r (StopsText (passed script script' held held') (ready_run (kind_setting kind bench) content bench.limit)) → IfErr r Why
     refuses_all (Ok verdict) p = tt
     refuses_all (Err why) p = play_refused why p
 
@@ -116,30 +118,28 @@ paged_blames A B C t page len (Build fault.Write) p = absurd p
 paged_blames A B C t page len other p = tt
 
 pub script_blames : (B C : Type 0) (n n' : ℕ) (before after : Ahead) (why : Refusal) → RefusesScript before after why → CountsOne {T = Unit {0}} n n' (Err why)
-    → Blames (n < n') B C why
-script_blames B C n n' before after (File file.Script) p counts = omega (arith, counts)
+    → Blames (n' ≡ one_more n) B C why
+script_blames B C n n' before after (File file.Script) p counts = counts
 script_blames B C n n' before after (Build fault.Read) p counts = absurd p
 script_blames B C n n' before after (Build fault.Write) p counts = absurd p
 script_blames B C n n' before after other p counts = tt
 
 pub content_blames : (A C : Type 0) (n n' len : ℕ) (before after : Ahead) (why : Refusal) → StopsReading len before after why → CountsReader {T = Unit {0}} n n' (Err why)
-    → Blames A (n < n') C why
+    → Blames A (n' ≡ one_more n) C why
 content_blames A C n n' len before after (File file.Script) p counts = absurd p
-content_blames A C n n' len before after (Build fault.Read) p counts = omega (arith, counts)
+content_blames A C n n' len before after (Build fault.Read) p counts = counts
 content_blames A C n n' len before after (Build fault.Write) p counts = absurd p
 content_blames A C n n' len before after other p counts = tt
 
-play_blames : (B : Type 0) (n n' k k' : ℕ) (before after : Ahead) (s : Setting) (c : Chip) (limit : ℕ) (held held' : Option (List ℕ)) (why : Refusal)
-    → StopsText before after s c limit held held' why → CountsOne {T = Verdict} n n' (Err why) → CountsWriter {T = Verdict} k k' (Err why) → Blames (n < n') B (k < k') why
-play_blames B n n' k k' before after s c limit held held' (File file.Script) p reads writes = omega (arith, reads)
-play_blames B n n' k k' before after s c limit held held' (Build fault.Read) p reads writes = absurd p
-play_blames B n n' k k' before after s c limit held held' (Build fault.Write) p reads writes = omega (arith, writes)
-play_blames B n n' k k' before after s c limit held held' other p reads writes = tt
+play_blames : (B : Type 0) (n n' k k' : ℕ) (by : Passed) (run : Run) (why : Refusal) → StopsText by run why → CountsOne {T = Verdict} n n' (Err why) → CountsWriter {T = Verdict} k k' (Err why) → Blames (n' ≡ one_more n) B (k' ≡ one_more k) why
+play_blames B n n' k k' by run (File file.Script) p reads writes = reads
+play_blames B n n' k k' by run (Build fault.Read) p reads writes = absurd p
+play_blames B n n' k k' by run (Build fault.Write) p reads writes = writes
+play_blames B n n' k k' by run other p reads writes = tt
 
-pub all_blames : (B : Type 0) (n n' k k' : ℕ) (before after : Ahead) (s : Setting) (c : Chip) (limit : ℕ) (held held' : Option (List ℕ)) (r : Result Verdict Refusal)
-    → IfErr r (StopsText before after s c limit held held') → CountsOne n n' r → CountsWriter k k' r → IfErr r (Blames (n < n') B (k < k'))
-all_blames B n n' k k' before after s c limit held held' (Ok verdict) p reads writes = tt
-all_blames B n n' k k' before after s c limit held held' (Err why) p reads writes = play_blames B n n' k k' before after s c limit held held' why p reads writes
+pub all_blames : (B : Type 0) (n n' k k' : ℕ) (by : Passed) (run : Run) (r : Result Verdict Refusal) → IfErr r (StopsText by run) → CountsOne n n' r → CountsWriter k k' r → IfErr r (Blames (n' ≡ one_more n) B (k' ≡ one_more k))
+all_blames B n n' k k' by run (Ok verdict) p reads writes = tt
+all_blames B n n' k k' by run (Err why) p reads writes = play_blames B n n' k k' by run why p reads writes
 
 -- of a text in memory, which can be read without a failure
 
@@ -148,7 +148,7 @@ text_told script script' text P is has =
     let told = subst (λ (a : Ahead). HadText a script' P) is has in subst P told.1 told.2
 
 pub kind_refused : (p : Play) (text : List ℕ) (why : Refusal) → RefusesPaged p.chip p.bench.page p.len why
-    → RefusesPlay p.chip p.bench text p.len p.content p.rest p.begun p.ended why
+    → RefusesPlay p text why
 kind_refused p text (Script why) paged = absurd paged
 kind_refused p text (Build fault.ContentShort) paged = absurd paged
 kind_refused p text (Build fault.Read) paged = absurd paged
@@ -157,17 +157,17 @@ kind_refused p text (Build fault.Memory) paged = absurd paged
 kind_refused p text other paged = paged
 
 pub text_refused : (p : Play) (text : List ℕ) (script script' : Ahead) {why : Refusal} → script ≡ Finite text → of_script why ≡ 0 → Unplayed p script script' why
-    → RefusesPlay p.chip p.bench text p.len p.content p.rest p.begun p.ended why
+    → RefusesPlay p text why
 text_refused p text script script' is works (NoChip why refuses same unread) = kind_refused p text why refuses
 text_refused p text script script' is works (Refused why had) =
-    text_told script script' text (λ text. RefusesPlay p.chip p.bench text p.len p.content p.rest p.begun p.ended why) is had
+    text_told script script' text (λ text. RefusesPlay p text why) is had
 text_refused p text script script' is works (BadReading sized gave) = absurd (omega (arith, works))
 text_refused p text script script' is works (NoMemory sized) = sized
 
 pub text_refuses : (p : Play) (text : List ℕ) (script script' : Ahead) (r : Result Verdict Refusal) → script ≡ Finite text → CountsOne 0 0 r
-    → IfErr r (Unplayed p script script') → IfErr r (RefusesPlay p.chip p.bench text p.len p.content p.rest p.begun p.ended)
+    → IfErr r (Unplayed p script script') → IfErr r (RefusesPlay p text)
 text_refuses p text script script' (Ok verdict) is works refused = tt
-text_refuses p text script script' (Err why) is works refused = text_refused p text script script' is (let none = works in omega (arith, none)) refused
+text_refuses p text script script' (Err why) is works refused = text_refused p text script script' is (never_raised (of_script why) works) refused
 
 pub text_plays : (p : Play) (text : List ℕ) (script script' : Ahead) (r : Result Verdict Refusal) → script ≡ Finite text
     → IfOk r (λ verdict. HadText script script' (IsPlayed p verdict)) → IfOk r (λ verdict. IsPlayed p verdict text)
@@ -187,16 +187,16 @@ content_late A len before after (Build fault.Memory) p early = absurd early
 content_late A len before after other p early = absurd p
 
 -- after the content no fault of the text is found that wasn't before
-module _ (text : List ℕ) (script script' : Ahead) (is : script ≡ Finite text) (spelled : IsSpelled text) (faultless : ScriptsAreFaultless) (s : Setting) (c : Chip)
-    (limit : ℕ) (held held' : Option (List ℕ)) where
-  late : (why : Refusal) → StopsText script script' s c limit held held' why → CountsOne {T = Verdict} 0 0 (Err why) → IsEarly why → ⊥
+module _ (text : List ℕ) (script script' : Ahead) (is : script ≡ Finite text) (spelled : IsSpelled text) (faultless : ScriptsAreFaultless) (run : Run)
+    (held held' : Option (List ℕ)) where
+  late : (why : Refusal) → StopsText (passed script script' held held') run why → CountsOne {T = Verdict} 0 0 (Err why) → IsEarly why → ⊥
   late (Script why) p works early = faultless text spelled.steps why spelled.script (text_told script script' text (λ text. IsFault text why) is p)
-  late (File file.Script) p works early = omega (arith, works)
+  late (File file.Script) p works early = let none = never_raised 1 works in omega (arith, none)
   late (Build fault.Write) p works early = early
   late (Build fault.Memory) p works early = early
   late other p works early = p
 
-  pub text_unread : (A : Type 0) (r : Result Verdict Refusal) → IfErr r (StopsText script script' s c limit held held') → CountsOne 0 0 r → IfErr r (λ why. IsEarly why → A)
+  pub text_unread : (A : Type 0) (r : Result Verdict Refusal) → IfErr r (StopsText (passed script script' held held') run) → CountsOne 0 0 r → IfErr r (λ why. IsEarly why → A)
   text_unread A (Ok verdict) p works = tt
   text_unread A (Err why) p works = λ early. absurd (late why p works early)
 
@@ -211,13 +211,12 @@ script_told before after (read.Script (script.NoEnd line)) p gave = p
 script_told before after (read.Script (script.AfterEnd line)) p gave = p
 script_told before after (read.Device failed) p gave = gave
 
-pub fault_told : (before after : Ahead) (s : Setting) (c : Chip) (limit : ℕ) (held held' : Option (List ℕ)) (fault : ReadFault) → StopsReader before after fault
-    → GivesSome before after → StopsText before after s c limit held held' (refusal_of fault)
-fault_told before after s c limit held held' (read.Script script.Memory) p gave = tt
-fault_told before after s c limit held held' (read.Script (script.Header line)) p gave = p
-fault_told before after s c limit held held' (read.Script (script.BadLine line)) p gave = p
-fault_told before after s c limit held held' (read.Script (script.BadSymbol line)) p gave = p
-fault_told before after s c limit held held' (read.Script (script.BadCount line)) p gave = p
-fault_told before after s c limit held held' (read.Script (script.NoEnd line)) p gave = p
-fault_told before after s c limit held held' (read.Script (script.AfterEnd line)) p gave = p
-fault_told before after s c limit held held' (read.Device failed) p gave = gave
+pub fault_told : (by : Passed) (run : Run) (fault : ReadFault) → StopsReader by.ahead by.rest fault → GivesSome by.ahead by.rest → StopsText by run (refusal_of fault)
+fault_told by run (read.Script script.Memory) p gave = tt
+fault_told by run (read.Script (script.Header line)) p gave = p
+fault_told by run (read.Script (script.BadLine line)) p gave = p
+fault_told by run (read.Script (script.BadSymbol line)) p gave = p
+fault_told by run (read.Script (script.BadCount line)) p gave = p
+fault_told by run (read.Script (script.NoEnd line)) p gave = p
+fault_told by run (read.Script (script.AfterEnd line)) p gave = p
+fault_told by run (read.Device failed) p gave = gave

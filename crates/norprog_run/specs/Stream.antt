@@ -1,12 +1,10 @@
 -- A script that a reader gives is played as it comes; or why it isn't (this project's).
 use Rattle.std.specs.Prelude.{◌≡◌, ⊤, ℕ, ◌+◌, List, Option, Result, Ok, Err}
 use Rattle.nor_base.specs.declared.step.Step.{Step}
-use Rattle.nor_base.specs.Chip.{Setting, Chip}
-use Rattle.nor_base.specs.Device.{Ahead}
-use Rattle.nor_base.specs.Parameters.{Parameters}
+use Rattle.nor_base.specs.Chip.{Chip}
+use Rattle.nor_base.specs.Device.{Ahead, raised}
 use Rattle.nor_base.specs.Script.{IsScript}
 use Rattle.nor_job.specs.declared.fault.BuildFault.TheVariants as fault
-use Rattle.nor_job.specs.Task.{Task}
 use Rattle.nor_script.specs.declared.fault.ReadFault.{ReadFault}
 use Rattle.nor_script.specs.declared.fault.ReadFault.TheVariants as read
 use Rattle.nor_script.specs.Faults.{IsFault}
@@ -16,40 +14,21 @@ use Rattle.norprog_common.specs.declared.faults.Refusal.{Refusal}
 use Rattle.norprog_common.specs.declared.faults.Refusal.TheVariants.{File, Build, Script}
 use Rattle.norprog_common.specs.Lines.{script_refusal}
 use Rattle.norprog_common.specs.Reading.{GivesSome}
-use Rattle.norprog_run.specs.declared.request.ChipBehaviour.{ChipBehaviour}
 use Rattle.norprog_run.specs.declared.verdict.Verdict.{Verdict}
-use Rattle.norprog_run.specs.Play.{IsSized, EndsSo, WasPlayed}
-use Rattle.norprog_run.specs.Refusals.{StopsPlaying, RefusesPaged, RefusesPlay}
-
--- a play: the task of its chip, the bench, the content's length, what the content's reader had ahead and what it has, what the output
--- held and what it holds
-pub record Play : Type 0 where
-  pub chip : Task
-  pub bench : ChipBehaviour
-  pub len : ℕ
-  pub content : Ahead
-  pub rest : Ahead
-  pub begun : Option (List ℕ)
-  pub ended : Option (List ℕ)
-
-abbrev pub play_of : Task → ChipBehaviour → ℕ → Ahead → Ahead → Option (List ℕ) → Option (List ℕ) → Play
-play_of chip bench len content rest begun ended =
-    record { chip = chip; bench = bench; len = len; content = content; rest = rest; begun = begun; ended = ended }
+use Rattle.nor_job.specs.Written.{Passed}
+use Rattle.norprog_run.specs.Play.{EndsSo, Play, Run, WasPlayed}
+use Rattle.norprog_run.specs.Refusals.{HasSizedChip, StopsPlaying, RefusesPaged, RefusesPlay}
 
 -- this text was played with this verdict, and what the chip holds then was put
 abbrev pub IsPlayed : Play → Verdict → List ℕ → Type 0
-IsPlayed p verdict text = WasPlayed p.chip p.bench text p.len p.content p.rest p.begun p.ended verdict
-
--- there is such a chip, of the content's size
-abbrev pub HasSizedChip : Play → Type 0
-HasSizedChip p = (m : Parameters) × IsSized p.chip p.bench.page p.len m
+IsPlayed p verdict text = WasPlayed p text verdict
 
 -- why the text that a reader has isn't played
 pub data Unplayed (p : Play) (script rest : Ahead) : Refusal → Type 0 where
   -- there is no such chip: nothing is read
   NoChip : (why : Refusal) → RefusesPaged p.chip p.bench.page p.len why → rest ≡ script → p.rest ≡ p.content → Unplayed p script rest why
   -- the text, which was read to its end or to its first fault, or the content, or the output is at fault
-  Refused : (why : Refusal) → HadText script rest (λ text. RefusesPlay p.chip p.bench text p.len p.content p.rest p.begun p.ended why)
+  Refused : (why : Refusal) → HadText script rest (λ text. RefusesPlay p text why)
       → Unplayed p script rest why
   -- a reading of the script failed
   BadReading : HasSizedChip p → GivesSome script rest → Unplayed p script rest (File file.Script)
@@ -64,8 +43,8 @@ Blames OfScript OfContent OfOutput (Build fault.Write) = OfOutput
 Blames OfScript OfContent OfOutput other = ⊤
 
 -- the text spells steps whose bounded run ends so, and leaves this chip
-abbrev pub PlaysText : Setting → Chip → ℕ → Verdict → Chip → List ℕ → Type 0
-PlaysText s c limit verdict d text = (steps : List Step) × IsScript text steps × EndsSo s c limit steps verdict d
+abbrev pub PlaysText : Run → Verdict → Chip → List ℕ → Type 0
+PlaysText r verdict d text = (steps : List Step) × IsScript text steps × EndsSo r steps verdict d
 
 -- a fault of a reading as a refusal
 abbrev pub refusal_of : ReadFault → Refusal
@@ -81,10 +60,10 @@ RefusesScript before after (Build fault.Memory) = ⊤
 RefusesScript before after other = ⊥
 
 -- why the text of a device isn't played on a chip: it is no script; or the writer took a part of what the chip held after it
-abbrev pub StopsText : Ahead → Ahead → Setting → Chip → ℕ → Option (List ℕ) → Option (List ℕ) → Refusal → Type 0
-StopsText before after s c limit held held' (Build fault.Write) =
-    HadText before after (λ text. (steps : List Step) × IsScript text steps × StopsPlaying s c limit steps held held' (Build fault.Write))
-StopsText before after s c limit held held' why = RefusesScript before after why
+abbrev pub StopsText : Passed → Run → Refusal → Type 0
+StopsText by r (Build fault.Write) =
+    HadText by.ahead by.rest (λ text. (steps : List Step) × IsScript text steps × StopsPlaying r steps by.begun by.ended (Build fault.Write))
+StopsText by r why = RefusesScript by.ahead by.rest why
 
 -- the count of failures of the script's device rises by one exactly where its file is told
 abbrev pub of_script : Refusal → ℕ
@@ -93,4 +72,4 @@ of_script other = 0
 
 abbrev pub CountsOne : {T : Type 0} → ℕ → ℕ → Result T Refusal → Type 0
 CountsOne before after (Ok x) = after ≡ before
-CountsOne before after (Err why) = after ≡ before + of_script why
+CountsOne before after (Err why) = after ≡ raised before (of_script why)

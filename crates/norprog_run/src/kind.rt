@@ -19,7 +19,8 @@ pub(crate) struct Kind {
 
 /// The chip that the inputs describe, whose content has `len` bytes, with a page.
 ///
-/// `Contradiction`, `Sfdp`, `Status`, `ModeImpossible`, `Page` and `ContentSize`, in this order.
+/// `Contradiction`, `Sfdp` or `Sheet`, `Status`, `ModeImpossible`, `Page` and `ContentSize`, in
+/// this order.
 pub(crate) fn kind_of(inputs: &Inputs<'_>, page: Option<u32>, len: u64) -> Result<Kind, Refusal>
     ensures sized { IfOk result (λ kind. IsSized inputs.now page len kind.meaning) }
     ensures start { IfOk result (λ kind. kind.start ≡ start_of inputs.now) }

@@ -8,6 +8,7 @@ ghost use Rattle.nor_script.specs.Stream.{CountsRead, HadText, StopsReader};
 ghost use Rattle.nor_script.specs.View.{step_of};
 ghost use Rattle.norprog_common.specs.Reading.{GivesSome};
 ghost use Rattle.norprog_run.specs.Steps.{Steps, Ends};
+ghost use Rattle.norprog_run.specs.Play.{run_of};
 ghost use Rattle.norprog_run.specs.Stream.{PlaysText};
 
 use crate::verdict::Verdict;
@@ -29,9 +30,8 @@ pub(crate) fn play_text<A: ByteIn>(
     limit: u64,
 ) -> Result<Verdict, ReadFault>
     requires limit { 0 < limit }
-    requires script { A.count script.old < 2 ^ 64 - 1 }
     ensures played { IfOk result (λ verdict. HadText (A.ahead script.old) (A.ahead script.new)
-        (PlaysText chip.old.setting chip.old.chip limit verdict chip.new.chip)) }
+        (PlaysText (run_of chip.old.setting chip.old.chip limit) verdict chip.new.chip)) }
     ensures refused { IfErr result (StopsReader (A.ahead script.old) (A.ahead script.new)) }
     ensures gave { GivesSome (A.ahead script.old) (A.ahead script.new) }
     ensures count { CountsRead (A.count script.old) (A.count script.new) result }
@@ -51,6 +51,7 @@ pub(crate) fn play_text<A: ByteIn>(
 }
 
 /// Plays a step: how the play ends, where the chip goes wrong. `Memory` where a growth is refused.
+#[tactic(auto, using(nor_base::proofs::DeviceLaws::risen_some))]
 fn play_step(
     alloc: Global,
     step: StepView<'_>,

@@ -1,17 +1,18 @@
 //! A script that a reader gives, played as it comes.
 
-ghost use Rattle.std.specs.Prelude.{◌≡◌, ◌≢◌, ◌<◌, ◌-◌, ◌^◌, true, length, IfOk, IfErr};
+ghost use Rattle.std.specs.Prelude.{◌≡◌, ◌≢◌, ◌<◌, true, length, IfOk, IfErr};
+ghost use Rattle.nor_base.specs.Device.{one_more};
 ghost use Rattle.std.specs.Io.KnownBytes.{Appends};
 ghost use Rattle.nor_base.specs.Chip.{Chip as ShownChip, IsPossible, may_page};
-ghost use Rattle.nor_base.specs.Device.{HaveRoom};
-ghost use Rattle.nor_chip.specs.Ready.{ready_chip};
 ghost use Rattle.nor_job.specs.declared.fault.BuildFault.TheVariants.{Write};
 ghost use Rattle.nor_script.specs.Stream.{HadText, IsSpelled};
 ghost use Rattle.norprog_common.specs.Content.{CountsWriter};
 ghost use Rattle.norprog_common.specs.declared.faults.Refusal.TheVariants.{Build};
 ghost use Rattle.norprog_run.specs.Kind.{kind_setting};
 ghost use Rattle.norprog_run.specs.Stream.{Blames, CountsOne, IsPlayed, PlaysText, RefusesScript};
-ghost use Rattle.norprog_run.specs.Stream.{StopsText, Unplayed, play_of, refusal_of as told_of};
+ghost use Rattle.norprog_run.specs.Stream.{StopsText, Unplayed, refusal_of as told_of};
+ghost use Rattle.nor_job.specs.Written.{passed};
+ghost use Rattle.norprog_run.specs.Play.{play_of, ready_run};
 
 use crate::kind::{Kind, kind_of};
 use crate::request::ChipBehaviour;
@@ -39,18 +40,18 @@ pub fn play_stream<A: ByteIn, R: ByteIn, W: ByteOut>(
     len: u64,
     out: &mut W,
 ) -> Result<Verdict, Refusal>
-    requires bench { (0 < bench.limit)
-        × (A.count script.old < 2 ^ 64 - 1)
-        × HaveRoom (R.count content.old) (W.count out.old) }
+    requires bench { 0 < bench.limit }
     ensures played { IfOk result (λ verdict. HadText (A.ahead script.old) (A.ahead script.new)
-        (IsPlayed (play_of inputs.now bench len (R.ahead content.old) (R.ahead content.new)
-        (W.held out.old) (W.held out.new)) verdict)) }
+        (IsPlayed (play_of inputs.now bench len
+        (passed (R.ahead content.old) (R.ahead content.new) (W.held out.old) (W.held out.new)))
+        verdict)) }
     ensures unplayed { IfErr result (Unplayed (play_of inputs.now bench len
-        (R.ahead content.old) (R.ahead content.new) (W.held out.old) (W.held out.new))
+        (passed (R.ahead content.old) (R.ahead content.new) (W.held out.old) (W.held out.new)))
         (A.ahead script.old) (A.ahead script.new)) }
     ensures unwritten { IfErr result (λ why. why ≢ Build Write → out.new ≡ out.old) }
-    ensures blamed { IfErr result (Blames (A.count script.old < A.count script.new)
-        (R.count content.old < R.count content.new) (W.count out.old < W.count out.new)) }
+    ensures blamed { IfErr result (Blames (A.count script.new ≡ one_more (A.count script.old))
+        (R.count content.new ≡ one_more (R.count content.old))
+        (W.count out.new ≡ one_more (W.count out.old))) }
 {
     let kind = kind_of(inputs, bench.page, len)?;
     match read_content(alloc, content, kind.meaning.size) {
@@ -64,7 +65,6 @@ pub fn play_stream<A: ByteIn, R: ByteIn, W: ByteOut>(
 
 /// Reads a script for its fault. `File` of `Script` where its device failed.
 pub(crate) fn check_script<A: ByteIn>(alloc: Global, script: &mut A) -> Result<(), Refusal>
-    requires { A.count script.old < 2 ^ 64 - 1 }
     ensures text { IfOk result (λ _. HadText (A.ahead script.old) (A.ahead script.new) IsSpelled) }
     ensures refused { IfErr result (RefusesScript (A.ahead script.old) (A.ahead script.new)) }
     ensures count { CountsOne (A.count script.old) (A.count script.new) result }
@@ -89,16 +89,13 @@ pub(crate) fn play_on<A: ByteIn, W: ByteOut>(
         × (length array.items ≡ kind.now.meaning.size)
         × IsPossible kind.now.meaning kind.now.start
         × (may_page kind.now.meaning kind.now.page ≡ true) }
-    requires room { (A.count script.old < 2 ^ 64 - 1)
-        × (W.count out.old < 2 ^ 64 - 1) }
     ensures played { IfOk result (λ verdict. (chip : ShownChip)
         × HadText (A.ahead script.old) (A.ahead script.new)
-        (PlaysText (kind_setting kind.now bench)
-        (ready_chip (kind_setting kind.now bench) array.items).chip bench.limit verdict chip)
+        (PlaysText (ready_run (kind_setting kind.now bench) array.items bench.limit) verdict chip)
         × Appends (W.held out.old) (W.held out.new) chip.array) }
-    ensures stopped { IfErr result (StopsText (A.ahead script.old) (A.ahead script.new)
-        (kind_setting kind.now bench) (ready_chip (kind_setting kind.now bench) array.items).chip
-        bench.limit (W.held out.old) (W.held out.new)) }
+    ensures stopped { IfErr result (StopsText (passed (A.ahead script.old) (A.ahead script.new)
+        (W.held out.old) (W.held out.new))
+        (ready_run (kind_setting kind.now bench) array.items bench.limit)) }
     ensures unwritten { IfErr result (λ why. why ≢ Build Write → out.new ≡ out.old) }
     ensures counts { CountsOne (A.count script.old) (A.count script.new) result
         × CountsWriter (W.count out.old) (W.count out.new) result }

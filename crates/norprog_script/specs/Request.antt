@@ -9,8 +9,8 @@ use Rattle.norprog_script.specs.declared.request.ScriptRequest.{ScriptRequest}
 -- something is said of a chip
 abbrev pub says_chip : SetupArgs → Bool
 says_chip given =
-    is_some given.chip.sfdp || (is_some given.chip.uniform || (is_some given.chip.bits || (is_some given.chip.part
-    || (is_some given.status || (given.mode4 || (given.quad || given.erased_only))))))
+    is_some given.chip.sfdp || (is_some given.chip.uniform || (is_some given.chip.sheet || (is_some given.chip.bits
+    || (is_some given.chip.part || (is_some given.status || (given.mode4 || (given.quad || given.erased_only)))))))
 
 -- both files are named; what is said of a chip, if anything, names one and is of its form
 abbrev pub is_well_formed : ScriptArgs → Bool

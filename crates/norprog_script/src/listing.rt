@@ -1,6 +1,6 @@
 //! From the bytes of a listing to those of its script.
 
-ghost use Rattle.std.specs.Prelude.{◌≡◌, ◌≢◌, ◌<◌, ◌-◌, ◌^◌, IfOk, IfErr};
+ghost use Rattle.std.specs.Prelude.{◌≡◌, ◌≢◌, IfOk, IfErr};
 ghost use Rattle.nor_job.specs.declared.fault.BuildFault.TheVariants.{Write};
 ghost use Rattle.norprog_common.specs.Content.{CountsWriter};
 ghost use Rattle.norprog_common.specs.declared.faults.Refusal.TheVariants.{Build};
@@ -26,7 +26,6 @@ pub fn script_listing<W: ByteOut>(
     text: &[u8],
     out: &mut W,
 ) -> Result<Tally, Refusal>
-    requires { W.count out.old < 2 ^ 64 - 1 }
     ensures written { IfOk result
         (WasWritten (listed inputs.now) text.now (W.held out.old) (W.held out.new)) }
     ensures refused { IfErr result

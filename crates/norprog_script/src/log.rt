@@ -1,6 +1,6 @@
 //! From the bytes of a log to those of its script.
 
-ghost use Rattle.std.specs.Prelude.{◌≡◌, ◌≢◌, ◌<◌, ◌-◌, ◌^◌, IfOk, IfErr};
+ghost use Rattle.std.specs.Prelude.{◌≡◌, ◌≢◌, IfOk, IfErr};
 ghost use Rattle.nor_job.specs.declared.fault.BuildFault.TheVariants.{Write};
 ghost use Rattle.norprog_common.specs.Content.{CountsWriter};
 ghost use Rattle.norprog_common.specs.declared.faults.Refusal.TheVariants.{Build};
@@ -25,7 +25,6 @@ pub fn script_log<W: ByteOut>(
     without_identity: bool,
     out: &mut W,
 ) -> Result<Tally, Refusal>
-    requires { W.count out.old < 2 ^ 64 - 1 }
     ensures written { IfOk result
         (WasWritten (foreign without_identity) text.now (W.held out.old) (W.held out.new)) }
     ensures refused { IfErr result

@@ -50,6 +50,7 @@ fn says_chip(given: SetupArgs<'_>) -> bool
     let chip = given.chip;
     chip.sfdp.is_some()
         || chip.uniform.is_some()
+        || chip.sheet.is_some()
         || chip.bits.is_some()
         || chip.part.is_some()
         || given.status.is_some()

@@ -1,6 +1,5 @@
 //! How many steps a log gave.
 
-ghost use Rattle.std.specs.Prelude.{◌≡◌, ◌<◌, ◌-◌, ◌^◌};
 ghost use Rattle.nor_base.specs.Device.{Writes, Counts};
 ghost use Rattle.norprog_script.specs.Tally.{tally_text};
 
@@ -22,7 +21,6 @@ pub struct Tally {
 /// rose by one.
 #[tactic(auto, unfolding(crate::specs::Tally::tally_text))]
 pub fn write_tally<W: ByteOut>(tally: Tally, out: &mut W) -> Result<(), Failed>
-    requires { W.count out.old < 2 ^ 64 - 1 }
     ensures bytes { Writes (W.held out.old) (W.held out.new) result (tally_text tally) }
     ensures count { Counts (W.count out.old) (W.count out.new) result }
 {

@@ -1,6 +1,5 @@
 //! The text of steps that are at hand.
 
-ghost use Rattle.std.specs.Prelude.{◌<◌, ◌-◌, ◌^◌};
 ghost use Rattle.std.specs.List.{AllByRecursion};
 ghost use Rattle.nor_base.specs.Device.{Writes, Counts};
 ghost use Rattle.nor_base.specs.Script.{script_text};
@@ -15,7 +14,6 @@ use nor_script::{begin, finish, write_step};
 /// rose by one.
 pub fn write_script<W: ByteOut>(steps: &[Step], out: &mut W) -> Result<(), Failed>
     requires steps { AllByRecursion IsStep steps.now }
-    requires room { W.count out.old < 2 ^ 64 - 1 }
     ensures bytes { Writes (W.held out.old) (W.held out.new) result (script_text steps.now) }
     ensures count { Counts (W.count out.old) (W.count out.new) result }
 {

@@ -80,6 +80,7 @@ module _ (t : Task) (image : Pairs) (regions : List Region) (m : Parameters) (xs
   cause_of len after (fault.Hex why) is = tt
   cause_of len after (fault.Layout why) is = tt
   cause_of len after (fault.Sfdp why) is = tt
+  cause_of len after (fault.Sheet why) is = tt
   cause_of len after (fault.Status number) is = tt
   cause_of len after fault.ModeImpossible is = tt
   cause_of len after fault.ContentSize is = tt
@@ -104,6 +105,7 @@ not_late t len (fault.Contradiction number) is = refl
 not_late t len (fault.Hex why) is = refl
 not_late t len (fault.Layout why) is = refl
 not_late t len (fault.Sfdp why) is = refl
+not_late t len (fault.Sheet why) is = refl
 not_late t len (fault.Status number) is = refl
 not_late t len fault.ModeImpossible is = refl
 not_late t len fault.ContentSize is = refl

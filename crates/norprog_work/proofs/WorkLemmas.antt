@@ -5,6 +5,7 @@ use Rattle.nor_base.specs.Parameters.{Parameters}
 use Rattle.nor_base.specs.Planned.{ArePlanned, IsWorkable, planned_units}
 use Rattle.nor_hex.specs.Image.{Pairs}
 use Rattle.nor_hex_out.specs.Laws.{WrittenGives}
+use Rattle.nor_job.proofs.ChipLemmas.{one_chip}
 use Rattle.nor_job.specs.declared.fault.BuildFault.{BuildFault}
 use Rattle.nor_job.specs.declared.fault.BuildFault.TheVariants.{Memory}
 use Rattle.nor_job.specs.Causes.{AreAccepted, RefusesInputs}
@@ -13,7 +14,6 @@ use Rattle.nor_job.specs.Task.{Task}
 use Rattle.nor_job.specs.Wanted.{wanted}
 use Rattle.nor_laws.specs.Laws.{TargetGives, TargetKeeps}
 use Rattle.nor_layout.specs.Region.{Region}
-use Rattle.nor_sfdp.specs.declared.fault.SfdpFault.{SfdpFault}
 use Rattle.norprog.specs.Build.{report_of}
 use Rattle.norprog.specs.PlanWindows.{plan_text}
 use Rattle.norprog.specs.declared.report.Report.{Report}
@@ -22,9 +22,6 @@ use Rattle.norprog_work.specs.Narrowed.{narrowed, SpansDifference}
 use Rattle.norprog_work.specs.Refused.{IsCause, RefusesWork, StopsPlanning}
 use Rattle.norprog_work.specs.Work.{BuildsSteps, HasLines, IsGoal, IsWork}
 use Rattle.norprog_work.proofs.NarrowedLemmas.{target_is_wanted}
-
-meaning_same : (r : Result Parameters SfdpFault) (m n : Parameters) → r ≡ Ok m → r ≡ Ok n → m ≡ n
-meaning_same r m n p q = cc
 
 module _ (keeps : TargetKeeps) (gives : TargetGives) (written : WrittenGives) (t : Task) (content old hex : List ℕ) (goal : Goal) (g : IsGoal t old goal.bytes.items goal.ignored)
     (sizes : length content ≡ length old)
@@ -38,7 +35,7 @@ module _ (keeps : TargetKeeps) (gives : TargetGives) (written : WrittenGives) (t
 
   -- the narrowed task has the same chip and target
   same_chip : (image : Pairs) (regions : List Region) (m : Parameters) → AreAccepted (narrowed t hex) (length content) image regions m → m ≡ g.m
-  same_chip image regions m is = meaning_same _ m g.m is.means g.accepted.means
+  same_chip image regions m is = one_chip is.means g.accepted.means
 
   same_target : (image : Pairs) (regions : List Region) (m : Parameters) → AreAccepted (narrowed t hex) (length content) image regions m
       → wanted (narrowed t hex) image regions content ≡ goal.bytes.items

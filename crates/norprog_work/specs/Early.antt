@@ -10,6 +10,7 @@ use Rattle.nor_job.specs.Task.{Task}
 -- a fault shows without the content; one of the chip only where that is known
 abbrev pub shows_early : Bool → BuildFault → Bool
 shows_early known (fault.Sfdp why) = known
+shows_early known (fault.Sheet why) = known
 shows_early known (fault.Status number) = known
 shows_early known fault.ModeImpossible = known
 shows_early known fault.ContentSize = false

@@ -7,8 +7,8 @@ use nor_job::{BuildFault, Inputs, job_of};
 use std::alloc::Global;
 
 /// Refuses a job for the first fault that its inputs have whatever the chip holds, in the order of
-/// [`nor_job::job_of`]: `Contradiction`, `Hex` and `Layout`; `Sfdp`, `Status` and `ModeImpossible`
-/// where the chip is known, which else isn't looked at; `Memory`.
+/// [`nor_job::job_of`]: `Contradiction`, `Hex` and `Layout`; `Sfdp`, `Sheet`, `Status` and
+/// `ModeImpossible` where the chip is known, which else isn't looked at; `Memory`.
 pub fn look(alloc: Global, inputs: &Inputs<'_>, known: bool) -> Result<(), BuildFault>
     ensures sound { IfOk result (λ _. IsSoundEarly known inputs.now) }
     ensures refused { IfErr result (RefusesEarly known inputs.now) }
@@ -25,7 +25,10 @@ fn shows_early(known: bool, why: BuildFault) -> bool
     ensures { result ≡ shows_early known why }
 {
     match why {
-        BuildFault::Sfdp(_) | BuildFault::Status(_) | BuildFault::ModeImpossible => known,
+        BuildFault::Sfdp(_)
+        | BuildFault::Sheet(_)
+        | BuildFault::Status(_)
+        | BuildFault::ModeImpossible => known,
         BuildFault::ContentSize => false,
         _ => true,
     }

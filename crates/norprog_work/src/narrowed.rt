@@ -62,5 +62,6 @@ fn chip_in<'a>(inputs: &'a Inputs<'_>) -> Source<'a>
     match inputs.chip {
         Source::Sfdp { bytes, bits } => Source::Sfdp { bytes, bits },
         Source::Uniform(size) => Source::Uniform(size),
+        Source::Sheet(text) => Source::Sheet(text),
     }
 }

@@ -258,6 +258,7 @@ fn no_texts(alloc: Global) -> FlashArgs<'static> {
         chip: ChipArgs {
             sfdp: None,
             uniform: None,
+            sheet: None,
             bits: None,
             part: None,
         },

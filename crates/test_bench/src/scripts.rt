@@ -173,6 +173,7 @@ fn given(row: &Row) -> PlayArgs<'static> {
     let chip = ChipArgs {
         sfdp: row.tables.then_some("tables"),
         uniform: (!row.tables).then_some("8192"),
+        sheet: None,
         bits: None,
         part: row.part,
     };

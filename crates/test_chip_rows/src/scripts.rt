@@ -2,7 +2,7 @@
 
 use crate::steps::steps_of;
 use crate::words::{end_with, handed};
-use nor_base::{ByteOut, IntoWrite, Step, is_step};
+use nor_base::{IntoWrite, Step, is_step};
 use nor_script::{ScriptFault, begin, finish, read, write_step};
 use std::alloc::{AllocError, Global};
 use std::fmt::Write;
@@ -130,9 +130,9 @@ pub(crate) fn write_all(alloc: Global, row: &Row<'_>, out: &mut String) -> io::R
 /// Writes steps and the number of the end line, and says whether each step has a line and all was
 /// written.
 fn write_script(steps: &[Step], count: u64, writer: &mut IntoWrite<Vec<u8>>) -> bool {
-    let mut well = writer.failures() == 0 && begin(writer).is_ok();
+    let mut well = begin(writer).is_ok();
     for step in steps {
-        well = well && is_step(step) && writer.failures() == 0 && write_step(step, writer).is_ok();
+        well = well && is_step(step) && write_step(step, writer).is_ok();
     }
-    well && writer.failures() == 0 && finish(count, writer).is_ok()
+    well && finish(count, writer).is_ok()
 }

@@ -32,9 +32,10 @@ impl<'a> Port for Unplugged<'a> {
 
     ghost asked = { λ _ _. ⊤ };
 
+    #[tactic(auto, unfolding(nor_base::specs::Device::one_more))]
     fn transact(&mut self, clocks: &[u8], out: &mut [u8]) -> Result<(), PortFault> {
         if self.left == 0 {
-            self.failed += 1;
+            self.failed = self.failed.saturating_add(1);
             return Err(PortFault::Failed);
         }
         self.left -= 1;
@@ -102,11 +103,7 @@ fn until_fault<P: Port>(
     for (done, (clocks, gives)) in rows.iter().enumerate() {
         let mut buffer = [0xEEu8; 2];
         let (out, _) = buffer.split_at_mut(sampled(clocks).min(2));
-        holds(
-            rt,
-            "room",
-            out.len() == sampled(clocks) && port.failures() < u64::MAX,
-        );
+        holds(rt, "room", out.len() == sampled(clocks));
         if let Err(fault) = port.transact(clocks, out) {
             holds(rt, "nothing", buffer == [0xEE; 2]);
             return (done, Some(fault));

@@ -119,10 +119,6 @@ at_spelled m mode4 by is op op4 dummies a bytes true h near far =
 at_spelled m mode4 by is op op4 dummies a bytes false h near far =
     subst (λ t. CanBeSpelled m mode4 (at_by t (legacy_width by) is op op4 dummies a bytes)) (sym h) (near h)
 
-not_parts : (a b : Bool) → a && not b ≡ true → b ≡ false
-not_parts true b h = not-true b h
-not_parts false b h = cc
-
 -- the program of some bytes
 programming_by : (m : Parameters) (start : Start) (by : Strategy) (mode4 : Bool) (p : Program) (quad quad3 : Bool) → start.quad && m.quad4 ≡ quad
     → start.quad && (m.quad3 && not (takes_dedicated by p.at)) ≡ quad3 → Drives m by mode4 → IsWithin by p.at → 0 < length p.bytes → are_bytes p.bytes ≡ true

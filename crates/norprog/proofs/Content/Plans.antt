@@ -7,7 +7,7 @@ use Rattle.std.proofs.lemmas.Bool.{cases_lt}
 use Rattle.std.proofs.lemmas.Grind.{flat_map-append}
 use Rattle.std.proofs.lemmas.List.{length-take-le, take_all, take-append-drop, append_assoc}
 use Rattle.nor_base.specs.declared.meaning.Strategy.{Strategy}
-use Rattle.nor_base.specs.Device.{Ahead, Cuts, Gives}
+use Rattle.nor_base.specs.Device.{Ahead, Cuts, Gives, raised}
 use Rattle.nor_base.specs.Need.{is_due}
 use Rattle.nor_base.specs.Parameters.{Parameters}
 use Rattle.nor_base.specs.Script.{closed}
@@ -102,12 +102,12 @@ planned_part job w v at n a b part want told lines size given bytes target meani
 }
 
 -- neither comes of a writer
-pub unread_count : (a b : Ahead) (window : List ℕ) (why : BuildFault) → FillsWindow a b (Err why) window → 0 ≡ 0 + of_writer why
+pub unread_count : (a b : Ahead) (window : List ℕ) (why : BuildFault) → FillsWindow a b (Err why) window → 0 ≡ raised 0 (of_writer why)
 unread_count a b window fault.ContentShort is = refl
 unread_count a b window fault.Read is = refl
 unread_count a b window other is = absurd is.3
 
-pub unplanned_count : (m : Parameters) (by : Strategy) (at : ℕ) (have want : List ℕ) (why : StepsFault) → RefusesLines m by at have want why → 0 ≡ 0 + of_writer (lifted_steps why)
+pub unplanned_count : (m : Parameters) (by : Strategy) (at : ℕ) (have want : List ℕ) (why : StepsFault) → RefusesLines m by at have want why → 0 ≡ raised 0 (of_writer (lifted_steps why))
 unplanned_count m by at have want (steps.Plan why) is = refl
 unplanned_count m by at have want steps.Memory is = refl
 unplanned_count m by at have want steps.Write is = absurd is

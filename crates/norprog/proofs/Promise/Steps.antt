@@ -1,5 +1,5 @@
 -- The steps of planned instructions: they spell them, and a script may have them.
-use Rattle.std.proofs.Common.{◌≡◌, ℕ, zero, suc, ◌+◌, ◌*◌, ◌/◌, ◌%◌, ◌^◌, ◌<◌, ◌&&◌, not, Bool, true, false, if◌then◌else◌, List, [], ◌∷◌, ◌++◌, length, refl, sym, ap, subst, arith}
+use Rattle.std.proofs.Common.{◌≡◌, ℕ, zero, suc, ◌+◌, ◌*◌, ◌/◌, ◌%◌, ◌^◌, ◌<◌, ◌&&◌, not, Bool, true, false, if◌then◌else◌, List, [], ◌∷◌, ◌++◌, length, refl, ap, arith}
 use Rattle.std.specs.Prelude.{⊤, flat_map, is_some, replicate}
 use Rattle.std.specs.List.{list_all, AllByRecursion}
 use Rattle.std.proofs.lemmas.Bool.{and_parts, agree_below_at}
@@ -53,9 +53,6 @@ plain_reading : (m : Parameters) (start : Start) (by : Strategy) (p : Program) �
 plain_reading m start by p are =
     plain_if (start.quad && m.quad_read4) _ _ (record { poll = tt; bytes = are })
     (plain_if (start.quad && (is_some m.quad_read && not (takes_dedicated by p.at))) _ _ (record { poll = tt; bytes = are }) (record { poll = tt; bytes = are }))
-
-poll_plain : (i : Instr) → clocks_of i ≡ poll_clocks → i.what ≡ what.Status → are_bytes i.bytes ≡ true → IsPlain i
-poll_plain i clocks is are = record { poll = subst (λ (w : What). IsPollBy w i) (sym is) clocks; bytes = are }
 
 plain_op : (m : Parameters) (start : Start) (by : Strategy) (op : Op) → AreOpBytes op → AllByRecursion IsPlain (instructions m start by op)
 unfolding bits

@@ -15,4 +15,4 @@ pub returns-in-Err-clause-ends : goal.returns-in-Err-clause-ends
 returns-in-Err-clause-ends g c =
     CutOff c.args.text.now refl
     (subst (λ (bytes : List ℕ). Cuts (g.O.ByteOut.held c.args.out.now) (g.O.ByteOut.held c.put_all.new.writer) bytes) c.as_bytes.ensures.value
-    c.in-Err.ensures.bytes) (omega (arith, c.in-Err.ensures.count))
+    c.in-Err.ensures.bytes) c.in-Err.ensures.count

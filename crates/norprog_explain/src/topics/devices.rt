@@ -7,10 +7,10 @@ use super::Topic;
 
 /// What is told of a chip of another size, by either words.
 const UNLIKE_SIZE: &str =
-    "The size of --uniform isn't the one that the chip's own tables say. Leave\n\
-     --uniform out: then its tables count. Or correct the size. Where it is meant\n\
-     so, as for the first part of a larger chip, add --any-size. The content wasn't\n\
-     read, and the chip is as it was.";
+    "The size of --uniform or of the sheet isn't the one that the chip's own tables\n\
+     say. Leave that option out: then its tables count. Or correct the size. Where it\n\
+     is meant so, as for the first part of a larger chip, add --any-size. The content\n\
+     wasn't read, and the chip is as it was.";
 
 pub(crate) const TOPICS: &[Topic] = &[
     (

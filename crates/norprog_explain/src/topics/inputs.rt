@@ -9,10 +9,10 @@ pub(crate) const TOPICS: &[Topic] = &[
     (
         "usage",
         "A value isn't of its form, or options don't go together. Give exactly one of\n\
-         --sfdp and --uniform, and no --bits with --uniform. Write numbers only in\n\
-         digits, and --status as six hexadecimal digits. The command's --help has each\n\
-         form. Of explain: it has nothing on these words; without words it lists what\n\
-         you can ask.",
+         --sfdp, --uniform and --sheet, and --bits only with --sfdp. Write numbers only\n\
+         in digits, and --status as six hexadecimal digits. The command's --help has\n\
+         each form. Of explain: it has nothing on these words; without words it lists\n\
+         what you can ask.",
     ),
     (
         "file hex",
@@ -31,6 +31,12 @@ pub(crate) const TOPICS: &[Topic] = &[
         "norprog can't read the file of SFDP bytes: it isn't there, you may not read it,\n\
          it is a folder, reading it failed, or it has more than 2^36 bytes. Check its\n\
          name and its rights. The output is as it was.",
+    ),
+    (
+        "file sheet",
+        "norprog can't read the sheet: it isn't there, you may not read it, it is a\n\
+         folder, reading it failed, or it has more than 2^36 bytes. Check its name and\n\
+         its rights. The output is as it was.",
     ),
     (
         "file content",
@@ -126,8 +132,8 @@ pub(crate) const TOPICS: &[Topic] = &[
     ),
     (
         "contradiction 4",
-        "The command gives a chip of a bare size (--uniform) and --part w25q256jv. Give\n\
-         the chip's SFDP bytes with --sfdp, or leave --part out.",
+        "The command gives a chip by --uniform or --sheet, and --part w25q256jv. Give the\n\
+         chip's SFDP bytes with --sfdp, or leave --part out.",
     ),
     (
         "contradiction 5",

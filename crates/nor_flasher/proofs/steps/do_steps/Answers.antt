@@ -49,7 +49,6 @@ loop-rest-preserved g c =
       );
       reads = c.in_default.ensures.counts.0 ∙ c.loop-rest.invariant.reads;
       writes = c.in_default.ensures.counts.1 ∙ c.loop-rest.invariant.writes;
-      told = c.row_done-in-loop-rest.ensures.room;
       come = row_shown c.args.steps.now does.0 c.loop-rest.rest.now row later does.1 two _ _ _ _ _ _ _ _ c.loop-rest.invariant.come
           c.row_done-in-loop-rest.ensures.moves;
     }
@@ -59,7 +58,6 @@ loop-rest-init g c = record {
   does = ([], refl, (refl, refl));
   reads = refl;
   writes = refl;
-  told = λ works. c.requires.told;
   come = none_so_far c.args.steps.now _ _ _ c.of-far.ensures.few c.of-far.ensures.none;
 }
 

@@ -1,5 +1,6 @@
 -- All parts, the end of the reader and the end record; or what is missing of these.
-use Rattle.std.proofs.Common.{◌<◌, arith, inl, inr, subst}
+use Rattle.std.proofs.Common.{◌<◌, arith, inl, inr, subst, ◌≡◌, ◌∙◌, ap}
+use Rattle.nor_base.specs.Device.{one_more}
 use Rattle.nor_base.proofs.FaultLaws.{handed_on}
 use Rattle.nor_hex_out.specs.Converted.{IsUnended, Unallotted, Unwritable}
 use Rattle.nor_hex_out.proofs.ConvertLemmas.{all_written, end_cut, none_put, none_read, still_more, stops_wider, unreadable}
@@ -26,7 +27,7 @@ returns-in_err-only_end-clause-stopped g c =
     (unreadable _ (
       c.in_err-only_end.ensures.more.0,
       elim c.in_err-only_end.ensures.more.1 [
-        | inl failed ↦ inl (subst (λ k. k < g.R.ByteIn.count c.only_end.new.bin) before.counts.0 failed)
+        | inl failed ↦ inl (subst (λ k. g.R.ByteIn.count c.only_end.new.bin ≡ one_more k) before.counts.0 failed)
         | inr more ↦ inr (inr (still_more _ _ 0 _ _ (g.R.ByteIn.ahead c.only_end.new.bin) _ _ (g.W.ByteOut.held c.args.out.now) before.read more))
       ],
     ))
@@ -42,7 +43,7 @@ returns-in-Ok-write_end-clause-converted g c =
     all_written _ _ 0 _ _ _ _ _ _ c.in_ok-write_parts.ensures.read c.in_ok-only_end.ensures.ended.0 c.in_ok-only_end.ensures.ended.1 c.in-Ok-write_end.ensures.bytes
 
 pub returns-clause-stopped : goal.returns-clause-stopped
-returns-clause-stopped g c = Unwritable (omega (arith, c.in_ok-write_parts.ensures.counts, c.in-Err.ensures.count))
+returns-clause-stopped g c = Unwritable (c.in-Err.ensures.count ∙ ap one_more c.in_ok-write_parts.ensures.counts.1)
 
 pub returns-clause-unended : goal.returns-clause-unended
 returns-clause-unended g c =

@@ -9,4 +9,4 @@ pub returns-in_err-read_part-clause-stopped : goal.returns-in_err-read_part-clau
 returns-in_err-read_part-clause-stopped g c = handed_on _ _ _ c.from_residual.ensures.1 (unreadable _ c.in_err-read_part.ensures.short)
 
 pub returns-in-Err-clause-stopped : goal.returns-in-Err-clause-stopped
-returns-in-Err-clause-stopped g c = Unwritable (omega (arith, c.in-Err.ensures.count))
+returns-in-Err-clause-stopped g c = Unwritable c.in-Err.ensures.count

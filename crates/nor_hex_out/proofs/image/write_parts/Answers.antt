@@ -1,5 +1,6 @@
 -- One part more, and one that isn't read or written.
 use Rattle.std.proofs.Common.{◌≡◌, ◌∙◌, ◌⊎◌, ◌+◌, ◌-◌, ◌<◌, ◌≤◌, length-append, length-drop, drop, IfErr, inl, inr, refl, subst, arith}
+use Rattle.nor_base.specs.Device.{one_more}
 use Rattle.nor_hex_out.specs.Converted.{IsShort, IsUnended, Stops, WasRead}
 use Rattle.nor_hex_out.proofs.ConvertLemmas.{none_read, more_read, part_cut, still_short, stops_wider, next_seam, of_length}
 use Rattle.nor_base.proofs.FaultLaws.{answered}
@@ -26,14 +27,14 @@ returns-in_err-write_part-clause-stopped g c =
     let long = of_length c.loop-done.buffer (last - done) (omega (arith, most, c.loop-done.invariant.buffer)) in
     let reader = c.loop-done.invariant.reader in
     let writer = c.loop-done.invariant.writer in
-    answered _ (λ r. IfErr r (Stops ((g.R.ByteIn.count c.args.bin.now < g.R.ByteIn.count c.write_part.new.bin) ⊎ IsShort c.args.len (g.R.ByteIn.ahead c.args.bin.now)) (g.W.ByteOut.count c.args.out.now < g.W.ByteOut.count c.write_part.new.out))) _
+    answered _ (λ r. IfErr r (Stops ((g.R.ByteIn.count c.write_part.new.bin ≡ one_more (g.R.ByteIn.count c.args.bin.now)) ⊎ IsShort c.args.len (g.R.ByteIn.ahead c.args.bin.now)) (g.W.ByteOut.count c.write_part.new.out ≡ one_more (g.W.ByteOut.count c.args.out.now)))) _
     (stops_wider c.in_err-write_part.field-0.0
-    (λ (w : (g.R.ByteIn.count c.loop-done.bin < g.R.ByteIn.count c.write_part.new.bin) ⊎ IsShort _ (g.R.ByteIn.ahead c.loop-done.bin)).
+    (λ (w : (g.R.ByteIn.count c.write_part.new.bin ≡ one_more (g.R.ByteIn.count c.loop-done.bin)) ⊎ IsShort _ (g.R.ByteIn.ahead c.loop-done.bin)).
     elim w [
-      | inl rose ↦ inl (subst (λ k. k < g.R.ByteIn.count c.write_part.new.bin) reader rose)
+      | inl rose ↦ inl (subst (λ k. g.R.ByteIn.count c.write_part.new.bin ≡ one_more k) reader rose)
       | inr short ↦ inr (still_short at done (last - done) (g.R.ByteIn.ahead c.args.bin.now) (g.R.ByteIn.ahead c.loop-done.bin) (g.R.ByteIn.ahead c.write_part.new.bin) (g.W.ByteOut.held c.args.out.now) (g.W.ByteOut.held c.loop-done.out) (g.W.ByteOut.held c.write_part.new.out) c.loop-done.invariant.read c.args.len within (subst (λ n. IsShort n (g.R.ByteIn.ahead c.loop-done.bin)) long short))
     ])
-    (λ rose. subst (λ k. k < g.W.ByteOut.count c.write_part.new.out) writer rose)
+    (λ rose. subst (λ k. g.W.ByteOut.count c.write_part.new.out ≡ one_more k) writer rose)
     c.in_err-write_part.ensures.stopped)
     c.from_residual.ensures.1
 

@@ -1,5 +1,5 @@
 -- Each stage's refusal.
-use Rattle.std.proofs.Common.{sym, ap, subst}
+use Rattle.std.proofs.Common.{◌≡◌, false, true, sym, ap, subst}
 use Rattle.nor_hex.specs.Faults.{IsFault, IsImage}
 use Rattle.nor_job.specs.Lifted.{lifted_hex}
 use Rattle.nor_job.specs.Task.{Task}
@@ -45,3 +45,8 @@ returns-clause-job c =
 pub returns-in_err-chosen-clause-refused : goal.returns-in_err-chosen-clause-refused
 returns-in_err-chosen-clause-refused c =
     handed_on _ _ _ c.from_residual-in_err-chosen.ensures.1 (c.in_err-chosen.ensures.refused c.args.len)
+
+pub returns-in_err-meaning-clause-only_memory : goal.returns-in_err-meaning-clause-only_memory
+returns-in_err-meaning-clause-only_memory c = λ image regions m accepted.
+    let both : false ≡ true = c.in_err-meaning.ensures.accepted image regions m accepted in
+    absurd (cc)

@@ -11,8 +11,8 @@ use Rattle.nor_listing.specs.Listing.{send_words}
 use Rattle.nor_listing.proofs.SeenLemmas.{has_eight}
 use Rattle.nor_listing.proofs.sent.put_sent.Goals as goal
 
-pub put_seen-requires-clause-opcode : goal.put_seen-requires-clause-opcode
-put_seen-requires-clause-opcode g c = has_eight c.args.meaning.now c.args.mode4 c.args.clocks.now _ c.in-Some.ensures
+pub put_seen-requires : goal.put_seen-requires
+put_seen-requires g c = record { opcode = has_eight c.args.meaning.now c.args.mode4 c.args.clocks.now _ c.in-Some.ensures }
 
 pub returns-in_err-put_seen-in-Some-clause-bytes : goal.returns-in_err-put_seen-in-Some-clause-bytes
 returns-in_err-put_seen-in-Some-clause-bytes g c =

@@ -8,8 +8,8 @@ use Rattle.nor_decode.proofs.DecodedLemmas.{decoded, not_decoded}
 use Rattle.nor_listing.proofs.SeenLemmas.{has_eight, verified_by}
 use Rattle.nor_listing.proofs.verified.put_verified.Goals as goal
 
-pub put_seen-requires-clause-opcode : goal.put_seen-requires-clause-opcode
-put_seen-requires-clause-opcode g c = has_eight c.args.meaning.now c.args.mode4 c.args.clocks.now _ c.in-Some.ensures
+pub put_seen-requires : goal.put_seen-requires
+put_seen-requires g c = record { opcode = has_eight c.args.meaning.now c.args.mode4 c.args.clocks.now _ c.in-Some.ensures }
 
 pub returns-in-Some-clause-bytes : goal.returns-in-Some-clause-bytes
 returns-in-Some-clause-bytes g c =

@@ -30,8 +30,8 @@ returns-then-is_err-clause-done g c =
     halts_cut _ _ _ c.args.limits.now c.args.turns c.if-polls.reads c.args.row.now c.args.front.now tail.polls _ c.args.requests.items (status_requests c.if-polls.reads)
     c.requires.row tail.whole tail.few tail.within c.requires.front.sent tail.asked tail.fits cut refl refl
 
-pub take_answers-requires-clause-few : goal.take_answers-requires-clause-few
-take_answers-requires-clause-few g c = sent_few c.args.limits.now c.args.front.now c.args.requests.items c.requires.front.sent
+pub take_answers-requires : goal.take_answers-requires
+take_answers-requires g c = record { few = sent_few c.args.limits.now c.args.front.now c.args.requests.items c.requires.front.sent }
 
 pub returns-in_err-take_answers-clause-done : goal.returns-in_err-take_answers-clause-done
 returns-in_err-take_answers-clause-done g c =

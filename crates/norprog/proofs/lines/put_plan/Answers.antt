@@ -1,15 +1,16 @@
 -- The lines of a window follow those before.
 use Rattle.std.proofs.Common.{◌≡◌, ◌∙◌, ◌++◌, List, option_map, sym, ap, subst}
 use Rattle.std.specs.Io.KnownBytes.{Appends}
-use Rattle.nor_base.specs.Device.{Ahead, Cuts}
+use Rattle.nor_job.specs.Written.{CountsReader, CountsWriter, of_reader, of_writer}
+use Rattle.nor_base.specs.Device.{Ahead, Cuts, raised}
 use Rattle.nor_job.specs.declared.fault.BuildFault.TheVariants as fault
 use Rattle.nor_job.specs.declared.job.Job.{Job}
 use Rattle.nor_plan_read.specs.Lines.{lines_text}
 use Rattle.nor_plan_read.specs.declared.line.PlanLine.{PlanLine}
 use Rattle.norprog.specs.Planner.{Planning, IsReady, HasTold, GoesOn}
 use Rattle.norprog.specs.Windows.{IsCutPlan}
-use Rattle.nor_base.proofs.DeviceLaws.{Appends-append}
-use Rattle.nor_base.proofs.FaultLaws.{handed_on}
+use Rattle.nor_base.proofs.DeviceLaws.{Appends-append, never_raised}
+use Rattle.nor_base.proofs.FaultLaws.{handed_on, answered}
 use Rattle.norprog.proofs.Content.Plans.{ends_on, lines_two, written_cut}
 use Rattle.norprog.proofs.lines.put_plan.Goals as goal
 
@@ -75,3 +76,14 @@ returns-clause-put g c =
             so.2,
           );
     }
+
+-- no fault of a window is the writer's
+pub returns-in_err-lines-clause-counts : goal.returns-in_err-lines-clause-counts
+returns-in_err-lines-clause-counts g c =
+    let v = c.loop-lines.invariant in
+    let why = c.in_err-lines.field-0.0 in
+    let first = g.W.ByteOut.count c.args.out.now in
+    let none = never_raised (of_writer why) c.in_err-lines.ensures.counts.1 in
+    answered _ (λ r. CountsReader (g.R.ByteIn.count c.args.content.now) (g.R.ByteIn.count c.next_window.new.content) r × CountsWriter first (g.W.ByteOut.count c.loop-lines.out) r) why
+    (c.in_err-lines.ensures.counts.0 ∙ ap (λ n. raised n (of_reader why)) v.reads, v.writes ∙ sym (ap (raised first) none))
+    c.from_residual.ensures.1

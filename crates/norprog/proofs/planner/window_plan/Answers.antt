@@ -1,5 +1,6 @@
 -- A window that was read, and its lines.
 use Rattle.std.proofs.Common.{◌≡◌, ◌+◌, List, ℕ, rules, length, subst, sym}
+use Rattle.nor_base.specs.Device.{raised}
 use Rattle.nor_job.specs.Written.{AreBytes, CountsWriter, of_writer}
 use Rattle.nor_outline.specs.Outline.{RefusesLines}
 use Rattle.nor_base.proofs.FaultLaws.{answered, handed_on}
@@ -37,5 +38,5 @@ returns-in_err-fill_window-clause-counts g c = (
 pub returns-in-Err-clause-counts : goal.returns-in-Err-clause-counts
 returns-in-Err-clause-counts g c = (
   search rules,
-  subst (λ why. 0 ≡ 0 + of_writer why) (sym c.lifted.ensures) (unplanned_count _ _ _ _ _ c.in-Err.fault c.in-Err.ensures.stopped),
+  subst (λ why. 0 ≡ raised 0 (of_writer why)) (sym c.lifted.ensures) (unplanned_count _ _ _ _ _ c.in-Err.fault c.in-Err.ensures.stopped),
 )

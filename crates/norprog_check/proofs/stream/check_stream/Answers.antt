@@ -1,5 +1,6 @@
 -- The verdict is that of the steps that the device told, and the first cause is told.
 use Rattle.std.proofs.Common.{◌∙◌, ap, sym, subst, length}
+use Rattle.norprog_check.specs.Checked.{checking}
 use Rattle.nor_base.proofs.FaultLaws.{handed_on}
 use Rattle.norprog_check.specs.declared.fault.CheckStop.TheVariants.{Build}
 use Rattle.norprog_check.specs.declared.fault.StreamStop.TheVariants.{Check}
@@ -21,7 +22,7 @@ judge-requires-clause-sizes g c =
 pub returns-in_err-judge-in-Ok-clause-unchecked : goal.returns-in_err-judge-in-Ok-clause-unchecked
 returns-in_err-judge-in-Ok-clause-unchecked g c =
     handed_on _ _ (lifted_reading c.in_err-judge-in-Ok.field-0.0) c.from_residual-in_err-judge-in-Ok.ensures.1
-    (unread Finding (work c.args.inputs.now c.args.len _ _ _ _) _ _ _ _ (taken_of c.args.inputs.now c.args.len c.in_ok-job.job c.in_ok-job.ensures.job)
+    (unread Finding (work (checking c.args.inputs.now c.args.len _ _) _ _) _ _ _ _ (taken_of c.args.inputs.now c.args.len c.in_ok-job.job c.in_ok-job.ensures.job)
     c.in_err-judge-in-Ok.ensures.stopped c.in_err-judge-in-Ok.ensures.count)
 
 pub returns-in-Ok-clause-found : goal.returns-in-Ok-clause-found
@@ -39,11 +40,11 @@ returns-in-Ok-clause-found g c =
 pub returns-in_err-look_through-in-Err-clause-unchecked : goal.returns-in_err-look_through-in-Err-clause-unchecked
 returns-in_err-look_through-in-Err-clause-unchecked g c =
     handed_on _ _ (lifted_reading c.in_err-look_through-in-Err.field-0.0) c.from_residual-in_err-look_through-in-Err.ensures.1
-    (unread (Unit {0}) (work c.args.inputs.now c.args.len _ _ _ _) _ _ _ _ (taken_of c.args.inputs.now c.args.len c.in_ok-job.job c.in_ok-job.ensures.job)
+    (unread (Unit {0}) (work (checking c.args.inputs.now c.args.len _ _) _ _) _ _ _ _ (taken_of c.args.inputs.now c.args.len c.in_ok-job.job c.in_ok-job.ensures.job)
     c.in_err-look_through-in-Err.ensures.stopped c.in_err-look_through-in-Err.ensures.count)
 
 pub returns-clause-unchecked : goal.returns-clause-unchecked
 returns-clause-unchecked g c =
     subst (Unchecked _ _ _) (sym c.from.ensures)
-    (unheld (work c.args.inputs.now c.args.len _ _ _ _) c.in_ok-job.job _ _ _ _ c.in_ok-job.ensures.job c.in_ok-look_through-in-Err.ensures.read
+    (unheld (work (checking c.args.inputs.now c.args.len _ _) _ _) c.in_ok-job.job _ _ _ _ c.in_ok-job.ensures.job c.in_ok-look_through-in-Err.ensures.read
     c.in-Err.ensures.stopped c.in-Err.ensures.count)

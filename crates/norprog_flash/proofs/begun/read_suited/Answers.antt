@@ -21,4 +21,4 @@ returns-in_err-refuse_unruled-clause-stops g c =
 pub returns-clause-way : goal.returns-clause-way
 returns-clause-way g c =
     way_there c.args.limits.now.asked _ _ c.args.job.now c.in_ok-reading.reading c.in_ok-reading.ensures.read c.said_start.result c.said_start.ensures
-    c.requires.asked.0 c.first_by-by.result c.first_by-by.ensures
+    c.requires.asked c.first_by-by.result c.first_by-by.ensures

@@ -6,14 +6,15 @@ use Rattle.norprog_flash.specs.Worked.{Cannot, Goes}
 use Rattle.norprog_flash.proofs.PlannedLemmas.{steps_doable}
 use Rattle.norprog_flash.proofs.device.work_on.Goals as goal
 
-pub returns-in-Err-clause-goes : goal.returns-in-Err-clause-goes
-returns-in-Err-clause-goes g c =
-    Cannot c.in-Err.step (subst (λ (xs : List Step). IsFirstNotCarried c.args.limits.now xs c.in-Err.step) c.as_slice.ensures.value c.in-Err.ensures) refl
+pub returns-in-Err : goal.returns-in-Err
+returns-in-Err g c = record { goes = Cannot c.in-Err.step (subst (λ (xs : List Step). IsFirstNotCarried c.args.limits.now xs c.in-Err.step) c.as_slice.ensures.value c.in-Err.ensures) refl }
 
-pub returns-clause-goes : goal.returns-clause-goes
-returns-clause-goes g c =
-    Goes c.args.held.now.by c.do_work.result c.requires.way
-    (subst (λ (xs : List Step). AreCarried c.args.limits.now xs) c.as_slice.ensures.value c.in_default.ensures) c.do_work.ensures.ends
+pub returns : goal.returns
+returns g c = record {
+  goes =
+      Goes c.args.held.now.by c.do_work.result c.requires.way
+      (subst (λ (xs : List Step). AreCarried c.args.limits.now xs) c.as_slice.ensures.value c.in_default.ensures) c.do_work.ensures.ends;
+}
 
 pub do_work-requires-clause-form : goal.do_work-requires-clause-form
 do_work-requires-clause-form g c =

@@ -17,7 +17,7 @@ returns-in-Ok-clause-said g c =
 -- that the line can't be printed came after it
 pub returns-in-Err-clause-said : goal.returns-in-Err-clause-said
 returns-in-Err-clause-said g c =
-    Cut_off (c.refuse_lines.ensures.status ∙ ap cut_status c.status_of-in-Err.ensures) c.in-Err.ensures.bytes (omega (arith, c.in-Err.ensures.count))
+    Cut_off (c.refuse_lines.ensures.status ∙ ap cut_status c.status_of-in-Err.ensures) c.in-Err.ensures.bytes c.in-Err.ensures.count
     (told_then g.E.ByteOut.held g.E.ByteOut.count c.args.err.now c.write_state-told.new.err c.refuse_lines.new.err c.write_state-told.result
     (state_told c.args.ending c.args.given.now) (printed (Build Write)) c.write_state-told.ensures.bytes c.write_state-told.ensures.count
     c.refuse_lines.ensures.told c.refuse_lines.ensures.lost)

@@ -4,7 +4,7 @@ use Rattle.nor_base.specs.declared.step.Step.{Step}
 use Rattle.nor_probe.specs.declared.difference.Mismatch.{Mismatch}
 use Rattle.nor_serprog.specs.Done.{HasDoneAll}
 use Rattle.nor_serprog.specs.Row.{HasHalted}
-use Rattle.norprog_device.specs.Wire.{Wire, wire}
+use Rattle.norprog_common.specs.Wire.{Wire, wire}
 use Rattle.norprog_flash.specs.declared.ending.Ending.TheVariants.{Done, Failed}
 use Rattle.norprog_flash.specs.declared.work.Back.{Back}
 use Rattle.norprog_flash.specs.Worked.{FailedAt, HasWorked, IsFailureAt, MissedIt, ReadsBack, Session, Worked, WorksOut, back_of, session}
@@ -21,41 +21,47 @@ worked s before done after back p result steps goal these bytes all gives = reco
   gives = subst (λ (xs : List ℕ). ReadsBack s.limits.asked done after result back xs) bytes gives;
 }
 
-pub returns-in-Err-clause-ends : goal.returns-in-Err-clause-ends
-returns-in-Err-clause-ends g c =
-    let steps = c.as_slice-steps.ensures.value in
-    let halt = c.in-Err.halt in
-    FailedAt halt.step c.failure_at-why.result (record {
-      halt = halt;
-      halted = subst (λ (xs : List Step). HasHalted (g.W.ByteOut.held c.args.to.now) (g.W.ByteOut.held c.do_steps.new.to)
-          (g.R.ByteIn.ahead c.args.from.now) (g.R.ByteIn.ahead c.do_steps.new.from) c.args.limits.now c.args.job.now.ask.turns xs halt) steps c.in-Err.ensures.done;
-      at = refl;
-      failed = subst (λ (xs : List Step). IsFailureAt c.args.held.now.reading.meaning xs halt c.failure_at-why.result) steps c.failure_at-why.ensures;
-    })
+pub returns-in-Err : goal.returns-in-Err
+returns-in-Err g c = record {
+  ends =
+      let steps = c.as_slice-steps.ensures.value in
+      let halt = c.in-Err.halt in
+      FailedAt halt.step c.failure_at-why.result (record {
+        halt = halt;
+        halted = subst (λ (xs : List Step). HasHalted (g.W.ByteOut.held c.args.to.now) (g.W.ByteOut.held c.do_steps.new.to)
+            (g.R.ByteIn.ahead c.args.from.now) (g.R.ByteIn.ahead c.do_steps.new.from) c.args.limits.now c.args.job.now.ask.turns xs halt) steps c.in-Err.ensures.done;
+        at = refl;
+        failed = subst (λ (xs : List Step). IsFailureAt c.args.held.now.reading.meaning xs halt c.failure_at-why.result) steps c.failure_at-why.ensures;
+      });
+}
 
-pub returns-in-Ok-clause-ends : goal.returns-in-Ok-clause-ends
-returns-in-Ok-clause-ends g c =
-    let s = session c.args.job.now c.args.limits.now c.args.held.now.reading in
-    let before = wire (g.W.ByteOut.held c.args.to.now) (g.R.ByteIn.ahead c.args.from.now) in
-    let done = wire (g.W.ByteOut.held c.do_steps.new.to) (g.R.ByteIn.ahead c.do_steps.new.from) in
-    let after = wire (g.W.ByteOut.held c.read_back.new.to) (g.R.ByteIn.ahead c.read_back.new.from) in
-    let back = back_of c.args.job.now c.args.held.now.by in
-    let p = plan_of c.args.work.now in
-    subst (λ (n : ℕ). WorksOut s before after back p (Done n)) (sym (ap length c.as_slice-steps.ensures.value))
-    (Worked (worked s before done after back p (Ok tt) _ _ c.as_slice-steps.ensures.value c.as_slice.ensures.value c.in_default.ensures.done c.in-Ok.ensures.back))
+pub returns-in-Ok : goal.returns-in-Ok
+returns-in-Ok g c = record {
+  ends =
+      let s = session c.args.job.now c.args.limits.now c.args.held.now.reading in
+      let before = wire (g.W.ByteOut.held c.args.to.now) (g.R.ByteIn.ahead c.args.from.now) in
+      let done = wire (g.W.ByteOut.held c.do_steps.new.to) (g.R.ByteIn.ahead c.do_steps.new.from) in
+      let after = wire (g.W.ByteOut.held c.read_back.new.to) (g.R.ByteIn.ahead c.read_back.new.from) in
+      let back = back_of c.args.job.now c.args.held.now.by in
+      let p = plan_of c.args.work.now in
+      subst (λ (n : ℕ). WorksOut s before after back p (Done n)) (sym (ap length c.as_slice-steps.ensures.value))
+      (Worked (worked s before done after back p (Ok tt) _ _ c.as_slice-steps.ensures.value c.as_slice.ensures.value c.in_default.ensures.done c.in-Ok.ensures.back));
+}
 
-pub returns-in-Err-read_back-clause-ends : goal.returns-in-Err-read_back-clause-ends
-returns-in-Err-read_back-clause-ends g c =
-    let s = session c.args.job.now c.args.limits.now c.args.held.now.reading in
-    let before = wire (g.W.ByteOut.held c.args.to.now) (g.R.ByteIn.ahead c.args.from.now) in
-    let done = wire (g.W.ByteOut.held c.do_steps.new.to) (g.R.ByteIn.ahead c.do_steps.new.from) in
-    let after = wire (g.W.ByteOut.held c.read_back.new.to) (g.R.ByteIn.ahead c.read_back.new.from) in
-    let back = back_of c.args.job.now c.args.held.now.by in
-    let p = plan_of c.args.work.now in
-    subst (λ (n : ℕ). WorksOut s before after back p (Failed n c.failure_by.result)) (sym (ap length c.as_slice-steps.ensures.value))
-    (MissedIt c.failure_by.result (record {
-      mismatch = c.in-Err-read_back.why;
-      worked = worked s before done after back p (Err c.in-Err-read_back.why) _ _ c.as_slice-steps.ensures.value c.as_slice.ensures.value
-          c.in_default.ensures.done c.in-Err-read_back.ensures.back;
-      failed = c.failure_by.ensures;
-    }))
+pub returns-in-Err-read_back : goal.returns-in-Err-read_back
+returns-in-Err-read_back g c = record {
+  ends =
+      let s = session c.args.job.now c.args.limits.now c.args.held.now.reading in
+      let before = wire (g.W.ByteOut.held c.args.to.now) (g.R.ByteIn.ahead c.args.from.now) in
+      let done = wire (g.W.ByteOut.held c.do_steps.new.to) (g.R.ByteIn.ahead c.do_steps.new.from) in
+      let after = wire (g.W.ByteOut.held c.read_back.new.to) (g.R.ByteIn.ahead c.read_back.new.from) in
+      let back = back_of c.args.job.now c.args.held.now.by in
+      let p = plan_of c.args.work.now in
+      subst (λ (n : ℕ). WorksOut s before after back p (Failed n c.failure_by.result)) (sym (ap length c.as_slice-steps.ensures.value))
+      (MissedIt c.failure_by.result (record {
+        mismatch = c.in-Err-read_back.why;
+        worked = worked s before done after back p (Err c.in-Err-read_back.why) _ _ c.as_slice-steps.ensures.value c.as_slice.ensures.value
+            c.in_default.ensures.done c.in-Err-read_back.ensures.back;
+        failed = c.failure_by.ensures;
+      }));
+}

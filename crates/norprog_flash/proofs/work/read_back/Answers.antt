@@ -1,7 +1,7 @@
 -- The whole chip, and what comes past its end.
 use Rattle.std.proofs.Common.{◌≡◌, Bool, false, List, ℕ, Result, Ok, Err, inr, refl, subst, sym}
 use Rattle.nor_probe.specs.declared.difference.Mismatch.{Mismatch}
-use Rattle.norprog_device.specs.Wire.{Wire, wire}
+use Rattle.norprog_common.specs.Wire.{Wire, wire}
 use Rattle.norprog_flash.specs.declared.work.Back.{Back}
 use Rattle.norprog_flash.specs.Worked.{ReadsAll, ReadsBack}
 use Rattle.norprog_read.specs.End.{past, EndsPast, GivesPast}
@@ -12,15 +12,19 @@ ended : (most : ℕ) (before all after : Wire) (back : Back) (bytes : List ℕ) 
 ended most before all after back bytes (Ok u) is first second = (all, first, subst (GivesPast all after (past most back.by bytes)) (sym is) second)
 ended most before all after back bytes (Err why) is first second = inr (all, first, second)
 
-pub returns-then-back-clause-back : goal.returns-then-back-clause-back
-returns-then-back-clause-back g c =
-    let all = wire (g.W.ByteOut.held c.read_again.new.to) (g.R.ByteIn.ahead c.read_again.new.from) in (
-      all,
-      c.in_ok-read_again.ensures.again,
-      subst (λ (b : Bool). GivesPast all all (past c.args.limits.now.asked c.args.back.by c.args.bytes.now) b) (sym c.if-back.true) refl,
-    )
+pub returns-then-back : goal.returns-then-back
+returns-then-back g c = record {
+  back =
+      let all = wire (g.W.ByteOut.held c.read_again.new.to) (g.R.ByteIn.ahead c.read_again.new.from) in (
+        all,
+        c.in_ok-read_again.ensures.again,
+        subst (λ (b : Bool). GivesPast all all (past c.args.limits.now.asked c.args.back.by c.args.bytes.now) b) (sym c.if-back.true) refl,
+      );
+}
 
-pub returns-clause-back : goal.returns-clause-back
-returns-clause-back g c =
-    ended c.args.limits.now.asked _ (wire (g.W.ByteOut.held c.read_again.new.to) (g.R.ByteIn.ahead c.read_again.new.from)) _ c.args.back c.args.bytes.now
-    c.read_past.result c.if-back.false c.in_ok-read_again.ensures.again c.read_past.ensures.past
+pub returns : goal.returns
+returns g c = record {
+  back =
+      ended c.args.limits.now.asked _ (wire (g.W.ByteOut.held c.read_again.new.to) (g.R.ByteIn.ahead c.read_again.new.from)) _ c.args.back c.args.bytes.now
+      c.read_past.result c.if-back.false c.in_ok-read_again.ensures.again c.read_past.ensures.past;
+}

@@ -1,5 +1,6 @@
 -- By computation.
 use Rattle.std.proofs.Common.{refl}
+use Rattle.nor_base.specs.Uniform.{uniform_of}
 use Rattle.nor_job.specs.Chip.{uniform_says}
 use Rattle.nor_job.specs.Status.{status_fault}
 use Rattle.nor_job.specs.Task.{contradiction}
@@ -21,8 +22,8 @@ returns c = record {
   said_twice = refl;
   of_a_part = refl;
   consistent = refl;
-  says = refl;
-  says_erased = refl;
+  says = record { own = uniform_of 8192; says = refl; profile = refl };
+  says_erased = record { own = uniform_of 8192; says = refl; profile = refl };
   no_size = refl;
   page = refl;
   open_page = refl;

@@ -38,5 +38,5 @@ returns-clause-ends g c =
       did.0,
       did.1,
       Formed (c.in-Some.request, c.in-Some-out.out_file) did.0 _ (c.in-Some.ensures.values, c.in-Some-out.is)
-          (CutOff c.in_ok-report.report did.2 c.in-Err.ensures.bytes (omega (arith, c.in-Err.ensures.count))),
+          (CutOff c.in_ok-report.report did.2 c.in-Err.ensures.bytes c.in-Err.ensures.count),
     )

@@ -33,5 +33,5 @@ returns-in-Err-clause-ends g c =
       did.0,
       did.1,
       Spelled c.in_ok-request.request did.0 _ c.in_ok-request.ensures.values
-          (CutOff c.in_ok-verdict.verdict did.2 c.in-Err.ensures.bytes (omega (arith, c.in-Err.ensures.count))),
+          (CutOff c.in_ok-verdict.verdict did.2 c.in-Err.ensures.bytes c.in-Err.ensures.count),
     )

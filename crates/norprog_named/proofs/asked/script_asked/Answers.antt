@@ -29,5 +29,5 @@ returns-in-Err-clause-ends g c =
       did.0,
       did.1,
       Formed c.in-Some.request did.0 _ c.in-Some.ensures.values
-          (CutOff c.in_ok-tally.tally did.2 c.in-Err.ensures.bytes (omega (arith, c.in-Err.ensures.count))),
+          (CutOff c.in_ok-tally.tally did.2 c.in-Err.ensures.bytes c.in-Err.ensures.count),
     )

@@ -28,5 +28,5 @@ returns-in-Err-clause-ends g c =
       did.0,
       did.1,
       Formed c.in-Some.setup did.0 _ c.in-Some.ensures.values
-          (CutOff c.in_ok-meaning.meaning did.2 c.in-Err.ensures.bytes (omega (arith, c.in-Err.ensures.count))),
+          (CutOff c.in_ok-meaning.meaning did.2 c.in-Err.ensures.bytes c.in-Err.ensures.count),
     )

@@ -15,6 +15,6 @@ returns-clause-ends g c =
         says = says_wider c.args.given (g.O.ByteOut.count c.args.out.now) (g.O.ByteOut.count c.flash_given-answer.new.out) (g.O.ByteOut.count c.report_flash.new.out)
             (g.O.ByteOut.held c.flash_given-answer.new.out) (g.O.ByteOut.held c.report_flash.new.out)
             (output g.E.ByteOut.held g.E.ByteOut.count c.args.err.now c.report_flash.new.err) c.report_flash.result c.flash_given-answer.result
-            c.flash_given-answer.ensures.count.0 c.report_flash.ensures.says;
+            c.flash_given-answer.ensures.works c.report_flash.ensures.says;
       },
     )

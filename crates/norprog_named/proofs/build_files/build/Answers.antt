@@ -1,5 +1,7 @@
 -- Each step that ends it.
 use Rattle.std.proofs.Common.{[], ◌∷◌, ◌++◌, arith}
+use Rattle.nor_job.specs.Written.{passed}
+use Rattle.nor_base.proofs.DeviceLaws.{risen_some}
 use Rattle.nor_base.proofs.FaultLaws.{answered}
 use Rattle.norprog_files.specs.Files.{Denied, Made, closing}
 use Rattle.norprog_files.proofs.FilesLemmas.{adds_both, closed, lost}
@@ -30,13 +32,13 @@ returns-in_err-report g c =
     let begun = g.F.Output.ByteOut.held c.in_ok-script.script in
     let held = g.F.Output.ByteOut.held c.built-built.new.out in
     let last = closing c.close-closed.result out.path.now held in
-    let w = work c.inputs_of-inputs.result c.in_ok-texts.len (g.F.Input.ByteIn.ahead c.in_ok-texts.content) (g.F.Input.ByteIn.ahead c.built-built.new.content) begun held in (
+    let w = work c.inputs_of-inputs.result c.in_ok-texts.len (passed (g.F.Input.ByteIn.ahead c.in_ok-texts.content) (g.F.Input.ByteIn.ahead c.built-built.new.content) begun held) in (
       _,
       adds_both job.1 (adds_both c.in_ok-script.ensures.did c.close-closed.ensures.did),
       answered _ (EndsBuild (g.F.Files.unread c.args.files.now) c.args.request.now out (job.0 ++ (Made out Script begun ∷ last ∷ []))) _
           (NotBuilt w job.0 last _ (job_by _ _ c.inputs_of-inputs.ensures job.2) (closed c.close-closed.result out.path.now held)
           (wider
-          (λ failed. g.met.F.Files.failing c.args.files.now c.built-built.new.content (omega (arith, failed)))
+          (λ failed. g.met.F.Files.failing c.args.files.now c.built-built.new.content (risen_some _ _ failed))
           (λ failed. lost c.close-closed.result out.path.now held _ _ c.close-closed.ensures.unfailed failed)
           c.in_err-report.ensures.unbuilt))
           c.from_residual-in_err-report.ensures.1,
@@ -47,7 +49,7 @@ returns-in-Ok g c =
     let job = c.in_ok-texts.ensures.did in (
       _,
       adds_both job.1 (adds_both c.in_ok-script.ensures.did c.in-Ok.ensures.did),
-      Built (work _ c.in_ok-texts.len _ _ _ _) job.0 _ (job_by _ _ c.inputs_of-inputs.ensures job.2) c.in_ok-report.ensures.meets c.in_ok-report.ensures.built,
+      Built (work _ c.in_ok-texts.len (passed _ _ _ _)) job.0 _ (job_by _ _ c.inputs_of-inputs.ensures job.2) c.in_ok-report.ensures.meets c.in_ok-report.ensures.built,
     )
 
 pub returns : goal.returns
@@ -55,5 +57,5 @@ returns g c =
     let job = c.in_ok-texts.ensures.did in (
       _,
       adds_both job.1 (adds_both c.in_ok-script.ensures.did c.in-Err.ensures.did),
-      Unsent (work _ c.in_ok-texts.len _ _ _ _) job.0 _ (job_by _ _ c.inputs_of-inputs.ensures job.2) c.in_ok-report.ensures.built,
+      Unsent (work _ c.in_ok-texts.len (passed _ _ _ _)) job.0 _ (job_by _ _ c.inputs_of-inputs.ensures job.2) c.in_ok-report.ensures.built,
     )

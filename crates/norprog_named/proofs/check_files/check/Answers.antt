@@ -1,5 +1,7 @@
 -- Each step that ends it.
-use Rattle.std.proofs.Common.{[], ◌∷◌, ◌++◌, arith}
+use Rattle.std.proofs.Common.{[], ◌∷◌, ◌++◌}
+use Rattle.nor_base.proofs.DeviceLaws.{risen_some}
+use Rattle.norprog_check.specs.Checked.{checking}
 use Rattle.nor_base.proofs.FaultLaws.{answered}
 use Rattle.norprog_check.specs.Stream.{work}
 use Rattle.norprog_common.specs.declared.faults.FileName.TheVariants as file
@@ -36,7 +38,7 @@ returns-in_err-refuse_image g c =
     let job = c.in_ok-texts.ensures.did in
     let script = g.F.Input.ByteIn.ahead c.in_ok-script.script in
     let content = g.F.Input.ByteIn.ahead c.in_ok-texts.content in
-    let w = work c.inputs_of-inputs.result c.in_ok-texts.len script script content content in (
+    let w = work (checking c.inputs_of-inputs.result c.in_ok-texts.len content content) script script in (
       _,
       adds_both job.1 c.in_ok-script.ensures.did,
       answered _ (EndsCheck (g.F.Files.unread c.args.files.now) c.args.request.now path (job.0 ++ (Opened path script c.in_ok-script._len ∷ []))) _
@@ -47,8 +49,7 @@ returns-in_err-refuse_image g c =
 pub returns-in-Ok : goal.returns-in-Ok
 returns-in-Ok g c =
     let job = c.in_ok-texts.ensures.did in
-    let w = work c.inputs_of-inputs.result c.in_ok-texts.len (g.F.Input.ByteIn.ahead c.in_ok-script.script) (g.F.Input.ByteIn.ahead c.check_stream.new.script)
-    (g.F.Input.ByteIn.ahead c.in_ok-texts.content) (g.F.Input.ByteIn.ahead c.check_stream.new.content) in (
+    let w = work (checking c.inputs_of-inputs.result c.in_ok-texts.len (g.F.Input.ByteIn.ahead c.in_ok-texts.content) (g.F.Input.ByteIn.ahead c.check_stream.new.content)) (g.F.Input.ByteIn.ahead c.in_ok-script.script) (g.F.Input.ByteIn.ahead c.check_stream.new.script) in (
       _,
       adds_both job.1 c.in_ok-script.ensures.did,
       Checked w _ c.in-Ok.found (Opens_all job.0 c.in_ok-script._len (job_by _ _ c.inputs_of-inputs.ensures job.2)) c.in_ok-refuse_image.ensures.meets c.in-Ok.ensures.found,
@@ -57,11 +58,10 @@ returns-in-Ok g c =
 pub returns : goal.returns
 returns g c =
     let job = c.in_ok-texts.ensures.did in
-    let w = work c.inputs_of-inputs.result c.in_ok-texts.len (g.F.Input.ByteIn.ahead c.in_ok-script.script) (g.F.Input.ByteIn.ahead c.check_stream.new.script)
-    (g.F.Input.ByteIn.ahead c.in_ok-texts.content) (g.F.Input.ByteIn.ahead c.check_stream.new.content) in (
+    let w = work (checking c.inputs_of-inputs.result c.in_ok-texts.len (g.F.Input.ByteIn.ahead c.in_ok-texts.content) (g.F.Input.ByteIn.ahead c.check_stream.new.content)) (g.F.Input.ByteIn.ahead c.in_ok-script.script) (g.F.Input.ByteIn.ahead c.check_stream.new.script) in (
       _,
       adds_both job.1 c.in_ok-script.ensures.did,
       rw c.refusal_of.ensures (Refused w _ c.in-Err.stop (Opens_all job.0 c.in_ok-script._len (job_by _ _ c.inputs_of-inputs.ensures job.2)) c.in_ok-refuse_image.ensures.meets
-          (wider (λ more. g.met.F.Files.failing c.args.files.now c.check_stream.new.script (omega (arith, more)))
-          (λ more. g.met.F.Files.failing c.args.files.now c.check_stream.new.content (omega (arith, more))) c.in-Err.ensures.unchecked)),
+          (wider (λ more. g.met.F.Files.failing c.args.files.now c.check_stream.new.script (risen_some _ _ more))
+          (λ more. g.met.F.Files.failing c.args.files.now c.check_stream.new.content (risen_some _ _ more)) c.in-Err.ensures.unchecked)),
     )

@@ -61,6 +61,6 @@ returns g c =
       adds_both c.in_ok-script.ensures.did (adds_both c.in_ok-out.ensures.did c.close-closed.ensures.did),
       Unsent c.in_ok-script.script.items text _
           (subst (λ (e : Event). Loses r.out Waveform text (Made r.out Waveform begun ∷ e ∷ []))
-          (sym (lost c.close-closed.result r.out.path.now held (g.F.Output.ByteOut.count c.in_ok-out.out) (g.F.Output.ByteOut.count c.draw_steps-drawn.new.out) c.close-closed.ensures.unfailed (omega (arith, c.in-Err.ensures.count))))
+          (sym (lost c.close-closed.result r.out.path.now held (g.F.Output.ByteOut.count c.in_ok-out.out) (g.F.Output.ByteOut.count c.draw_steps-drawn.new.out) c.close-closed.ensures.unfailed c.in-Err.ensures.count))
           (Loses_some begun held cut.2)),
     )

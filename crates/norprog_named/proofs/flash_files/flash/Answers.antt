@@ -22,5 +22,5 @@ returns-clause-ends g c =
     let work = c.flash_job.ensures.ends in
     (_, adds_both read.1 work.1, Worked c.in_ok-texts.texts c.job_for-job.result read.0 work.0 c.flash_job.result read.2 c.job_for-job.ensures work.2)
 
-pub flash_job-requires-clause-whole : goal.flash_job-requires-clause-whole
-flash_job-requires-clause-whole g c = c.job_for-job.ensures.ask.content
+pub flash_job-requires : goal.flash_job-requires
+flash_job-requires g c = record { whole = c.job_for-job.ensures.ask.content }

@@ -1,5 +1,6 @@
 -- Each step that ends it.
 use Rattle.std.proofs.Common.{[], ◌∷◌, Err, arith, subst, sym}
+use Rattle.nor_base.proofs.DeviceLaws.{risen_some}
 use Rattle.nor_base.proofs.FaultLaws.{answered}
 use Rattle.norprog_common.specs.declared.faults.Refusal.{Refusal}
 use Rattle.norprog_files.specs.Files.{Denied, Loses_some, Made, Opened, closing}
@@ -53,7 +54,7 @@ returns g c =
       adds_both c.in_ok-bin.ensures.did (adds_both c.in_ok-out.ensures.did c.close-closed.ensures.did),
       subst (λ (w : Refusal). EndsHex (g.F.Files.unread c.args.files.now) r log (Err w)) (sym c.refusal_of.ensures)
           (unconverted _ r image c.in_ok-bin.len begun held last c.in-Err.why
-          (λ failed. g.met.F.Files.failing c.args.files.now c.convert-converted.new.bin (omega (arith, failed)))
+          (λ failed. g.met.F.Files.failing c.args.files.now c.convert-converted.new.bin (risen_some _ _ failed))
           (λ failed. lost c.close-closed.result r.out.path.now held _ _ c.close-closed.ensures.unfailed failed)
           (closed c.close-closed.result r.out.path.now held) c.in-Err.ensures.stopped c.in-Err.ensures.unended),
     )

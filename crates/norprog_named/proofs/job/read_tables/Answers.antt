@@ -2,7 +2,7 @@
 use Rattle.std.proofs.Common.{[]}
 use Rattle.norprog_files.proofs.FilesLemmas.{adds_none}
 use Rattle.norprog_named.specs.Job.{NoTables}
-use Rattle.norprog_named.proofs.JobLemmas.{tables_read}
+use Rattle.norprog_named.proofs.JobLemmas.{sheet_read, tables_read}
 use Rattle.norprog_named.proofs.job.read_tables.Goals as goal
 
 pub returns-in-Sfdp : goal.returns-in-Sfdp
@@ -10,3 +10,6 @@ returns-in-Sfdp g c = rw c.in-Sfdp.is (_, c.read.ensures.did, tables_read c.in-S
 
 pub returns-in-Uniform : goal.returns-in-Uniform
 returns-in-Uniform g c = rw c.in-Uniform.is ([], adds_none _, NoTables c.in-Uniform.field-0 _)
+
+pub returns-in-Sheet : goal.returns-in-Sheet
+returns-in-Sheet g c = rw c.in-Sheet.is (_, c.read-in-Sheet.ensures.did, sheet_read c.in-Sheet.file.now c.read-in-Sheet.result c.read-in-Sheet.ensures.refused)

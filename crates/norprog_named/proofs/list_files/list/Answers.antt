@@ -1,5 +1,6 @@
 -- What was printed of the script that was opened, or why there is nothing.
 use Rattle.std.proofs.Common.{[], ap, ◌∙◌, arith, refl}
+use Rattle.nor_base.proofs.DeviceLaws.{risen_some}
 use Rattle.nor_base.specs.Chip.{begins4}
 use Rattle.nor_base.proofs.FaultLaws.{answered}
 use Rattle.norprog_common.specs.Setup.{setup_task}
@@ -59,5 +60,5 @@ returns g c =
       adds_both tables.1 c.in_ok-script.ensures.did,
       rw c.refusal_of.ensures (stopped _ c.args.request _ _ _ (opens c.args.request _ c.in_ok-script._len is tables.2) c.in_ok-meaning.ensures.known
           (c.begins4.ensures ∙ ap (begins4 c.in_ok-meaning.meaning) c.in_ok-meaning.ensures.start) _ _ _ _ c.in-Err.stop c.in-Err.ensures.lists c.in-Err.ensures.source c.in-Err.ensures.count
-          (λ more. g.met.F.Files.failing c.args.files.now c.list_steps.new.script (omega (arith, more))) (λ more. more)),
+          (λ more. g.met.F.Files.failing c.args.files.now c.list_steps.new.script (risen_some _ _ more)) (λ more. more)),
     )

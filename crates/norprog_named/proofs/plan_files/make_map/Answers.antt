@@ -7,17 +7,19 @@ use Rattle.norprog_named.specs.Plan.{MapMade, NoneMade}
 use Rattle.norprog_named.proofs.JobLemmas.{stops_reading}
 use Rattle.norprog_named.proofs.plan_files.make_map.Goals as goal
 
-pub returns-in_err-create-in-Some-clause-did : goal.returns-in_err-create-in-Some-clause-did
-returns-in_err-create-in-Some-clause-did g c =
-    let path = c.in-Some.out.path.now in
-    rw c.in-Some.is (
-      Denied path ∷ [],
-      c.in_err-create-in-Some.ensures.did,
-      stops_reading _ _ _ _ _ c.from_residual.ensures.1 (Here file.Map path [] _ c.in_err-create-in-Some.ensures.refused),
-    )
+pub returns-in_err-create-in-Some : goal.returns-in_err-create-in-Some
+returns-in_err-create-in-Some g c = record {
+  did =
+      let path = c.in-Some.out.path.now in
+      rw c.in-Some.is (
+        Denied path ∷ [],
+        c.in_err-create-in-Some.ensures.did,
+        stops_reading _ _ _ _ _ c.from_residual.ensures.1 (Here file.Map path [] _ c.in_err-create-in-Some.ensures.refused),
+      );
+}
 
-pub returns-in_ok-create-in-Some-clause-did : goal.returns-in_ok-create-in-Some-clause-did
-returns-in_ok-create-in-Some-clause-did g c = rw c.in-Some.is (_, c.in_ok-create-in-Some.ensures.did, MapMade _)
+pub returns-in_ok-create-in-Some : goal.returns-in_ok-create-in-Some
+returns-in_ok-create-in-Some g c = record { did = rw c.in-Some.is (_, c.in_ok-create-in-Some.ensures.did, MapMade _) }
 
-pub returns-in-None-clause-did : goal.returns-in-None-clause-did
-returns-in-None-clause-did g c = rw c.in-None.is ([], adds_none _, NoneMade)
+pub returns-in-None : goal.returns-in-None
+returns-in-None g c = record { did = rw c.in-None.is ([], adds_none _, NoneMade) }

@@ -1,8 +1,8 @@
 -- Each step that ends it.
-use Rattle.std.proofs.Common.{◌++◌, List, ℕ, arith, refl, subst}
+use Rattle.std.proofs.Common.{◌++◌, List, ℕ, arith, refl, subst, ◌∙◌, ap}
 use Rattle.std.specs.Io.KnownBytes.{Appends}
-use Rattle.nor_base.specs.Device.{Cuts}
-use Rattle.nor_base.proofs.DeviceLaws.{Appends-append}
+use Rattle.nor_base.specs.Device.{Cuts, one_more}
+use Rattle.nor_base.proofs.DeviceLaws.{Appends-append, risen_some}
 use Rattle.nor_base.proofs.FaultLaws.{answered}
 use Rattle.norprog_files.proofs.FilesLemmas.{adds_both}
 use Rattle.norprog_plan.specs.Outline.{outline}
@@ -41,7 +41,7 @@ returns-in-Err g c =
       _,
       adds_both job.1 (adds_both made.1 left.1),
       NotTold _ _ _ c.in_ok-texts.len job.0 (made.0 ++ left.0) _ (job_by _ _ c.inputs_of-inputs.ensures job.2) left.2
-          (wider (λ failed. g.met.F.Files.failing c.args.files.now c.print_lines.new.content (omega (arith, failed))) (λ failed. failed) c.in-Err.ensures.untold),
+          (wider (λ failed. g.met.F.Files.failing c.args.files.now c.print_lines.new.content (risen_some _ _ failed)) (λ failed. failed) c.in-Err.ensures.untold),
     )
 
 pub returns-in-Err-send_map : goal.returns-in-Err-send_map
@@ -86,5 +86,5 @@ returns g c =
       Unprinted (outline told.0 c.in-Ok.told) job.0 (made.0 ++ sent.0) _
           (tells_job c.in_ok-texts.len (job_by _ _ c.inputs_of-inputs.ensures job.2) c.in-Ok.ensures.meets told.1)
           (subst (λ (bytes : List ℕ). SendsMap bytes map (made.0 ++ sent.0)) c.deref.ensures.value sent.2) told.2 rest
-          (omega (arith, c.in-Ok.ensures.count, c.in-Err-put_all.ensures.count)),
+          (c.in-Err-put_all.ensures.count ∙ ap one_more c.in-Ok.ensures.count),
     )

@@ -19,7 +19,7 @@ returns-in_err-put g c named made was =
     let some = rw c.in-Some.is at was in
     let held = g.F.Output.ByteOut.held c.put_all-put.new.writer in
     let log = closing c.close-closed.result map.out.path.now held ∷ [] in
-    let failed = lost c.close-closed.result map.out.path.now held (g.F.Output.ByteOut.count map.file) _ c.close-closed.ensures.unfailed (omega (arith, c.in_err-put.ensures.count)) in (
+    let failed = lost c.close-closed.result map.out.path.now held (g.F.Output.ByteOut.count map.file) _ c.close-closed.ensures.unfailed c.in_err-put.ensures.count in (
       log,
       c.close-closed.ensures.did,
       answered c.from_residual.result (λ r. MatchResult r (λ _. SendsMap c.args.picture.now named (made ++ log)) (λ _. LosesMap named (made ++ log))) _

@@ -17,7 +17,7 @@ pub returns-in-Ok : goal.returns-in-Ok
 returns-in-Ok g c = (
   _,
   adds_both c.in_ok-file.ensures.did c.in-Ok.ensures.did,
-  Saved _ _ (took_all _ _ _ _ c.put_all.result c.args.bytes.now c.put_all.ensures.bytes c.put_all.ensures.count c.in_ok-file.ensures.unfailed c.in-Ok.ensures.unfailed),
+  Saved _ _ (took_all _ _ _ _ c.put_all.result c.args.bytes.now c.put_all.ensures.bytes c.put_all.ensures.count c.in-Ok.ensures.unfailed),
 )
 
 pub returns-in-Err : goal.returns-in-Err

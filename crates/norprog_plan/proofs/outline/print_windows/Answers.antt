@@ -1,14 +1,16 @@
 -- The lines of a window follow those before.
-use Rattle.std.proofs.Common.{◌∙◌, ◌++◌, [], List, option_map, sym, subst}
+use Rattle.std.proofs.Common.{◌∙◌, ◌++◌, [], List, option_map, sym, subst, ◌≡◌, ap, is_some}
 use Rattle.std.specs.Io.KnownBytes.{Appends}
-use Rattle.nor_base.specs.Device.{Cuts}
+use Rattle.nor_job.specs.Written.{CountsReader, CountsWriter, of_reader, of_writer}
+use Rattle.nor_base.proofs.DeviceLaws.{never_raised}
+use Rattle.nor_base.specs.Device.{Cuts, raised}
 use Rattle.nor_job.specs.declared.fault.BuildFault.TheVariants as fault
 use Rattle.nor_job.specs.declared.job.Job.{Job}
 use Rattle.nor_plan_read.specs.Lines.{lines_text}
 use Rattle.nor_plan_read.specs.declared.line.PlanLine.{PlanLine}
 use Rattle.norprog.specs.Planner.{GoesOn}
 use Rattle.norprog.specs.Windows.{IsCutPlan}
-use Rattle.nor_base.proofs.FaultLaws.{handed_on}
+use Rattle.nor_base.proofs.FaultLaws.{handed_on, answered}
 use Rattle.norprog_plan.specs.Sums.{AreSums, HasRoom}
 use Rattle.norprog_plan.proofs.SumsLemmas.{adds_window, cut_before, cut_window, ends_on, prints_all, room_of}
 use Rattle.norprog_plan.proofs.outline.print_windows.Goals as goal
@@ -100,3 +102,16 @@ returns-clause-printed g c =
     let q = c.next_window.new.self in
     let goes = ends_on (λ lines. lines.items) c.loop-lines.planner q (g.R.ByteIn.ahead c.loop-lines.content) (g.R.ByteIn.ahead c.next_window.new.content) c.in_ok-lines.field-0 c.in_default.not-Some c.in_ok-lines.ensures.told in
     prints_all c.args.planner.now c.loop-lines.planner q c.args.sums.now c.loop-lines.sums _ _ _ _ _ v.ready v.job v.printed goes.0 goes.1 goes.2
+
+-- no fault of a window is the writer's
+pub returns-in_err-lines-clause-counts : goal.returns-in_err-lines-clause-counts
+returns-in_err-lines-clause-counts g c =
+    let v = c.loop-lines.invariant in
+    let why = c.in_err-lines.field-0.0 in
+    let first = g.O.ByteOut.count c.args.out.now in
+    let none = never_raised (of_writer why) c.in_err-lines.ensures.counts.1 in
+    answered _
+    (λ r. CountsReader (g.R.ByteIn.count c.args.content.now) (g.R.ByteIn.count c.next_window.new.content) r
+    × CountsWriter first (g.O.ByteOut.count c.loop-lines.out) r × (is_some c.loop-lines.sums.marks ≡ is_some c.args.sums.now.marks)) why
+    (c.in_err-lines.ensures.counts.0 ∙ ap (λ n. raised n (of_reader why)) v.reads, v.writes ∙ sym (ap (raised first) none), v.marks)
+    c.from_residual.ensures.1

@@ -10,7 +10,7 @@ pub returns-clause-told : goal.returns-clause-told
 returns-clause-told g c =
     let t = c.args.inputs.now in
     let is : IsJob t c.args.len c.in_ok-job.job = c.in_ok-job.ensures.job in
-    let all = c.in_ok-report.ensures.printed t c.args.len is in
+    let all = c.in_ok-report.ensures.printed in
     let are = all.sums (tables_times t.chip) c.in_ok-sums.ensures.sums in
     tells c.args.shows t c.args.len (g.R.ByteIn.ahead c.args.content.now) (g.R.ByteIn.ahead c.print_lines.new.content) (g.O.ByteOut.held c.args.out.now)
     (g.O.ByteOut.held c.print_lines.new.out) c.in_ok-job.job c.in_ok-sums.sums c.print_lines.new.sums c.in_ok-report.report _ c.behind.result all is

@@ -1,6 +1,6 @@
 -- The marked bytes so far were read.
 use Rattle.std.proofs.Common.{◌≡◌, ◌≤◌, ◌-◌, length}
-use Rattle.norprog_device.specs.Wire.{wire}
+use Rattle.norprog_common.specs.Wire.{wire}
 use Rattle.norprog_player.specs.Compared.{comparison, HasComparedTo}
 use Rattle.nor_cells.specs.Marks.{IsMarked}
 use Rattle.norprog_player.proofs.content.compare.Given as goal
@@ -10,8 +10,6 @@ invariant-loop-start g l = record {
   within : l.done ≤ length l.content;
   read : HasComparedTo (wire (g.W.ByteOut.held l.fn.to) (g.R.ByteIn.ahead l.fn.from)) (wire (g.W.ByteOut.held l.to) (g.R.ByteIn.ahead l.from))
       (comparison l.limits l.access (IsMarked l.marks)) l.content l.done;
-  reads : g.R.ByteIn.count l.from ≡ g.R.ByteIn.count l.fn.from;
-  writes : g.W.ByteOut.count l.to ≡ g.W.ByteOut.count l.fn.to;
 }
 
 abbrev pub decreases-loop-start : goal.decreases-loop-start

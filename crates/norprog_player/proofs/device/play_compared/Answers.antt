@@ -24,9 +24,9 @@ follow_steps-requires-clause-steps g c =
 
 pub returns-in-Err-follow_steps-clause-ends : goal.returns-in-Err-follow_steps-clause-ends
 returns-in-Err-follow_steps-clause-ends g c =
-    let before = moment_of c.args.port.now in
-    let between = moment_of c.begin.new.port in
-    let after = moment_of c.follow_steps.new.port in
+    let before = moment_of g.W.ByteOut.held g.R.ByteIn.ahead c.args.port.now in
+    let between = moment_of g.W.ByteOut.held g.R.ByteIn.ahead c.begin.new.port in
+    let after = moment_of g.W.ByteOut.held g.R.ByteIn.ahead c.follow_steps.new.port in
     stops (course (rules_of c.args.port.now.limits c.args.port.now.turns c.args.meaning.now) (expectation_of c.args.expected) c.args.access
     (IsMarked c.args.cells.now) (MarkedSince c.args.cells.now)) before between after c.args.steps.now
     c.in-Err-follow_steps.halt.step c.in-Err-follow_steps.halt.why c.requires.steps.0 c.in_default.ensures.begins
@@ -35,27 +35,29 @@ returns-in-Err-follow_steps-clause-ends g c =
 
 pub mark_wraps-requires : goal.mark_wraps-requires
 mark_wraps-requires g c =
-    let between = moment_of c.begin.new.port in
-    let reached = moment_of c.follow_steps.new.port in
+    let between = moment_of g.W.ByteOut.held g.R.ByteIn.ahead c.begin.new.port in
+    let reached = moment_of g.W.ByteOut.held g.R.ByteIn.ahead c.follow_steps.new.port in
     let kept = all_keep c.begin.new.port.limits c.begin.new.port.turns between reached c.args.steps.now c.in_default-follow_steps.ensures.done in
     let same : length c.follow_steps.new.port.chip.chip.array ≡ length c.args.port.now.chip.chip.array = kept ∙ ap (λ (s : Shown). length s.chip.array) c.in_default.ensures.kept.0 in
     let is : length c.content.result.now ≡ length c.follow_steps.new.port.chip.chip.array = ap length c.content.ensures in
     record { small = omega (arith, is, same, c.requires.content.0) }
 
-pub compare_unless_trusted-requires-clause-marked : goal.compare_unless_trusted-requires-clause-marked
-compare_unless_trusted-requires-clause-marked g c =
-    let between = moment_of c.begin.new.port in
-    let reached = moment_of c.follow_steps.new.port in
-    let kept = all_keep c.begin.new.port.limits c.begin.new.port.turns between reached c.args.steps.now c.in_default-follow_steps.ensures.done in
-    let same : length c.follow_steps.new.port.chip.chip.array ≡ length c.args.port.now.chip.chip.array = kept ∙ ap (λ (s : Shown). length s.chip.array) c.in_default.ensures.kept.0 in
-    (omega (arith, same, c.requires.content.0), same ∙ c.requires.content.1 ∙ ap (λ n. 256 * n) (sym c.mark_wraps.ensures.same_length))
+pub compare_unless_trusted-requires : goal.compare_unless_trusted-requires
+compare_unless_trusted-requires g c = record {
+  marked =
+      let between = moment_of g.W.ByteOut.held g.R.ByteIn.ahead c.begin.new.port in
+      let reached = moment_of g.W.ByteOut.held g.R.ByteIn.ahead c.follow_steps.new.port in
+      let kept = all_keep c.begin.new.port.limits c.begin.new.port.turns between reached c.args.steps.now c.in_default-follow_steps.ensures.done in
+      let same : length c.follow_steps.new.port.chip.chip.array ≡ length c.args.port.now.chip.chip.array = kept ∙ ap (λ (s : Shown). length s.chip.array) c.in_default.ensures.kept.0 in
+      (omega (arith, same, c.requires.content.0), same ∙ c.requires.content.1 ∙ ap (λ n. 256 * n) (sym c.mark_wraps.ensures.same_length));
+}
 
 pub returns-in-Err-compare_unless_trusted-clause-ends : goal.returns-in-Err-compare_unless_trusted-clause-ends
 returns-in-Err-compare_unless_trusted-clause-ends g c =
-    let before = moment_of c.args.port.now in
-    let between = moment_of c.begin.new.port in
-    let reached = moment_of c.follow_steps.new.port in
-    let after = moment_of c.compare_unless_trusted.new.port in
+    let before = moment_of g.W.ByteOut.held g.R.ByteIn.ahead c.args.port.now in
+    let between = moment_of g.W.ByteOut.held g.R.ByteIn.ahead c.begin.new.port in
+    let reached = moment_of g.W.ByteOut.held g.R.ByteIn.ahead c.follow_steps.new.port in
+    let after = moment_of g.W.ByteOut.held g.R.ByteIn.ahead c.compare_unless_trusted.new.port in
     let ends : played c.args.port.now.chip.setting 1 c.args.port.now.chip.chip c.args.steps.now ≡ Ok c.follow_steps.new.port.chip.chip =
     subst (λ (shown : Shown). played shown.setting 1 shown.chip c.args.steps.now ≡ Ok c.follow_steps.new.port.chip.chip) c.in_default.ensures.kept.0 c.in_default-follow_steps.ensures.chip in
     let kept = all_keep c.begin.new.port.limits c.begin.new.port.turns between reached c.args.steps.now c.in_default-follow_steps.ensures.done in
@@ -77,16 +79,16 @@ returns-in-Err-compare_unless_trusted-clause-ends g c =
       wary = c.in-Err-compare_unless_trusted.ensures.compared.0;
       why = c.in-Err-compare_unless_trusted.why;
       unlike = likens_since c.args.port.now.limits c.follow_steps.new.port.limits c.args.access c.content.result.now c.args.cells.now
-          c.mark_wraps.new.marks reached after (c.in_default-follow_steps.ensures.failures.2 ∙ c.in_default.ensures.kept.1) c.mark_wraps.ensures
+          c.mark_wraps.new.marks reached after (c.in_default-follow_steps.ensures.limits ∙ c.in_default.ensures.kept.1) c.mark_wraps.ensures
           c.content.ensures cells (Err c.in-Err-compare_unless_trusted.why) c.in-Err-compare_unless_trusted.ensures.compared.1;
       failure = c.failure_by.ensures;
     })
 
 pub returns-in-Ok-clause-ends : goal.returns-in-Ok-clause-ends
 returns-in-Ok-clause-ends g c =
-    let between = moment_of c.begin.new.port in
-    let reached = moment_of c.follow_steps.new.port in
-    let after = moment_of c.compare_unless_trusted.new.port in
+    let between = moment_of g.W.ByteOut.held g.R.ByteIn.ahead c.begin.new.port in
+    let reached = moment_of g.W.ByteOut.held g.R.ByteIn.ahead c.follow_steps.new.port in
+    let after = moment_of g.W.ByteOut.held g.R.ByteIn.ahead c.compare_unless_trusted.new.port in
     let ends : played c.args.port.now.chip.setting 1 c.args.port.now.chip.chip c.args.steps.now ≡ Ok c.follow_steps.new.port.chip.chip =
     subst (λ (shown : Shown). played shown.setting 1 shown.chip c.args.steps.now ≡ Ok c.follow_steps.new.port.chip.chip) c.in_default.ensures.kept.0 c.in_default-follow_steps.ensures.chip in
     let kept = all_keep c.begin.new.port.limits c.begin.new.port.turns between reached c.args.steps.now c.in_default-follow_steps.ensures.done in
@@ -105,7 +107,7 @@ returns-in-Ok-clause-ends g c =
               c.args.steps.now c.in_default.ensures.kept.1 c.in_default.ensures.kept.2 c.in_default-follow_steps.ensures.done;
         };
         back = compares_since c.args.port.now.limits c.follow_steps.new.port.limits c.args.access c.content.result.now c.args.cells.now
-            c.mark_wraps.new.marks reached after (c.in_default-follow_steps.ensures.failures.2 ∙ c.in_default.ensures.kept.1)
+            c.mark_wraps.new.marks reached after (c.in_default-follow_steps.ensures.limits ∙ c.in_default.ensures.kept.1)
             c.mark_wraps.ensures c.content.ensures cells c.args.expected.trusted c.in-Ok.ensures.compared;
       },
       c.requires.steps.1,
@@ -117,8 +119,8 @@ returns-in-Err-clause-told g c = none_reported c.args.steps.now _ _ _ _ refl ref
 
 pub returns-in-Err-follow_steps-clause-told : goal.returns-in-Err-follow_steps-clause-told
 returns-in-Err-follow_steps-clause-told g c =
-    let between = moment_of c.begin.new.port in
-    let after = moment_of c.follow_steps.new.port in
+    let between = moment_of g.W.ByteOut.held g.R.ByteIn.ahead c.begin.new.port in
+    let after = moment_of g.W.ByteOut.held g.R.ByteIn.ahead c.follow_steps.new.port in
     stop_reported (rules_of c.begin.new.port.limits c.begin.new.port.turns c.args.meaning.now) between after c.args.steps.now c.in-Err-follow_steps.halt
     (output g.P.ByteOut.held g.P.ByteOut.count c.args.progress.now c.follow_steps.new.progress)
     (subst (λ (l : Limits). AreCarried l c.args.steps.now) (sym c.in_default.ensures.kept.1) c.requires.steps.0.carried)

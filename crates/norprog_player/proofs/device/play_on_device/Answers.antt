@@ -17,8 +17,8 @@ returns-clause-ends g c =
     let m = c.args.meaning.now in
     let mode4 = begins4 m c.args.expected.start in
     let Wanted : List ℕ → ℕ → Type 0 = λ content. IsAsked (IsTouched m mode4 c.args.steps.now) content in
-    let before = moment_of c.args.port.now in
-    let after = moment_of c.play_compared.new.port in
+    let before = moment_of g.W.ByteOut.held g.R.ByteIn.ahead c.args.port.now in
+    let after = moment_of g.W.ByteOut.held g.R.ByteIn.ahead c.play_compared.new.port in
     let are : AreMarks (Wanted c.args.port.now.chip.chip.array) (m.size / 256) c.in_ok-cells.cells.items =
     subst (λ (content : List ℕ). AreMarks (Wanted content) (m.size / 256) c.in_ok-cells.cells.items) c.content.ensures c.in_ok-cells.ensures in
     let cells = as_cells (Wanted c.args.port.now.chip.chip.array) c.in_ok-cells.cells.items (length c.args.port.now.chip.chip.array) m.size are c.requires.chip.1 c.acceptance.ensures.size_whole in

@@ -21,8 +21,8 @@ returns-in-Err-clause-done g c =
     let alone : take c.args.count c.args.steps.now ≡ c.index-steps-0.result ∷ [] =
     ap (λ n. take n c.args.steps.now) c.if-count-eq1.true ∙ one_taken c.args.steps.now 0 c.index-steps-0.result within c.index-steps-0.is in
     stops_alone (rules_of c.args.port.now.limits c.args.port.now.turns c.args.meaning.now)
-    (moment_of c.args.port.now)
-    (moment_of c.follow_step.new.port)
+    (moment_of g.W.ByteOut.held g.R.ByteIn.ahead c.args.port.now)
+    (moment_of g.W.ByteOut.held g.R.ByteIn.ahead c.follow_step.new.port)
     (take c.args.count c.args.steps.now) c.index-steps-0.result c.in-Err.why alone c.requires.row.2 c.in-Err.ensures.done
 
 pub returns-in-Ok-do_row-clause-done : goal.returns-in-Ok-do_row-clause-done
@@ -38,7 +38,7 @@ returns-in-Err-do_row-clause-done g c =
     let row = take c.args.count c.args.steps.now in
     let plain : All IsPlain row = are_plain row c.args.count c.requires.row.3 (length-take-le c.args.count c.args.steps.now c.requires.row.1) c.if-count-eq1.false in
     let after = moment c.take_row.new.chip (g.W.ByteOut.held c.do_row.new.to) (g.R.ByteIn.ahead c.do_row.new.from) in
-    let before = moment_of c.args.port.now in
+    let before = moment_of g.W.ByteOut.held g.R.ByteIn.ahead c.args.port.now in
     let r = rules_of c.args.port.now.limits c.args.port.now.turns c.args.meaning.now in
     subst (λ n. StopsAt r before row (halt_at n c.failed.result.why) after) (sym c.failed.ensures.step)
     (halted r row c.args.port.now.chip c.take_row.new.chip before.wire c.in-Err-do_row.halt c.failed.result.why after c.take_row.ensures.taken plain

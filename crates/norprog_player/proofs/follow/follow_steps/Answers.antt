@@ -9,8 +9,6 @@ use Rattle.nor_progress.proofs.ReportLaws.{ended_reports, none_come}
 use Rattle.std.specs.Prelude.{None, Ok}
 use Rattle.norprog_player.specs.Moment.{rules_of, DoesAll}
 use Rattle.norprog_player.specs.Port.{moment_of}
-use Rattle.norprog_failure.specs.Blame.{fault_of_failure}
-use Rattle.norprog_player.proofs.BlameLemmas.{counts_after}
 use Rattle.norprog_player.proofs.CarriedLemmas.{done_bounds, same_bounds}
 use Rattle.norprog_player.proofs.FollowedLemmas.{goes_to_end}
 use Rattle.norprog_player.proofs.TogetherLemmas.{all_left_over, does_append, goes_through, stops_in}
@@ -32,13 +30,10 @@ loop-done-init g c = record {
   within = omega arith;
   does = refl;
   rest = λ d goes. goes;
-  fresh = c.requires.ready.0;
-  count = refl;
-  none = (refl, refl);
+  fresh = c.requires.ready;
   limits = refl;
   turns = refl;
   room = refl;
-  told = λ _. c.requires.ready.2;
   come = none_come c.args.steps.now c.of-far.result (g.P.ByteOut.held c.args.progress.now) (g.P.ByteOut.count c.args.progress.now) c.of-far.ensures.few c.of-far.ensures.none;
 }
 
@@ -48,7 +43,7 @@ returns-in-Err-clause-told g c =
     let at = c.loop-done.done in
     let k = c.in-Err.halt.step in
     let left : List Step = take (length steps - at) (drop at steps) in
-    let few : k ≤ length left = omega (arith, c.in-Err.ensures.failures.3, c.row_of-count.ensures.within) in
+    let few : k ≤ length left = omega (arith, c.in-Err.ensures.within, c.row_of-count.ensures.within) in
     let held = g.P.ByteOut.held c.args.progress.now in
     let count = g.P.ByteOut.count c.args.progress.now in
     let come = c.row_done.ensures.moves steps at held count c.loop-done.invariant.come (next_of steps at k c.loop-done.invariant.within) in
@@ -75,9 +70,9 @@ returns-in-Err-clause-done g c =
     let whole : left ≡ drop c.loop-done.done steps = all_left_over c.loop-done.done steps in
     let row : List Step = take c.row_of-count.result left in
     let rest : List Step = drop c.row_of-count.result left in
-    let before = moment_of c.args.port.now in
-    let now = moment_of c.loop-done.port in
-    let after = moment_of c.follow_row.new.port in
+    let before = moment_of g.W.ByteOut.held g.R.ByteIn.ahead c.args.port.now in
+    let now = moment_of g.W.ByteOut.held g.R.ByteIn.ahead c.loop-done.port in
+    let after = moment_of g.W.ByteOut.held g.R.ByteIn.ahead c.follow_row.new.port in
     let parts : steps ≡ front ++ (row ++ rest) =
     sym (ap (λ (l : List Step). front ++ l) (take-append-drop c.row_of-count.result left ∙ whole) ∙ take-append-drop c.loop-done.done steps) in
     let counted : c.loop-done.done + c.in-Err.halt.step ≡ length front + c.in-Err.halt.step =
@@ -87,19 +82,8 @@ returns-in-Err-clause-done g c =
     (same_bounds c.args.meaning.now c.args.port.now.limits c.loop-done.port.limits c.args.port.now.turns c.loop-done.port.turns now after row
     c.in-Err.halt c.loop-done.invariant.limits c.loop-done.invariant.turns c.in-Err.ensures.done)
 
-pub returns-in-Err-clause-failures : goal.returns-in-Err-clause-failures
-returns-in-Err-clause-failures g c = (
-  tt,
-  omega (arith, c.in-Err.ensures.failures.0, c.loop-done.invariant.count),
-  c.in-Err.ensures.kept.0 ∙ c.loop-done.invariant.limits,
-  counts_after (g.R.ByteIn.count c.args.port.now.from) (g.R.ByteIn.count c.loop-done.port.from) (g.R.ByteIn.count c.follow_row.new.port.from)
-      (g.W.ByteOut.count c.args.port.now.to) (g.W.ByteOut.count c.loop-done.port.to) (g.W.ByteOut.count c.follow_row.new.port.to) (fault_of_failure c.in-Err.halt.why)
-      c.loop-done.invariant.none c.in-Err.ensures.failures.4,
-)
-
-pub returns-clause-failures : goal.returns-clause-failures
-returns-clause-failures g c =
-    (c.loop-done.invariant.count, omega (arith, c.loop-done.invariant.count), c.loop-done.invariant.limits, c.loop-done.invariant.none)
+pub returns-in-Err-clause-limits : goal.returns-in-Err-clause-limits
+returns-in-Err-clause-limits g c = c.in-Err.ensures.kept.0 ∙ c.loop-done.invariant.limits
 
 pub loop-done-preserved : goal.loop-done-preserved
 loop-done-preserved g c =
@@ -108,9 +92,9 @@ loop-done-preserved g c =
     let whole : left ≡ drop c.loop-done.done steps = all_left_over c.loop-done.done steps in
     let row : List Step = take c.row_of-count.result left in
     let rest : List Step = drop c.row_of-count.result left in
-    let before = moment_of c.args.port.now in
-    let now = moment_of c.loop-done.port in
-    let after = moment_of c.follow_row.new.port in
+    let before = moment_of g.W.ByteOut.held g.R.ByteIn.ahead c.args.port.now in
+    let now = moment_of g.W.ByteOut.held g.R.ByteIn.ahead c.loop-done.port in
+    let after = moment_of g.W.ByteOut.held g.R.ByteIn.ahead c.follow_row.new.port in
     let one = done_bounds c.args.port.now.limits c.loop-done.port.limits c.args.port.now.turns c.loop-done.port.turns now after row
     c.loop-done.invariant.limits c.loop-done.invariant.turns c.in_default.ensures.done in
     let few : c.row_of-count.result ≤ length left = c.row_of-count.ensures.within in
@@ -130,15 +114,10 @@ loop-done-preserved g c =
           (goes_through c.args.port.now.limits c.args.port.now.turns now after row rest d one
           (subst (λ (l : List Step). played c.loop-done.port.chip.setting 1 c.loop-done.port.chip.chip l ≡ Ok d) (sym (take-append-drop c.row_of-count.result left ∙ whole))
           (c.loop-done.invariant.rest d goes)));
-      fresh = c.in_default.ensures.failures.1;
-      count = c.in_default.ensures.failures.2 ∙ c.loop-done.invariant.count;
-      none = counts_after (g.R.ByteIn.count c.args.port.now.from) (g.R.ByteIn.count c.loop-done.port.from) (g.R.ByteIn.count c.follow_row.new.port.from)
-          (g.W.ByteOut.count c.args.port.now.to) (g.W.ByteOut.count c.loop-done.port.to) (g.W.ByteOut.count c.follow_row.new.port.to) None
-          c.loop-done.invariant.none c.in_default.ensures.failures.4;
+      fresh = c.in_default.ensures.fresh;
       limits = c.in_default.ensures.kept.0 ∙ c.loop-done.invariant.limits;
       turns = c.in_default.ensures.kept.1 ∙ c.loop-done.invariant.turns;
       room = c.in_default.ensures.kept.2 ∙ c.loop-done.invariant.room;
-      told = c.row_done-in-loop-done.ensures.room;
       come = subst (λ (n : ℕ). HasCome steps (c.loop-done.done + n) c.row_done-in-loop-done.new.self held (g.P.ByteOut.held c.row_done-in-loop-done.new.out) count
           (g.P.ByteOut.count c.row_done-in-loop-done.new.out)) (length-take-le c.row_of-count.result left few)
           (c.row_done-in-loop-done.ensures.moves steps c.loop-done.done held count c.loop-done.invariant.come (next_of steps c.loop-done.done c.row_of-count.result c.loop-done.invariant.within));

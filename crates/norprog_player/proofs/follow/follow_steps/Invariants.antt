@@ -1,8 +1,6 @@
 -- The steps so far were done, and what is left goes well.
 use Rattle.std.proofs.Common.{◌≡◌, ◌≤◌, ◌-◌, None, take, drop, length}
-use Rattle.nor_progress.specs.Far.{HasRoom}
 use Rattle.nor_progress.specs.Come.{HasCome}
-use Rattle.norprog_device.specs.Blame.{CountsBoth}
 use Rattle.norprog_player.specs.Moment.{DoesAll}
 use Rattle.norprog_player.specs.Port.{moment_of}
 use Rattle.norprog_player.proofs.FollowedLemmas.{GoesOn}
@@ -11,16 +9,13 @@ use Rattle.norprog_player.proofs.follow.follow_steps.Given as goal
 abbrev pub invariant-loop-done : goal.invariant-loop-done
 invariant-loop-done g l = record {
   within : l.done ≤ length l.steps;
-  does : DoesAll l.fn.port.limits l.fn.port.turns (moment_of l.fn.port)
-      (take l.done l.steps) (moment_of l.port);
+  does : DoesAll l.fn.port.limits l.fn.port.turns (moment_of g.W.ByteOut.held g.R.ByteIn.ahead l.fn.port)
+      (take l.done l.steps) (moment_of g.W.ByteOut.held g.R.ByteIn.ahead l.port);
   rest : GoesOn l.fn.port.chip l.steps l.port.chip (drop l.done l.steps);
   fresh : l.port.reason ≡ None;
-  count : l.port.failed ≡ l.fn.port.failed;
-  none : CountsBoth (g.R.ByteIn.count l.fn.port.from) (g.R.ByteIn.count l.port.from) (g.W.ByteOut.count l.fn.port.to) (g.W.ByteOut.count l.port.to) None;
   limits : l.port.limits ≡ l.fn.port.limits;
   turns : l.port.turns ≡ l.fn.port.turns;
   room : length l.room ≡ length l.fn.room;
-  told : HasRoom l.far (g.P.ByteOut.count l.progress);
   come : HasCome l.steps l.done l.far (g.P.ByteOut.held l.fn.progress) (g.P.ByteOut.held l.progress) (g.P.ByteOut.count l.fn.progress)
       (g.P.ByteOut.count l.progress);
 }

@@ -1,9 +1,9 @@
 -- One after the other.
 use Rattle.std.proofs.Common.{◌∙◌, ap, refl}
 use Rattle.nor_base.proofs.FaultLaws.{handed_on}
-use Rattle.norprog_device.specs.Wire.{wire}
+use Rattle.norprog_common.specs.Wire.{wire}
 use Rattle.norprog_read.specs.Came.{HidesLine, ShowsLine}
-use Rattle.norprog_read.specs.Size.{asked_register}
+use Rattle.norprog_read.specs.Size.{asked_register, noted_size}
 use Rattle.norprog_read.specs.Stops.{AtContent, AtEnd, AtFile, AtId, AtLine, AtMeaning, AtMode, AtPast, AtRegister, AtSize, AtStatus, AtTables, OtherId, StopsChip, Unexpected}
 use Rattle.norprog_read.proofs.CameLemmas.{read_as}
 use Rattle.norprog_read.proofs.ChipLemmas.{end_is, ended, held, identified, known, made, ops_are, ready, way_is}
@@ -51,9 +51,11 @@ pub returns-in_err-see_size-clause-stops : goal.returns-in_err-see_size-clause-s
 returns-in_err-see_size-clause-stops g c =
     let u1 = wire (g.W.ByteOut.held c.ask_status.new.to) (g.R.ByteIn.ahead c.ask_status.new.from) in
     let u2 = wire (g.W.ByteOut.held c.ask_id.new.to) (g.R.ByteIn.ahead c.ask_id.new.from) in
+    let means = rw c.as_slice.ensures.value at c.in_ok-meaning.ensures.means in
     handed_on (StopsChip _ _ _ _) _ c.in_err-see_size.field-0.0 c.from_residual-in_err-see_size.ensures.1
     (AtSize (known u2 (identified {w = u2} u1 _ c.in_ok-id.id c.in_ok-first.ensures.status c.in_ok-id.ensures.id c.in_ok-id.ensures.driven
-    c.in_ok-see_id.ensures.expected) c.in_ok-tables.ensures.tables c.in_ok-tables.ensures.alike) _ (rw c.as_slice-2.ensures.value at c.in_err-see_size.ensures.other))
+    c.in_ok-see_id.ensures.expected) c.in_ok-tables.ensures.tables c.in_ok-tables.ensures.alike) c.in_ok-meaning.meaning _ means
+    (rw c.as_slice-2.ensures.value at c.in_err-see_size.ensures.other))
 
 pub returns-in_err-status-clause-stops : goal.returns-in_err-status-clause-stops
 returns-in_err-status-clause-stops g c =
@@ -248,7 +250,7 @@ returns-clause-read g c =
       first = c.in_ok-first.first;
       idle = c.in_ok-first.ensures.status;
       id = c.in_ok-id.ensures.id;
-      note = c.noted_size.ensures;
+      note = c.noted_size.ensures ∙ ap (λ said. noted_size said c.in_ok-id.id) c.said_size.ensures;
       driven = c.in_ok-id.ensures.driven;
       expected = c.in_ok-see_id.ensures.expected;
       tables = c.in_ok-tables.ensures.tables;

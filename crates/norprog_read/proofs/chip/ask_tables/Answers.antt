@@ -3,10 +3,10 @@ use Rattle.std.proofs.Common.{◌≡◌, ◌∙◌, ◌&&◌, Bool, true, false,
 use Rattle.nor_base.proofs.FaultLaws.{handed_on}
 use Rattle.nor_reader.specs.declared.tables.TablesFault.{TablesFault}
 use Rattle.nor_reader.specs.declared.tables.TablesFault.TheVariants.{Memory, NoSignature, Unread}
-use Rattle.norprog_read.specs.Chip.{is_uniform, is_unsigned, Come, Unsigned}
+use Rattle.norprog_read.specs.Chip.{lacks_tables, is_unsigned, Come, Unsigned}
 use Rattle.norprog_read.specs.Stops.{Other, StopsAsked, Uncome}
 use Rattle.norprog_read.proofs.chip.ask_tables.Goals as goal
-use Rattle.norprog_read.proofs.chip.ask_tables.Goals.{else-is_uniform-via-then-is_uniform+else-is_unsigned, else-is_uniform-via-else-is_uniform}
+use Rattle.norprog_read.proofs.chip.ask_tables.Goals.{else-lacks_tables-via-then-lacks_tables+else-is_unsigned, else-lacks_tables-via-else-lacks_tables}
 
 pub returns-in_err-compare_known-in-Ok-clause-stops : goal.returns-in_err-compare_known-in-Ok-clause-stops
 returns-in_err-compare_known-in-Ok-clause-stops g c =
@@ -31,12 +31,12 @@ none_signed (Unread why) is = cc
 pub returns-then-is_unsigned-clause-tables : goal.returns-then-is_unsigned-clause-tables
 returns-then-is_unsigned-clause-tables g c =
     let none = none_signed c.in-Err.why (sym c.is_unsigned.ensures ∙ c.if-is_unsigned.true) in
-    rw c.new.ensures.items (Unsigned (sym c.is_uniform.ensures ∙ c.if-is_uniform.true) (rw none at c.in-Err.ensures.tables))
+    rw c.new.ensures.items (Unsigned (sym c.lacks_tables.ensures ∙ c.if-lacks_tables.true) (rw none at c.in-Err.ensures.tables))
 
-pub returns-else-is_uniform-clause-stops : goal.returns-else-is_uniform-clause-stops
-returns-else-is_uniform-clause-stops g c =
-    Uncome c.in-Err.why _ c.in-Err.ensures.tables c.stop_of.ensures (elim c.else-is_uniform.branch [
-      | else-is_uniform-via-then-is_uniform+else-is_unsigned w ↦
-          ap (λ (b : Bool). is_uniform c.args.ask.now.known && b) (sym w.is_unsigned.ensures ∙ w.if-is_unsigned.false) ∙ and_false (is_uniform c.args.ask.now.known)
-      | else-is_uniform-via-else-is_uniform w ↦ ap (λ (b : Bool). b && is_unsigned c.in-Err.why) (sym c.is_uniform.ensures ∙ w.if-is_uniform.false)
+pub returns-else-lacks_tables-clause-stops : goal.returns-else-lacks_tables-clause-stops
+returns-else-lacks_tables-clause-stops g c =
+    Uncome c.in-Err.why _ c.in-Err.ensures.tables c.stop_of.ensures (elim c.else-lacks_tables.branch [
+      | else-lacks_tables-via-then-lacks_tables+else-is_unsigned w ↦
+          ap (λ (b : Bool). lacks_tables c.args.ask.now.known && b) (sym w.is_unsigned.ensures ∙ w.if-is_unsigned.false) ∙ and_false (lacks_tables c.args.ask.now.known)
+      | else-lacks_tables-via-else-lacks_tables w ↦ ap (λ (b : Bool). b && is_unsigned c.in-Err.why) (sym c.lacks_tables.ensures ∙ w.if-lacks_tables.false)
     ])

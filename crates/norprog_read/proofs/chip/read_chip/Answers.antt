@@ -1,5 +1,5 @@
 -- Whatever the result, what was sent is harmless.
-use Rattle.norprog_device.specs.Wire.{wire}
+use Rattle.norprog_common.specs.Wire.{wire}
 use Rattle.norprog_read.proofs.HarmlessLemmas.{reading_sends}
 use Rattle.norprog_read.proofs.chip.read_chip.Goals as goal
 

@@ -1,7 +1,7 @@
 -- The content that came twice is known.
 use Rattle.std.proofs.Common.{◌≡◌, ◌≤◌, ◌∙◌, ◌^◌, true, false, length, refl, sym, arith}
 use Rattle.nor_base.proofs.FaultLaws.{handed_on}
-use Rattle.norprog_device.specs.Wire.{wire}
+use Rattle.norprog_common.specs.Wire.{wire}
 use Rattle.norprog_read.specs.Stops.{Hidden, Lost, NoMemory, Other, StopsContent, Unreadable}
 use Rattle.norprog_read.specs.Way.{first_by, is_readable, second_by, IsShownBy}
 use Rattle.norprog_read.proofs.ReadLemmas.{written}

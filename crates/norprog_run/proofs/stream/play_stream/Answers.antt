@@ -1,9 +1,11 @@
 -- The script is read once, after the content.
 use Rattle.std.proofs.Common.{◌≡◌, refl, sym, ◌∙◌, ap, subst}
+use Rattle.nor_job.specs.Written.{passed}
+use Rattle.norprog_run.specs.Play.{play_of}
 use Rattle.nor_base.proofs.FaultLaws.{handed_on}
 use Rattle.norprog_common.specs.Content.{StopsReading}
 use Rattle.norprog_run.specs.declared.kind.Kind.{Kind}
-use Rattle.norprog_run.specs.Stream.{Blames, NoChip, Unplayed, play_of}
+use Rattle.norprog_run.specs.Stream.{Blames, NoChip, Unplayed}
 use Rattle.norprog_run.proofs.StreamLemmas.{all_blames, content_blames, content_refused, paged_blames, plays_all, refuses_all, script_blames, script_refused}
 use Rattle.norprog_run.proofs.stream.play_stream.Goals as goal
 
@@ -12,7 +14,7 @@ returns-in_err-kind-clause-unplayed g c =
     let before = g.R.ByteIn.ahead c.args.content.now in
     let held = g.W.ByteOut.held c.args.out.now in
     let script = g.A.ByteIn.ahead c.args.script.now in
-    handed_on (Unplayed (play_of c.args.inputs.now c.args.bench c.args.len before before held held) script script) _ _ c.from_residual.ensures.1
+    handed_on (Unplayed (play_of c.args.inputs.now c.args.bench c.args.len (passed before before held held)) script script) _ _ c.from_residual.ensures.1
     (NoChip _ c.in_err-kind.ensures.refused refl refl)
 
 pub returns-in_err-kind-clause-blamed : goal.returns-in_err-kind-clause-blamed
@@ -39,7 +41,7 @@ returns-in-Ok-clause-unplayed g c =
 
 pub returns-in-Ok-clause-blamed : goal.returns-in-Ok-clause-blamed
 returns-in-Ok-clause-blamed g c =
-    all_blames _ _ _ _ _ _ _ _ _ _ _ _ c.play_on.result c.play_on.ensures.stopped c.play_on.ensures.counts.0 c.play_on.ensures.counts.1
+    all_blames _ _ _ _ _ _ _ c.play_on.result c.play_on.ensures.stopped c.play_on.ensures.counts.0 c.play_on.ensures.counts.1
 
 -- it wasn't, and the script has a fault
 pub returns-in_err-check_script-in-Err-clause-unplayed : goal.returns-in_err-check_script-in-Err-clause-unplayed

@@ -14,9 +14,8 @@ returns-in-Err-clause-refused g c =
     bad_listing c.args.inputs.now c.in_ok-meaning.meaning c.in_ok-meaning.start c.args.text.now c.in_ok-meaning.ensures.known c.in_ok-meaning.ensures.start
     (g.W.ByteOut.held c.args.out.now) c.in-Err.fault c.refusal_of.result c.in-Err.ensures.refused c.refusal_of.ensures
 
-pub write_script-requires-clause-steps : goal.write_script-requires-clause-steps
-write_script-requires-clause-steps g c =
-    subst (AllByRecursion IsStep) (sym c.as_slice.ensures.value) (all_steps c.in-Ok.steps.items c.in-Ok.ensures.read.each.each)
+pub write_script-requires : goal.write_script-requires
+write_script-requires g c = record { steps = subst (AllByRecursion IsStep) (sym c.as_slice.ensures.value) (all_steps c.in-Ok.steps.items c.in-Ok.ensures.read.each.each) }
 
 pub returns-in-Ok-write_script-clause-written : goal.returns-in-Ok-write_script-clause-written
 returns-in-Ok-write_script-clause-written g c =

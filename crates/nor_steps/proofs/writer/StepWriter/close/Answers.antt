@@ -12,9 +12,8 @@ use Rattle.nor_steps.proofs.writer.StepWriter.close.Goals as goal
 pub returns-in_err-instrs-clause-lines : goal.returns-in_err-instrs-clause-lines
 returns-in_err-instrs-clause-lines g c = adds_err _ _ _ _ c.from_residual.ensures.0 (begins_none _ _)
 
-pub take-requires-clause-narrow : goal.take-requires-clause-narrow
-take-requires-clause-narrow g c =
-    subst AreNarrow (sym c.deref.ensures.value) (narrow_are c.in_ok-instrs.instrs.items _ c.in_ok-instrs.ensures (thin_last c.self.inside.lowerer))
+pub take-requires : goal.take-requires
+take-requires g c = record { narrow = subst AreNarrow (sym c.deref.ensures.value) (narrow_are c.in_ok-instrs.instrs.items _ c.in_ok-instrs.ensures (thin_last c.self.inside.lowerer)) }
 
 pub returns-in_err-take-clause-lines : goal.returns-in_err-take-clause-lines
 returns-in_err-take-clause-lines g c =

@@ -18,17 +18,19 @@ returns-in_err-units-clause-stopped g c =
     (subst (λ (by : Strategy). Refuses c.meaning-meaning.result.now by c.args.at c.args.have.now c.args.want.now c.in_err-units.field-0.0)
     (c.strategy.ensures ∙ ap (λ (w : Writing). w.streaming.by) c.self.view_is) c.in_err-units.ensures.fault)))
 
-pub write_units-requires-clause-planned : goal.write_units-requires-clause-planned
-write_units-requires-clause-planned g c =
-    let meaning = c.meaning-meaning.ensures ∙ ap (λ (w : Writing). w.streaming.meaning) c.self.view_is in
-    record {
-      law = c.erased_blocks.ensures.blocks;
-      accepted = subst IsAccepted meaning c.acceptance.ensures;
-      window = c.requires.window;
-      lengths = c.requires.lengths;
-      plan =
-          subst (IsPlan c.args.self.now.streaming.meaning c.args.self.now.streaming.by c.args.at c.args.have.now c.args.want.now) (sym c.deref.ensures.value)
-          (subst (λ (m : Parameters). IsPlan m c.args.self.now.streaming.by c.args.at c.args.have.now c.args.want.now c.in_ok-units.units.items) meaning
-          (subst (λ (by : Strategy). IsPlan c.meaning-meaning.result.now by c.args.at c.args.have.now c.args.want.now c.in_ok-units.units.items)
-          (c.strategy.ensures ∙ ap (λ (w : Writing). w.streaming.by) c.self.view_is) c.in_ok-units.ensures.plan));
-    }
+pub write_units-requires : goal.write_units-requires
+write_units-requires g c = record {
+  planned =
+      let meaning = c.meaning-meaning.ensures ∙ ap (λ (w : Writing). w.streaming.meaning) c.self.view_is in
+      record {
+        law = c.erased_blocks.ensures.blocks;
+        accepted = subst IsAccepted meaning c.acceptance.ensures;
+        window = c.requires.window;
+        lengths = c.requires.lengths;
+        plan =
+            subst (IsPlan c.args.self.now.streaming.meaning c.args.self.now.streaming.by c.args.at c.args.have.now c.args.want.now) (sym c.deref.ensures.value)
+            (subst (λ (m : Parameters). IsPlan m c.args.self.now.streaming.by c.args.at c.args.have.now c.args.want.now c.in_ok-units.units.items) meaning
+            (subst (λ (by : Strategy). IsPlan c.meaning-meaning.result.now by c.args.at c.args.have.now c.args.want.now c.in_ok-units.units.items)
+            (c.strategy.ensures ∙ ap (λ (w : Writing). w.streaming.by) c.self.view_is) c.in_ok-units.ensures.plan));
+      };
+}
