@@ -66,9 +66,9 @@ const LEGEND: &[u8] = b"<g transform=\"translate(1560 112)\">
 <path class=\"g\" d=\"M1 129h78v18h-78z\"/>
 <text x=\"96\" y=\"143\">a region</text>
 <g class=\"b\"><path d=\"M1 157h78v18h-78z\"/></g>
-<text x=\"96\" y=\"171\">an erased block; beside it its</text>
-<text x=\"96\" y=\"187\">size, address, and the first</text>
-<text x=\"96\" y=\"203\">byte that it is erased for</text>
+<text x=\"96\" y=\"171\">an erased block; beside it:</text>
+<text x=\"96\" y=\"187\">size, address, the first byte</text>
+<text x=\"96\" y=\"203\">it is erased for; +n: n more</text>
 <text y=\"235\">the chip: ~</text>
 <text y=\"251\">a cell: ~, a row: ~</text>
 <text y=\"271\">";

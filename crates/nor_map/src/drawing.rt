@@ -7,7 +7,7 @@ ghost use Rattle.nor_map.specs.Totals.{Prints, totals_text};
 use crate::beside::{Title, put_beside, put_list, put_title};
 use crate::labels::put_labels;
 use crate::marks::PlanMarks;
-use crate::part::Part::{Number, Own};
+use crate::part::Part::{Number, Own, Side};
 use crate::part::put;
 use crate::rows::Grid;
 use crate::state::State;
@@ -26,12 +26,14 @@ path{fill:none}
 .h{font-size:11px;fill:#555}
 .a{text-anchor:end;fill:#555}
 .n{font-weight:bold}
+.r{font-size:11px}
 .k{stroke:url(#K)}
 .e{stroke:url(#E)}
 .w{stroke:url(#W)}
 .c{stroke:url(#C)}
 .o{fill:#e6e6e6}
-.b path{fill:#fff;fill-opacity:0;stroke:#d00;stroke-width:1.5}
+.b{stroke-width:1.5}
+.b path{fill:#fff;fill-opacity:0;stroke:#d00}
 .b path:hover{fill-opacity:.5}
 .g{stroke:#000;stroke-dasharray:6 4}
 </style>
@@ -262,11 +264,12 @@ fn put_folds(out: &mut Vec<u8>, grid: &Grid) -> Result<(), AllocError> {
 
 /// Puts the outline of each erased block, with its cause as its title.
 fn put_blocks(out: &mut Vec<u8>, marks: &PlanMarks<'_>, grid: &Grid) -> Result<(), AllocError> {
-    put(out, b"<g class=\"b\">\n", &[])?;
+    let thick = Own(thickness(grid));
+    put(out, b"<g class=\"b\" style=\"stroke-width:~\">\n", &[thick])?;
     for block in &marks.outlined {
         let last = block.start.saturating_add(block.size.saturating_sub(1));
         put(out, b"<path d=\"", &[])?;
-        put_outline(out, marks, grid, block.start, last)?;
+        put_outline(out, marks, grid, (block.start, last), 0)?;
         put(out, b"\"><title>~~~~~</title></path>\n", &block.told())?;
     }
     put(out, b"</g>\n", &[])
@@ -281,33 +284,68 @@ fn put_regions(
 ) -> Result<(), AllocError> {
     put(out, b"<path class=\"g\" d=\"", &[])?;
     for region in regions {
-        put_outline(out, marks, grid, region.start, region.end)?;
+        let beyond = beyond_sides(regions, region);
+        put_outline(out, marks, grid, (region.start, region.end), beyond)?;
     }
     put(out, b"\"/>\n</g>\n", &[])
 }
 
-/// Puts the outline of the cells that hold the addresses from `start` to `end`, as far as they are
-/// the chip's.
+/// How thick the outlines of blocks are: of small cells so thin that these show.
+fn thickness(grid: &Grid) -> &'static [u8] {
+    match grid.down() {
+        0..=4 => b".4",
+        5..=8 => b".8",
+        _ => b"1.5",
+    }
+}
+
+/// How far beside the map the sides of a region are that has others in it, so that theirs show.
+fn beyond_sides(regions: &[Region<'_>], region: &Region<'_>) -> u64 {
+    if !regions.iter().any(|other| has_inside(region, other)) {
+        return 0;
+    }
+    let around = regions
+        .iter()
+        .filter(|other| has_inside(other, region))
+        .count();
+    match around {
+        0 => 6,
+        1 => 4,
+        _ => 2,
+    }
+}
+
+/// Whether a region has all of another one, and more.
+fn has_inside(region: &Region<'_>, other: &Region<'_>) -> bool {
+    region.start <= other.start
+        && other.end <= region.end
+        && (region.start, region.end) != (other.start, other.end)
+}
+
+/// Puts the outline of the cells that hold the addresses from the first to the last of `ends`, as
+/// far as they are the chip's: at the sides of the map so far beside it.
 fn put_outline(
     out: &mut Vec<u8>,
     marks: &PlanMarks<'_>,
     grid: &Grid,
-    start: u32,
-    end: u32,
+    ends: (u32, u32),
+    beyond: u64,
 ) -> Result<(), AllocError> {
-    let first = start / marks.cell;
-    let last = (end / marks.cell).min(marks.count().saturating_sub(1));
+    let first = ends.0 / marks.cell;
+    let last = (ends.1 / marks.cell).min(marks.count().saturating_sub(1));
     if last < first {
         return Ok(());
     }
-    let (begin, ends) = (first / grid.columns, last / grid.columns);
-    let left = Number(u64::from(first % grid.columns) * u64::from(grid.across()));
-    let right = Number(u64::from(last % grid.columns + 1) * u64::from(grid.across()));
+    let (begin, end) = (first / grid.columns, last / grid.columns);
+    let across = u64::from(grid.across());
+    let left = Side(u64::from(first % grid.columns) * across, beyond);
+    let right = Side(u64::from(last % grid.columns + 1) * across, beyond);
     let (high, under) = (Number(grid.above(begin)), Number(grid.under(begin)));
-    let (bottom, low) = (Number(grid.above(ends)), Number(grid.under(ends)));
-    if grid.top(begin) == grid.top(ends) {
+    let (bottom, low) = (Number(grid.above(end)), Number(grid.under(end)));
+    if grid.top(begin) == grid.top(end) {
         return put(out, b"M~ ~H~V~H~z", &[left, high, right, under, left]);
     }
-    let parts = [left, high, bottom, right, low, under, left];
-    put(out, b"M~ ~H1024V~H~V~H0V~H~z", &parts)
+    let (west, east) = (Side(0, beyond), Side(1024, beyond));
+    let parts = [left, high, east, bottom, right, low, west, under, left];
+    put(out, b"M~ ~H~V~H~V~H~V~H~z", &parts)
 }

@@ -16,6 +16,8 @@ pub(crate) fn put_labels(
     grid: &Grid,
     regions: &[Region<'_>],
 ) -> Result<(), AllocError> {
+    let middle = (slot_top(grid, 1) / 2).saturating_add(5);
+    let below = Number(middle.saturating_add(112));
     put(
         out,
         b"<g class=\"h\" transform=\"translate(96 106)\">\n",
@@ -24,23 +26,27 @@ pub(crate) fn put_labels(
     put_offsets(out, marks, grid)?;
     put(
         out,
-        b"</g>\n<g class=\"a\" transform=\"translate(88 125)\">\n",
-        &[],
+        b"</g>\n<g class=\"a\" transform=\"translate(84 ~)\">\n",
+        &[below],
     )?;
     put_addresses(out, marks, grid)?;
     put(
         out,
-        b"</g>\n<g class=\"f\" transform=\"translate(608 125)\">\n",
-        &[],
+        b"</g>\n<g class=\"f\" transform=\"translate(608 ~)\">\n",
+        &[below],
     )?;
     put_fold_sizes(out, marks, grid)?;
-    put(out, b"</g>\n<svg x=\"1128\" y=\"112\" width=\"150\">", &[])?;
-    put(out, b"<g class=\"n\" transform=\"translate(0 13)\">\n", &[])?;
+    put(out, b"</g>\n<svg x=\"1132\" y=\"112\" width=\"146\">", &[])?;
+    put(
+        out,
+        b"<g class=\"n\" transform=\"translate(0 ~)\">\n",
+        &[Number(middle)],
+    )?;
     put_names(out, marks, grid, regions)?;
     put(
         out,
-        b"</g></svg>\n<g transform=\"translate(1286 125)\">\n",
-        &[],
+        b"</g></svg>\n<g class=\"r\" transform=\"translate(1286 ~)\">\n",
+        &[below],
     )?;
     put_causes(out, marks, grid)?;
     put(out, b"</g>\n", &[])
@@ -58,12 +64,14 @@ fn put_offsets(out: &mut Vec<u8>, marks: &PlanMarks<'_>, grid: &Grid) -> Result<
     Ok(())
 }
 
-/// Puts the addresses of the lines at whose height there is a place for a text.
+/// Puts the addresses of the lines that are far enough below the last text.
 fn put_addresses(out: &mut Vec<u8>, marks: &PlanMarks<'_>, grid: &Grid) -> Result<(), AllocError> {
+    let mut free = 0;
     for row in 0..grid.rows() {
-        if grid.begins_line(row) && grid.top(row) % fold_height(grid.columns) == 0 {
+        if grid.begins_line(row) && grid.top(row) >= free {
             let parts = [Number(grid.above(row)), Address(begin_of(marks, grid, row))];
             put(out, b"<text y=\"~\">~</text>\n", &parts)?;
+            free = grid.top(row).saturating_add(fold_height(grid.columns));
         }
     }
     Ok(())
@@ -95,9 +103,10 @@ fn put_fold_sizes(out: &mut Vec<u8>, marks: &PlanMarks<'_>, grid: &Grid) -> Resu
     Ok(())
 }
 
-/// The place for a text that has the first cell of an address, counted from the top.
+/// The first place for a text beside the row of an address or below, counted from the top.
 fn slot(marks: &PlanMarks<'_>, grid: &Grid, address: u32) -> u32 {
-    grid.top(address / marks.cell / grid.columns) / fold_height(grid.columns)
+    grid.top(address / marks.cell / grid.columns)
+        .div_ceil(fold_height(grid.columns))
 }
 
 /// Where a place for a text is.
@@ -113,7 +122,7 @@ fn put_names(
     grid: &Grid,
     regions: &[Region<'_>],
 ) -> Result<(), AllocError> {
-    for place in 0..grid.high / fold_height(grid.columns) + 1 {
+    for place in 0..grid.high / fold_height(grid.columns) + 2 {
         if regions
             .iter()
             .any(|region| slot(marks, grid, region.start) == place)

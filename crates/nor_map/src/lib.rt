@@ -1,5 +1,5 @@
 //! What a plan does to the cells of a chip, and the map of it: an image for any browser.
-//! `docs/FORMATS.md`, "Map", has them.
+//! `docs/FORMATS.md`, "Maps", has them.
 //!
 //! [`PlanMarks`] takes a plan's lines piece after piece and knows the state of each cell;
 //! [`draw_map`] draws them. [`laws`] says that a folded line hides nothing, and [`worked`] has

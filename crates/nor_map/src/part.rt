@@ -14,6 +14,9 @@ pub(crate) enum Part<'a> {
     Any(&'a [u8]),
     /// A number in decimal.
     Number(u64),
+    /// How far from the left of the map an edge of an outline is: at the map's sides, which are
+    /// 1024 apart, the second number further outwards.
+    Side(u64, u64),
     /// An address as eight hexadecimal digits.
     Address(u32),
     /// An offset as four hexadecimal digits, or six.
@@ -46,6 +49,7 @@ fn put_part(out: &mut Vec<u8>, part: Option<&Part<'_>>) -> Result<(), AllocError
         Part::Own(bytes) => out.extend_from_slice(bytes),
         Part::Any(bytes) => put_any(out, bytes),
         Part::Number(number) => put_number(out, number),
+        Part::Side(x, beyond) => put_side(out, x, beyond),
         Part::Address(address) => out.extend_from_slice(&hex_number(address)),
         Part::Offset(offset) => put_offset(out, offset),
         Part::Size(bytes) => put_size(out, bytes),
@@ -55,6 +59,18 @@ fn put_part(out: &mut Vec<u8>, part: Option<&Part<'_>>) -> Result<(), AllocError
 /// Puts a number in decimal.
 fn put_number(out: &mut Vec<u8>, number: u64) -> Result<(), AllocError> {
     out.extend_from_slice(Buffer::new().format(number).as_bytes())
+}
+
+/// Puts the place of an edge.
+fn put_side(out: &mut Vec<u8>, x: u64, beyond: u64) -> Result<(), AllocError> {
+    match x {
+        0 if beyond > 0 => {
+            out.push(b'-')?;
+            put_number(out, beyond)
+        }
+        1024 => put_number(out, beyond.saturating_add(1024)),
+        _ => put_number(out, x),
+    }
 }
 
 /// Puts an offset.
