@@ -103,10 +103,9 @@ fn put_fold_sizes(out: &mut Vec<u8>, marks: &PlanMarks<'_>, grid: &Grid) -> Resu
     Ok(())
 }
 
-/// The first place for a text beside the row of an address or below, counted from the top.
+/// The place for a text that has the first cell of an address, counted from the top.
 fn slot(marks: &PlanMarks<'_>, grid: &Grid, address: u32) -> u32 {
-    grid.top(address / marks.cell / grid.columns)
-        .div_ceil(fold_height(grid.columns))
+    grid.top(address / marks.cell / grid.columns) / fold_height(grid.columns)
 }
 
 /// Where a place for a text is.
@@ -122,7 +121,7 @@ fn put_names(
     grid: &Grid,
     regions: &[Region<'_>],
 ) -> Result<(), AllocError> {
-    for place in 0..grid.high / fold_height(grid.columns) + 2 {
+    for place in 0..grid.high / fold_height(grid.columns) + 1 {
         if regions
             .iter()
             .any(|region| slot(marks, grid, region.start) == place)
