@@ -78,16 +78,20 @@ bash = $(DESTDIR)$(PREFIX)/share/bash-completion/completions/norprog
 zsh = $(DESTDIR)$(PREFIX)/share/zsh/site-functions/_norprog
 fish = $(DESTDIR)$(PREFIX)/share/fish/vendor_completions.d/norprog.fish
 bin = $(DESTDIR)$(PREFIX)/bin
+share = $(DESTDIR)$(PREFIX)/share/norprog
 
-# puts the program that was built, norprog-tty, the man page and the completions for bash, zsh and fish where PREFIX says, below DESTDIR
+# puts the program that was built, norprog-tty, the man page, the completions for bash, zsh and fish and the sheets where PREFIX says, below
+# DESTDIR
 install:
 	@test -x norprog || { echo "first: make build" >&2; exit 1; }
 	@dir=$$(mktemp -d) && tools/manual > $$dir/man && \
 	tools/completion bash > $$dir/bash && tools/completion zsh > $$dir/zsh && tools/completion fish > $$dir/fish && \
 	install -D norprog $(bin)/norprog && install -D tools/norprog-tty $(bin)/norprog-tty && \
 	install -D -m 644 $$dir/man $(man) && install -D -m 644 $$dir/bash $(bash) && \
-	install -D -m 644 $$dir/zsh $(zsh) && install -D -m 644 $$dir/fish $(fish); \
+	install -D -m 644 $$dir/zsh $(zsh) && install -D -m 644 $$dir/fish $(fish) && \
+	install -d $(share)/sheets && install -m 644 sheets/* $(share)/sheets; \
 	status=$$?; rm -rf "$$dir"; exit $$status
 
 uninstall:
-	rm -f $(bin)/norprog $(bin)/norprog-tty $(man) $(bash) $(zsh) $(fish)
+	rm -f $(bin)/norprog $(bin)/norprog-tty $(man) $(bash) $(zsh) $(fish) $(addprefix $(share)/,$(wildcard sheets/*))
+	test ! -d $(share) || rmdir --ignore-fail-on-non-empty $(share)/sheets $(share)
