@@ -1,6 +1,6 @@
 # README.md says what try, build and install are for, CONTRIBUTING.md the others.
 
-.PHONY: build try check test hooks edits refusals peers wire docs docs-check dist install uninstall
+.PHONY: build try check test hooks edits refusals peers trials wire docs docs-check dist install uninstall
 
 # proves the program and every crate that it stands on, side by side, has it do the sample job of one byte, and leaves it at
 # ./norprog
@@ -42,11 +42,18 @@ edits:
 refusals:
 	tools/refused-growths
 
-# norprog beside flashrom and sigrok-cli, over the device of tools/serprog-device, and then as wire has it; it proves nothing, and says
-# what it needs
+# norprog beside flashrom and sigrok-cli, over the device of tools/serprog-device, and then as wire has it; norprog on parts of QEMU; it
+# proves nothing, and says what it needs
 peers:
 	@tools/peers
+	@tools/parts
 	@tools/wire
+
+# random scripts and sheets, and what norprog makes of them, the same each time; it proves nothing
+trials:
+	tools/witnesses 10000
+	tools/inverse 10000
+	tools/sheet-inverse 10000
 
 # norprog and flashrom on a programmer of which a round trip takes 1 ms; it proves nothing
 wire:
