@@ -1,6 +1,6 @@
 # README.md says what try, build and install are for, CONTRIBUTING.md the others.
 
-.PHONY: build try check test hooks edits refusals peers wire docs docs-check dist install uninstall
+.PHONY: build try check test hooks edits refusals peers trials wire docs docs-check dist install uninstall
 
 # proves the program and every crate that it stands on, side by side, has it do the sample job of one byte, and leaves it at
 # ./norprog
@@ -42,11 +42,18 @@ edits:
 refusals:
 	tools/refused-growths
 
-# norprog beside flashrom and sigrok-cli, over the device of tools/serprog-device, and then as wire has it; it proves nothing, and says
-# what it needs
+# norprog beside flashrom and sigrok-cli, over the device of tools/serprog-device, and then as wire has it; norprog on parts of QEMU; it
+# proves nothing, and says what it needs
 peers:
 	@tools/peers
+	@tools/parts
 	@tools/wire
+
+# random scripts and sheets, and what norprog makes of them, the same each time; it proves nothing
+trials:
+	tools/witnesses 10000
+	tools/inverse 10000
+	tools/sheet-inverse 10000
 
 # norprog and flashrom on a programmer of which a round trip takes 1 ms; it proves nothing
 wire:
@@ -78,16 +85,20 @@ bash = $(DESTDIR)$(PREFIX)/share/bash-completion/completions/norprog
 zsh = $(DESTDIR)$(PREFIX)/share/zsh/site-functions/_norprog
 fish = $(DESTDIR)$(PREFIX)/share/fish/vendor_completions.d/norprog.fish
 bin = $(DESTDIR)$(PREFIX)/bin
+share = $(DESTDIR)$(PREFIX)/share/norprog
 
-# puts the program that was built, norprog-tty, the man page and the completions for bash, zsh and fish where PREFIX says, below DESTDIR
+# puts the program that was built, norprog-tty, the man page, the completions for bash, zsh and fish and the sheets where PREFIX says, below
+# DESTDIR
 install:
 	@test -x norprog || { echo "first: make build" >&2; exit 1; }
 	@dir=$$(mktemp -d) && tools/manual > $$dir/man && \
 	tools/completion bash > $$dir/bash && tools/completion zsh > $$dir/zsh && tools/completion fish > $$dir/fish && \
 	install -D norprog $(bin)/norprog && install -D tools/norprog-tty $(bin)/norprog-tty && \
 	install -D -m 644 $$dir/man $(man) && install -D -m 644 $$dir/bash $(bash) && \
-	install -D -m 644 $$dir/zsh $(zsh) && install -D -m 644 $$dir/fish $(fish); \
+	install -D -m 644 $$dir/zsh $(zsh) && install -D -m 644 $$dir/fish $(fish) && \
+	install -d $(share)/sheets && install -m 644 sheets/* $(share)/sheets; \
 	status=$$?; rm -rf "$$dir"; exit $$status
 
 uninstall:
-	rm -f $(bin)/norprog $(bin)/norprog-tty $(man) $(bash) $(zsh) $(fish)
+	rm -f $(bin)/norprog $(bin)/norprog-tty $(man) $(bash) $(zsh) $(fish) $(addprefix $(share)/,$(wildcard sheets/*))
+	test ! -d $(share) || rmdir --ignore-fail-on-non-empty $(share)/sheets $(share)
