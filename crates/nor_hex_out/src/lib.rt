@@ -13,4 +13,4 @@ mod writer;
 
 pub use image::{Unconverted, convert, fits};
 pub use laws::{parts_join, read_back, written_images};
-pub use writer::{write_data, write_end, write_hex};
+pub use writer::{hex_of, write_data, write_end, write_hex};

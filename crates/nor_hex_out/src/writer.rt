@@ -1,12 +1,13 @@
 //! The writer.
 
-ghost use Rattle.std.specs.Prelude.{◌≡◌, ◌+◌, ◌-◌, ◌≤◌, ◌%◌, ◌^◌, length};
+ghost use Rattle.std.specs.Prelude.{◌≡◌, ◌+◌, ◌-◌, ◌≤◌, ◌%◌, ◌^◌, length, IfOk};
 ghost use Rattle.nor_base.specs.Device.{Writes, Counts};
 ghost use Rattle.nor_hex_out.specs.Records.{end_record, record_text};
 ghost use Rattle.nor_hex_out.specs.Segments.{rows, image_records, text_of, hex_text};
 
 use crate::record::{ROW, put_record};
-use nor_base::{ByteOut, Failed};
+use nor_base::{ByteOut, Failed, IntoWrite};
+use std::alloc::Global;
 
 /// How many bytes a segment has.
 const SEGMENT: usize = 1 << 16;
@@ -29,6 +30,17 @@ pub fn write_hex<W: ByteOut>(at: u32, bytes: &[u8], out: &mut W) -> Result<(), F
         done = end;
     }
     write_end(out)
+}
+
+/// The whole text of bytes from an address on, as [`write_hex`] writes it. `Failed` where a growth
+/// of memory is refused.
+pub fn hex_of(alloc: Global, at: u32, bytes: &[u8]) -> Result<Vec<u8>, Failed>
+    requires fits { at + length bytes.now ≤ 2 ^ 32 }
+    ensures text { IfOk result (λ text. text.items ≡ hex_text at bytes.now) }
+{
+    let mut text = IntoWrite::new(Vec::new(alloc));
+    write_hex(at, bytes, &mut text)?;
+    Ok(text.into_inner())
 }
 
 /// How many addresses a segment has from this one on.

@@ -4,3 +4,4 @@ mod HeldLemmas
 pub mod TellsLemmas
 pub mod ReadingLemmas
 pub mod RulesLemmas
+mod ImageLemmas

@@ -14,10 +14,10 @@ use Rattle.nor_job.specs.Task.{Task}
 use Rattle.nor_job.specs.declared.job.Job.{Job}
 use Rattle.nor_layout.specs.Region.{Region}
 use Rattle.nor_target.specs.Shares.{chosen_regions, first_empty, region_named}
-use Rattle.norprog_common.specs.Rules.{AreFilled, BreaksRules, Empty, Gapped, HasAll, IsFilled, IsFirstOutside, IsGap, IsGiven, IsNextMissing, IsStray, LacksPart, Landless, LiesInside, MeetsRules, Straying, lands, lands_in}
+use Rattle.norprog_common.specs.Rules.{AreFilled, BreaksRules, Empty, Gapped, HasAll, IsFilled, IsFirstOutside, IsGap, IsGiven, IsNextMissing, IsStray, LacksPart, Landless, LiesInside, MeetsRules, Straying, Unlike, lands, lands_in}
 use Rattle.norprog_common.specs.declared.faults.Gap.{Gap}
 use Rattle.norprog_common.specs.declared.faults.Refusal.{Refusal}
-use Rattle.norprog_common.specs.declared.faults.Refusal.TheVariants.{Beyond, EmptyRegion, Nowhere, Partial}
+use Rattle.norprog_common.specs.declared.faults.Refusal.TheVariants.{Beyond, BinLength, EmptyRegion, Nowhere, Partial}
 use Rattle.norprog_common.specs.declared.faults.Stray.{Stray}
 use Rattle.norprog_common.specs.declared.rules.ImageRules.{ImageRules}
 
@@ -155,6 +155,14 @@ lands_so {t} {len} {job} {its} so chose found = record {
       (subst (λ (rs : List Region). lands_in (byte_at job.image) job.base job.meaning.size rs ≡ so) chose.is found);
 }
 
+pub breaks_length : {rules : ImageRules} {t : Task} {len : ℕ} {job : Job} (its : IsJob t len job) (why : Refusal)
+    → (why ≡ BinLength (record { given = length job.image; wanted = job.meaning.size })) × (rules.exact ≡ true) × (length job.image ≢ job.meaning.size)
+    → BreaksRules rules t len why
+breaks_length {rules} {t} {len} {job} its why (told, asked, other) =
+    subst (BreaksRules rules t len) (sym told)
+    (Unlike (length job.image) job.meaning.size asked
+    (has_all its (λ b image size. (length job.image ≡ length image) × (job.meaning.size ≡ size) × (length job.image ≢ job.meaning.size)) (refl, refl, other)))
+
 pub breaks_empty : {rules : ImageRules} {t : Task} {len : ℕ} {job : Job} {its : IsJob t len job} {chosen : List Region} (why : Refusal) → Chose job its chosen
     → (index : ℕ) × (why ≡ EmptyRegion index) × (rules.strict ≡ true) × (first_empty (byte_at job.image) job.base job.meaning.size chosen ≡ Some index)
     → BreaksRules rules t len why
@@ -172,11 +180,13 @@ breaks_landless {rules} {t} {len} why chose (told, asked, found) =
     subst (BreaksRules rules t len) (sym told) (Landless asked (lands_so false chose found))
 
 pub meets_rules : {rules : ImageRules} {t : Task} {len : ℕ} {job : Job} {its : IsJob t len job} {chosen : List Region} → Chose job its chosen
+    → (rules.exact ≡ true → length job.image ≡ job.meaning.size)
     → (rules.strict ≡ true → first_empty (byte_at job.image) job.base job.meaning.size chosen ≡ None)
     → (rules.full ≡ true → is_filled t.regions ≡ true → IsGiven t)
     → (rules.inside ≡ true → LiesInside job.image job.base job.meaning.size)
     → (rules.lands ≡ true → lands_in (byte_at job.image) job.base job.meaning.size chosen ≡ true) → MeetsRules rules t len
-meets_rules {its = its} chose some full inside lands = record {
+meets_rules {its = its} chose same some full inside lands = record {
+  exact = λ asked. has_all its (λ b image size. length image ≡ size) (same asked);
   strict = λ asked. has_empty None chose (some asked);
   full = full;
   inside = λ asked. has_all its (λ b image size. LiesInside image b size) (inside asked);

@@ -1,5 +1,5 @@
 -- Why what a chip holds wasn't read, and what reader and writer count of it (this project's).
-use Rattle.std.specs.Prelude.{◌≡◌, ℕ, ◌+◌, ◌<◌, List, length, Result, Ok, Err}
+use Rattle.std.specs.Prelude.{◌≡◌, ℕ, ◌<◌, List, length, Result, Ok, Err}
 use Rattle.nor_base.specs.Device.{Ahead, Gives, IsAtEnd, raised}
 use Rattle.nor_job.specs.declared.fault.BuildFault.TheVariants as fault
 use Rattle.norprog_common.specs.declared.faults.Refusal.{Refusal}

@@ -7,6 +7,7 @@ pub mod Content
 pub mod Told
 pub mod Wrongs
 pub mod Request
+pub mod Image
 pub mod Held
 pub mod Rules
 pub mod Reading

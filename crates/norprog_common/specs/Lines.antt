@@ -24,10 +24,11 @@ use Rattle.norprog_common.specs.declared.faults.Behind.{Behind}
 use Rattle.norprog_common.specs.declared.faults.Behind.TheVariants.{Nothing, Number, Address}
 use Rattle.norprog_common.specs.declared.faults.FileName.{FileName}
 use Rattle.norprog_common.specs.declared.faults.Gap.{Gap}
+use Rattle.norprog_common.specs.declared.faults.Length.{Length}
 use Rattle.norprog_common.specs.declared.faults.Stray.{Stray}
 use Rattle.norprog_common.specs.declared.faults.FileName.TheVariants as file
 use Rattle.norprog_common.specs.declared.faults.Refusal.{Refusal}
-use Rattle.norprog_common.specs.declared.faults.Refusal.TheVariants.{Text, Usage, File, Build, Page, Script, BinSize, Steps, EmptyRegion, Partial, Beyond, Nowhere, Log}
+use Rattle.norprog_common.specs.declared.faults.Refusal.TheVariants.{Text, Usage, File, Build, Page, Script, BinSize, BinLength, BinRegion, Steps, EmptyRegion, Partial, Beyond, Nowhere, Log}
 
 -- words, and what stands behind them: a number in decimal, or an address in eight hexadecimal digits
 abbrev pub spelled : List ℕ → Behind → List ℕ
@@ -156,6 +157,10 @@ partial_text gap =
 abbrev pub beyond_text : Stray → List ℕ
 beyond_text stray = codes "beyond " ++ (decimal stray.count ++ (codes " bytes, first " ++ hex_number stray.first))
 
+-- `bin size: n bytes, m wanted`
+abbrev pub length_text : Length → List ℕ
+length_text length = codes "bin size: " ++ (decimal length.given ++ (codes " bytes, " ++ (decimal length.wanted ++ codes " wanted")))
+
 -- `norprog: `, a text, LF
 abbrev pub program_line : List ℕ → List ℕ
 program_line text = codes "norprog: " ++ closed text
@@ -169,6 +174,8 @@ printed (Build fault) = program_line (fault_text fault)
 printed Page = program_line (codes "page")
 printed (Script fault) = program_line (script_text fault)
 printed BinSize = program_line (codes "bin size")
+printed (BinLength length) = program_line (length_text length)
+printed BinRegion = program_line (codes "bin region")
 printed (Steps number) = program_line (codes "script steps " ++ decimal number)
 printed (EmptyRegion index) = program_line (codes "empty region " ++ decimal index)
 printed (Partial gap) = program_line (partial_text gap)
@@ -185,6 +192,8 @@ status_after (Build fault) = 1
 status_after Page = 1
 status_after (Script fault) = 1
 status_after BinSize = 1
+status_after (BinLength length) = 1
+status_after BinRegion = 1
 status_after (Steps number) = 1
 status_after (EmptyRegion index) = 1
 status_after (Partial gap) = 1

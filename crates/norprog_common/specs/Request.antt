@@ -2,6 +2,7 @@
 use Rattle.std.specs.Prelude.{◌≡◌, ℕ, Bool, ◌&&◌, Option, Some, option_map, unwrap_or, is_some, List, codes}
 use Rattle.norprog_common.specs.declared.given.Given.{Given}
 use Rattle.norprog_common.specs.declared.request.Request.{Request}
+use Rattle.norprog_common.specs.Image.{Image, chosen_image, fills_chip, image_in}
 use Rattle.norprog_common.specs.Rules.{job_rules}
 use Rattle.norprog_common.specs.Values.{part_of, base_of, said_status}
 use Rattle.norprog_common.specs.Chip.{origin_of, chosen_origin, Origin}
@@ -11,6 +12,10 @@ abbrev pub asked_chip : Given → Option Origin
 asked_chip given =
     chosen_origin (option_map (λ t. t.now) given.sfdp) (option_map (λ t. t.now) given.uniform) (option_map (λ t. t.now) given.sheet)
     (option_map (λ t. t.now) given.bits)
+
+-- the file of the image that they name
+abbrev pub asked_image : Given → Option Image
+asked_image given = chosen_image (option_map (λ t. t.now) given.hex) (option_map (λ t. t.now) given.bin)
 
 -- the family's name, `generic` where none is given
 abbrev pub asked_part : Given → List ℕ
@@ -23,13 +28,13 @@ asked_base given = unwrap_or (option_map (λ t. t.now) given.base) (codes "0")
 -- the files that have to be named are, and each value is of its form
 abbrev pub is_well_formed : Given → Bool
 is_well_formed given =
-    is_some given.hex && is_some (asked_chip given) && is_some (part_of (asked_part given))
+    is_some (asked_image given) && is_some (asked_chip given) && is_some (part_of (asked_part given))
     && is_some (said_status (option_map (λ t. t.now) given.status)) && is_some (base_of (asked_base given))
     && is_some given.content
 
 -- each value is the one that its text spells
 pub record AsksFor (given : Given) (request : Request) : Type 0 where
-  pub hex : given.hex ≡ Some request.hex
+  pub image : asked_image given ≡ Some (image_in request.image)
   pub layout : request.layout ≡ given.layout
   pub chip : asked_chip given ≡ Some (origin_of request.chip)
   pub part : part_of (asked_part given) ≡ Some request.part
@@ -40,5 +45,5 @@ pub record AsksFor (given : Given) (request : Request) : Type 0 where
   pub content : given.content ≡ Some request.content
   pub verify : request.verify ≡ given.verify
   pub erased_only : request.erased_only ≡ given.erased_only
-  pub rules : request.rules ≡ job_rules given.strict given.whole
+  pub rules : request.rules ≡ job_rules given.strict given.whole (fills_chip (image_in request.image))
   pub regions : request.regions ≡ given.regions

@@ -15,17 +15,17 @@ use Rattle.nor_layout.specs.Region.{Region}
 use Rattle.nor_target.specs.Shares.{chosen_regions, given_in, region_named, share_in}
 use Rattle.norprog_common.specs.declared.faults.Gap.{Gap}
 use Rattle.norprog_common.specs.declared.faults.Refusal.{Refusal}
-use Rattle.norprog_common.specs.declared.faults.Refusal.TheVariants.{Beyond, Build, EmptyRegion, Nowhere, Partial}
+use Rattle.norprog_common.specs.declared.faults.Refusal.TheVariants.{Beyond, BinLength, Build, EmptyRegion, Nowhere, Partial}
 use Rattle.norprog_common.specs.declared.faults.Stray.{Stray}
 use Rattle.norprog_common.specs.declared.rules.ImageRules.{ImageRules}
 
--- those of a job that is to be strict, and whole
-abbrev pub job_rules : Bool → Bool → ImageRules
-job_rules strict whole = record { strict = strict; full = whole; inside = whole; lands = whole }
+-- those of a job that is to be strict, and whole, and of an image that has to be as long as the chip
+abbrev pub job_rules : Bool → Bool → Bool → ImageRules
+job_rules strict whole exact = record { exact = exact; strict = strict; full = whole; inside = whole; lands = whole }
 
 -- there are some
 abbrev pub are_some : ImageRules → Bool
-are_some rules = rules.strict || (rules.full || (rules.inside || rules.lands))
+are_some rules = rules.exact || (rules.strict || (rules.full || (rules.inside || rules.lands)))
 
 -- ---- an image and regions
 -- from an address of the chip on this is the lowest to which the image gives no byte
@@ -112,6 +112,7 @@ pub record HasAll (t : Task) (len : ℕ) (Says : Pairs → List Region → Param
 
 -- the image of a task keeps the rules
 pub record MeetsRules (rules : ImageRules) (t : Task) (len : ℕ) : Type 0 where
+  pub exact : rules.exact ≡ true → HasAll t len (λ image regions m. length image ≡ m.size)
   pub strict : rules.strict ≡ true → HasFirstEmpty t len None
   pub full : rules.full ≡ true → is_filled t.regions ≡ true → IsGiven t
   pub inside : rules.inside ≡ true → HasAll t len (λ image regions m. LiesInside image t.base m.size)
@@ -120,6 +121,8 @@ pub record MeetsRules (rules : ImageRules) (t : Task) (len : ℕ) : Type 0 where
 -- it breaks one; or the inputs of a task that has rules are refused
 pub data BreaksRules (rules : ImageRules) (t : Task) (len : ℕ) : Refusal → Type 0 where
   Unaccepted : (why : BuildFault) → are_some rules ≡ true → RefusesInputs t len why → BreaksRules rules t len (Build why)
+  Unlike : (given : ℕ) (wanted : ℕ) → rules.exact ≡ true → HasAll t len (λ image regions m. (given ≡ length image) × (wanted ≡ m.size) × (given ≢ wanted))
+      → BreaksRules rules t len (BinLength (record { given = given; wanted = wanted }))
   Empty : (index : ℕ) → rules.strict ≡ true → HasFirstEmpty t len (Some index) → BreaksRules rules t len (EmptyRegion index)
   Lacking : (why : Refusal) → rules.full ≡ true → LacksPart t why → BreaksRules rules t len why
   Straying : (stray : Stray) → rules.inside ≡ true → HasAll t len (λ image regions m. IsStray image t.base m.size stray) → BreaksRules rules t len (Beyond stray)

@@ -2,7 +2,7 @@
 
 ghost use Rattle.std.specs.Prelude.{◌≡◌, IfOk, IfErr};
 ghost use Rattle.nor_base.specs.Device.{Writes, Counts};
-ghost use Rattle.norprog_common.specs.Lines.{beyond_text, partial_text};
+ghost use Rattle.norprog_common.specs.Lines.{beyond_text, length_text, partial_text};
 ghost use Rattle.norprog_common.specs.Lines.{spelled, hex_text, layout_text, sfdp_text, plan_text};
 ghost use Rattle.norprog_common.specs.Lines.{script_text, fault_text, file_text, script_refusal};
 ghost use Rattle.norprog_common.specs.Lines.{program_line, printed, status_after};
@@ -63,6 +63,13 @@ pub struct Stray {
     pub first: u32,
 }
 
+/// How many bytes a raw image has, and how many it has to have.
+#[derive(Clone, Copy)]
+pub struct Length {
+    pub given: u64,
+    pub wanted: u64,
+}
+
 /// What comes after the words of a refusal.
 #[derive(Clone, Copy)]
 pub(crate) enum Behind {
@@ -91,6 +98,10 @@ pub enum Refusal {
     Script(ScriptFault),
     /// A raw image reaches past the last address.
     BinSize,
+    /// A raw image hasn't as many bytes as the chip, or the region.
+    BinLength(Length),
+    /// The layout has no region of the name in which a raw image has to lie.
+    BinRegion,
     /// A script has only this many steps, and none of those asked for.
     Steps(u64),
     /// The image gives the chosen region of this index, from 0, no byte.
@@ -188,6 +199,8 @@ fn exit_status(refusal: &Refusal) -> u8
         | Refusal::Page
         | Refusal::Script(_)
         | Refusal::BinSize
+        | Refusal::BinLength(_)
+        | Refusal::BinRegion
         | Refusal::Steps(_)
         | Refusal::EmptyRegion(_)
         | Refusal::Partial(_)
@@ -216,6 +229,8 @@ fn write_refusal<E: ByteOut>(refusal: &Refusal, err: &mut E) -> Result<(), Faile
             put_line(err, words, behind)
         }
         Refusal::BinSize => put_line(err, b"bin size", Behind::Nothing),
+        Refusal::BinLength(length) => put_length(err, length),
+        Refusal::BinRegion => put_line(err, b"bin region", Behind::Nothing),
         Refusal::Steps(number) => put_line(err, b"script steps ", Behind::Number(*number)),
         Refusal::EmptyRegion(index) => put_line(err, b"empty region ", Behind::Number(*index)),
         Refusal::Partial(gap) => put_partial(err, gap),
@@ -285,6 +300,25 @@ fn put_beyond<E: ByteOut>(err: &mut E, stray: &Stray) -> Result<(), Failed>
             b" bytes, first ",
             &hex_number(stray.first),
             b"\n",
+        ],
+    )
+}
+
+/// Writes the line of a raw image of another size.
+fn put_length<E: ByteOut>(err: &mut E, length: &Length) -> Result<(), Failed>
+    ensures bytes { Writes (E.held err.old) (E.held err.new) result
+        (program_line (length_text length.now)) }
+    ensures count { Counts (E.count err.old) (E.count err.new) result }
+{
+    let (mut given, mut wanted) = (Buffer::new(), Buffer::new());
+    put_parts(
+        err,
+        &[
+            b"norprog: bin size: ",
+            given.format(length.given).as_bytes(),
+            b" bytes, ",
+            wanted.format(length.wanted).as_bytes(),
+            b" wanted\n",
         ],
     )
 }

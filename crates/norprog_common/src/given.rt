@@ -6,6 +6,7 @@ use nor_base::Bytes;
 #[derive(Drop)]
 pub struct Given<'a> {
     pub hex: Option<&'a str>,
+    pub bin: Option<&'a str>,
     pub layout: Option<&'a str>,
     pub sfdp: Option<&'a str>,
     pub uniform: Option<&'a str>,
@@ -164,6 +165,7 @@ pub struct FlashArgs<'a> {
     pub device: Option<&'a str>,
     pub limit: Option<&'a str>,
     pub hex: Option<&'a str>,
+    pub bin: Option<&'a str>,
     pub layout: Option<&'a str>,
     pub base: Option<&'a str>,
     pub before: Option<&'a str>,

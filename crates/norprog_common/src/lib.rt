@@ -7,6 +7,7 @@ mod chip;
 mod content;
 mod faults;
 mod given;
+mod image;
 mod inputs;
 mod looked;
 mod request;
@@ -17,11 +18,12 @@ mod wrongs;
 
 pub use chip::{Chip, chip_of, optional_status, source_of};
 pub use content::read_content;
-pub use faults::{FileName, Gap, Refusal, Stray, answered, refuse, refuse_lines};
+pub use faults::{FileName, Gap, Length, Refusal, Stray, answered, refuse, refuse_lines};
 pub use given::{
     BuildArgs, CheckArgs, ChipArgs, DrawArgs, FlashArgs, Given, HexArgs, ListArgs, OutFile,
     PlanArgs, PlayArgs, ReadArgs, RunArgs, ScriptArgs, SetupArgs,
 };
+pub use image::{ImageFile, Place, fills_chip, image_of, image_text, path_of};
 pub use inputs::{Texts, inputs_of};
 pub use looked::look_through;
 pub use request::{Request, request_of};

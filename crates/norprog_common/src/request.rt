@@ -5,6 +5,7 @@ ghost use Rattle.norprog_common.specs.Request.{is_well_formed, AsksFor};
 
 use crate::chip::{Chip, chip_of, optional_status};
 use crate::given::Given;
+use crate::image::{ImageFile, fills_chip, image_of};
 use crate::rules::{ImageRules, job_rules};
 use crate::values::{base, part};
 use nor_base::{Bytes, Part};
@@ -12,7 +13,7 @@ use nor_base::{Bytes, Part};
 /// The job that is asked for: each value is of its form.
 #[derive(Drop)]
 pub struct Request<'a> {
-    pub hex: &'a str,
+    pub image: ImageFile<'a>,
     pub layout: Option<&'a str>,
     pub chip: Chip<'a>,
     pub part: Part,
@@ -33,8 +34,9 @@ pub fn request_of<'a>(given: Given<'a>) -> Option<Request<'a>>
     ensures forms { is_some result ≡ is_well_formed given.entry }
     ensures values { IfSome result (λ request. AsksFor given.entry request) }
 {
+    let image = image_of(given.hex, given.bin)?;
     Some(Request {
-        hex: given.hex?,
+        image,
         layout: given.layout,
         chip: chip_of(given.sfdp, given.uniform, given.sheet, given.bits)?,
         part: part(given.part.unwrap_or("generic"))?,
@@ -45,7 +47,7 @@ pub fn request_of<'a>(given: Given<'a>) -> Option<Request<'a>>
         content: given.content?,
         verify: given.verify,
         erased_only: given.erased_only,
-        rules: job_rules(given.strict, given.whole),
+        rules: job_rules(given.strict, given.whole, fills_chip(image)),
         regions: given.regions,
     })
 }

@@ -1,6 +1,6 @@
 //! What the image of a job has to give, and where it has to lie.
 
-ghost use Rattle.std.specs.Prelude.{◌≡◌, ◌-◌, ◌^◌, ℕ, true, false, length, Some};
+ghost use Rattle.std.specs.Prelude.{◌≡◌, ◌≢◌, ◌-◌, ◌^◌, ℕ, true, false, length, Some};
 ghost use Rattle.std.specs.Prelude.{None, IfOk, IfErr, MatchOption};
 ghost use Rattle.nor_base.specs.Array.{is_filled};
 ghost use Rattle.nor_hex.specs.Image.{byte_at};
@@ -12,11 +12,12 @@ ghost use Rattle.norprog_common.specs.Rules.{BreaksRules, IsFilled, IsFirstOutsi
 ghost use Rattle.norprog_common.specs.Rules.{IsGiven, IsMissing, IsNextMissing, IsStray};
 ghost use Rattle.norprog_common.specs.Rules.{LacksPart};
 ghost use Rattle.norprog_common.specs.Rules.{LiesInside, MeetsRules};
-ghost use Rattle.norprog_common.specs.declared.faults.Refusal.TheVariants.{Beyond, EmptyRegion};
+ghost use Rattle.norprog_common.specs.declared.faults.Refusal.TheVariants.{Beyond, BinLength};
+ghost use Rattle.norprog_common.specs.declared.faults.Refusal.TheVariants.{EmptyRegion};
 ghost use Rattle.norprog_common.specs.declared.faults.Refusal.TheVariants.{Nowhere};
 ghost use Rattle.norprog_common.specs.declared.faults.Stray.{Stray as StrayOf};
 
-use crate::faults::{Gap, Refusal, Stray};
+use crate::faults::{Gap, Length, Refusal, Stray};
 use nor_hex::Image;
 use nor_job::{Inputs, Job, chosen_regions as regions_of, job_of};
 use nor_layout::Region;
@@ -26,6 +27,8 @@ use std::alloc::Global;
 /// What the image of a job has to give, and where it has to lie.
 #[derive(Clone, Copy)]
 pub struct ImageRules {
+    /// It has as many bytes as the chip.
+    pub exact: bool,
     /// Each chosen region gets a byte.
     pub strict: bool,
     /// Each named region gets a byte at each of its addresses.
@@ -36,11 +39,13 @@ pub struct ImageRules {
     pub lands: bool,
 }
 
-/// The rules of a job that is to be strict, and whole.
-pub fn job_rules(strict: bool, whole: bool) -> ImageRules
-    ensures { result ≡ job_rules strict whole }
+/// The rules of a job that is to be strict, and whole, and of an image that has to be as long as
+/// the chip.
+pub fn job_rules(strict: bool, whole: bool, exact: bool) -> ImageRules
+    ensures { result ≡ job_rules strict whole exact }
 {
     ImageRules {
+        exact,
         strict,
         full: whole,
         inside: whole,
@@ -51,8 +56,8 @@ pub fn job_rules(strict: bool, whole: bool) -> ImageRules
 /// Refuses inputs of a content of `len` bytes whose image breaks a rule; where there are rules also
 /// inputs that a build refuses.
 ///
-/// The refusals are `Build` as [`job_of`] reports it; `EmptyRegion`; those of [`refuse_partial`];
-/// `Beyond`; `Nowhere`.
+/// The refusals are `Build` as [`job_of`] reports it; `BinLength`; `EmptyRegion`; those of
+/// [`refuse_partial`]; `Beyond`; `Nowhere`.
 pub fn refuse_image(
     alloc: Global,
     rules: ImageRules,
@@ -75,7 +80,7 @@ pub fn refuse_image(
 fn are_some(rules: ImageRules) -> bool
     ensures { result ≡ are_some rules }
 {
-    rules.strict || rules.full || rules.inside || rules.lands
+    rules.exact || rules.strict || rules.full || rules.inside || rules.lands
 }
 
 /// Refuses a job whose image breaks a rule.
@@ -90,6 +95,7 @@ fn refuse_job(
     ensures meets { IfOk result (λ _. MeetsRules rules inputs.now len) }
     ensures breaks { IfErr result (BreaksRules rules inputs.now len) }
 {
+    refuse_length(rules.exact, job)?;
     let regions = match regions_of(alloc, inputs, job.meaning.size) {
         Ok(regions) => regions,
         Err(_) => return Err(Refusal::MEMORY),
@@ -99,6 +105,24 @@ fn refuse_job(
     refuse_partial(alloc, rules.full, inputs)?;
     refuse_stray(rules.inside, job)?;
     refuse_landless(rules.lands, job, chosen)
+}
+
+/// Refuses a job whose image has to have as many bytes as the chip, and hasn't.
+fn refuse_length(exact: bool, job: &Job) -> Result<(), Refusal>
+    ensures same { IfOk result (λ _. exact ≡ true
+        → length job.now.image ≡ job.now.meaning.size) }
+    ensures other { IfErr result (λ why. (why ≡ BinLength (record {
+      given = length job.now.image;
+      wanted = job.now.meaning.size;
+    }))
+        × (exact ≡ true) × (length job.now.image ≢ job.now.meaning.size)) }
+{
+    let given = job.image.count();
+    let wanted = u64::from(job.meaning.size);
+    if !exact || given == wanted {
+        return Ok(());
+    }
+    Err(Refusal::BinLength(Length { given, wanted }))
 }
 
 /// Refuses a strict job whose image gives one of these regions no byte.

@@ -1,13 +1,14 @@
 //! What is written after the line of a refusal.
 
-ghost use Rattle.norprog_details.specs.Details.{AreLooks, LooksAgain};
+ghost use Rattle.std.specs.Prelude.{◌≡◌};
+ghost use Rattle.norprog_details.specs.Details.{AreLooks, LooksAgain, path_of};
 ghost use Rattle.norprog_files.specs.Files.{Did};
 
 use crate::passage::{passage_of, shown_line};
 use crate::seems::add_advice;
 use crate::subject::{option_of, region_of};
 use crate::text::add;
-use crate::typed::{CommandLine, Typed};
+use crate::typed::{CommandLine, Typed, is_typed};
 use crate::usage::add_usage;
 use nor_base::{ByteOut, put_all};
 use norprog_common::FileName;
@@ -67,10 +68,27 @@ fn said_of<F: Files>(
 {
     match option_of(line.typed, refusal) {
         Some(option) => {
-            let seen = look_at(alloc, files, trail, option, refusal);
+            let file = file_of(line.typed, option);
+            let seen = look_at(alloc, files, trail, file, refusal);
             said_of_option(alloc, option, seen, line.regions, refusal)
         }
         None => said_of_none(alloc, line, refusal),
+    }
+}
+
+/// An option with the path of its file: a job's `--bin`, which has no `--at`, without PLACE=.
+fn file_of<'a>(typed: &[Typed<'_>], option: Typed<'a>) -> Typed<'a>
+    ensures { result.value.now ≡ path_of typed.now option.entry }
+{
+    if option.name != "bin" || is_typed(typed, "at") {
+        return option;
+    }
+    match option.value.split_once('=') {
+        Some((_place, path)) => Typed {
+            name: option.name,
+            value: path,
+        },
+        None => option,
     }
 }
 

@@ -27,8 +27,11 @@ const ELF: &[u8] = b"it is an ELF file; for Intel HEX: objcopy -O ihex ";
 
 const S_RECORDS: &[u8] = b"it has S-records; for Intel HEX: objcopy -I srec -O ihex ";
 
-const RAW: &[u8] =
-    b"it is a raw image; for Intel HEX, with H the address of its first byte: norprog hex --bin ";
+const RAW: &[u8] = b"it is a raw image; instead of --hex: --bin ";
+
+const AT_REGION: &[u8] = b" (the whole chip), --bin REGION=";
+
+const AT_ADDRESS: &[u8] = b" or --bin ADDRESS=";
 
 const UTF_16: &[u8] = b"it is UTF-16 text; in ASCII: iconv -f UTF-16 -t ASCII ";
 
@@ -93,7 +96,7 @@ fn add_for_hex(file: &[u8], kind: Kind, said: &mut Vec<u8>) -> Result<(), AllocE
     match kind {
         Kind::Elf => add(said, &[ELF, file, b" ", file, b".hex\n"]),
         Kind::SRecords => add(said, &[S_RECORDS, file, b" ", file, b".hex\n"]),
-        Kind::Raw => add(said, &[RAW, file, b" --at H --out ", file, b".hex\n"]),
+        Kind::Raw => add(said, &[RAW, file, AT_REGION, file, AT_ADDRESS, file, b"\n"]),
         Kind::Utf16 => add(said, &[UTF_16, file, b" > ", file, b".hex\n"]),
         Kind::Marked => add(said, &[MARKED, file, b" > ", file, b".hex\n"]),
         Kind::Fmap | Kind::Text => Ok(()),

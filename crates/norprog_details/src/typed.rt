@@ -1,5 +1,8 @@
 //! What stands on a command line.
 
+ghost use Rattle.std.specs.Prelude.{◌≡◌};
+ghost use Rattle.norprog_details.specs.Details.{is_typed};
+
 /// An option with its value.
 #[derive(Clone, Copy)]
 pub struct Typed<'a> {
@@ -21,7 +24,9 @@ pub struct CommandLine<'a> {
 }
 
 /// Whether an option of this name is given.
-pub(crate) fn is_typed(typed: &[Typed<'_>], name: &str) -> bool {
+pub(crate) fn is_typed(typed: &[Typed<'_>], name: &str) -> bool
+    ensures { result ≡ is_typed typed.now name.now }
+{
     typed.iter().any(|option| option.name == name)
 }
 

@@ -5,6 +5,10 @@ use crate::text::add;
 use crate::typed::{CommandLine, Typed, is_typed, value_of};
 use std::alloc::AllocError;
 
+const IMAGES: &[u8] = b"--hex and --bin don't go together\n";
+
+const NO_IMAGE: &[u8] = b"--hex or --bin is missing: the image\n";
+
 const CHIPS: &[u8] = b"--sfdp and --uniform don't go together\n";
 
 const SFDP_SHEET: &[u8] = b"--sfdp and --sheet don't go together\n";
@@ -35,6 +39,8 @@ pub(crate) fn add_usage(line: CommandLine<'_>, said: &mut Vec<u8>) -> Result<(),
     add(
         said,
         &[
+            pair_line(typed, "hex", "bin", IMAGES),
+            image_line(line),
             pair_line(typed, "sfdp", "uniform", CHIPS),
             pair_line(typed, "sfdp", "sheet", SFDP_SHEET),
             pair_line(typed, "uniform", "sheet", UNIFORM_SHEET),
@@ -68,6 +74,21 @@ fn pair_line(typed: &[Typed<'_>], first: &str, second: &str, text: &'static [u8]
     } else {
         b""
     }
+}
+
+/// That no image is named, where the command wants one.
+fn image_line(line: CommandLine<'_>) -> &'static [u8] {
+    let named = is_typed(line.typed, "hex") || is_typed(line.typed, "bin");
+    if named || !wants_image(line.command) {
+        b""
+    } else {
+        NO_IMAGE
+    }
+}
+
+/// Whether a command wants an image by `--hex` or `--bin`.
+fn wants_image(command: &str) -> bool {
+    matches!(command, "build" | "plan" | "check" | "flash")
 }
 
 /// That no chip is named, where the command wants one.

@@ -1,5 +1,6 @@
 -- What the values of a command line of `flash` ask for (this project's).
-use Rattle.std.specs.Prelude.{◌≡◌, ℕ, Bool, ◌&&◌, not, true, Some, None, option_map, unwrap_or, is_some, List, codes}
+use Rattle.std.specs.Prelude.{◌≡◌, ℕ, Bool, ◌&&◌, not, true, Option, Some, None, option_map, unwrap_or, is_some, List, codes}
+use Rattle.norprog_common.specs.Image.{Image, chosen_image, fills_chip, image_in}
 use Rattle.norprog_common.specs.Values.{base_of}
 use Rattle.norprog_common.specs.declared.given.FlashArgs.{FlashArgs}
 use Rattle.norprog_common.specs.declared.given.ReadArgs.{ReadArgs}
@@ -23,9 +24,14 @@ read_args given = record {
   expect_id = given.expect_id;
 }
 
--- what the image has to give: all of each named region and nothing off the chip, except where the values allow that
-abbrev pub rules_of : FlashArgs → ImageRules
-rules_of given = record { strict = given.strict; full = not given.partial; inside = not given.beyond; lands = true }
+-- what the image has to give: as many bytes as the chip has, where that is asked for; all of each named region and nothing off the chip,
+-- except where the values allow that
+abbrev pub rules_of : FlashArgs → Bool → ImageRules
+rules_of given exact = record { exact = exact; strict = given.strict; full = not given.partial; inside = not given.beyond; lands = true }
+
+-- the file of the image that they name
+abbrev pub asked_image : FlashArgs → Option Image
+asked_image given = chosen_image (option_map (λ t. t.now) given.hex) (option_map (λ t. t.now) given.bin)
 
 -- the base's digits, `0` where none are given
 abbrev pub asked_base : FlashArgs → List ℕ
@@ -34,18 +40,18 @@ asked_base given = unwrap_or (option_map (λ t. t.now) given.base) (codes "0")
 -- the files that have to be named are, and each value is of its form
 abbrev pub is_well_formed : FlashArgs → Bool
 is_well_formed given =
-    read.is_well_formed (read_args given) && is_some given.hex && is_some (base_of (asked_base given)) && is_some given.before
+    read.is_well_formed (read_args given) && is_some (asked_image given) && is_some (base_of (asked_base given)) && is_some given.before
 
 -- each value is the one that its text spells
 pub record AsksFor (given : FlashArgs) (request : FlashRequest) : Type 0 where
   pub read : read.AsksFor (read_args given) request.read
-  pub hex : given.hex ≡ Some request.hex
+  pub image : asked_image given ≡ Some (image_in request.image)
   pub layout : request.layout ≡ given.layout
   pub base : base_of (asked_base given) ≡ Some request.base
   pub before : given.before ≡ Some request.before
   pub resume : request.resume ≡ given.resume
   pub erased_only : request.erased_only ≡ given.erased_only
-  pub rules : request.rules ≡ rules_of given
+  pub rules : request.rules ≡ rules_of given (fills_chip (image_in request.image))
   pub dry_run : request.dry_run ≡ given.dry_run
   pub regions : request.regions.now ≡ given.regions.items
   pub texts : request.texts.now ≡ given

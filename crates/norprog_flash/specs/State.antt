@@ -20,6 +20,7 @@ name_text name.Mode4 = codes "mode4"
 name_text name.Device = codes "device"
 name_text name.Limit = codes "limit"
 name_text name.Hex = codes "hex"
+name_text name.Bin = codes "bin"
 name_text name.Layout = codes "layout"
 name_text name.Base = codes "base"
 name_text name.ErasedOnly = codes "erased-only"
@@ -68,6 +69,7 @@ next_options given = concat (
     ∷ valued name.Device (option_map (λ t. t.now) given.device) []
     ∷ valued name.Limit (option_map (λ t. t.now) given.limit) []
     ∷ valued name.Hex (option_map (λ t. t.now) given.hex) []
+    ∷ valued name.Bin (option_map (λ t. t.now) given.bin) []
     ∷ valued name.Layout (option_map (λ t. t.now) given.layout) []
     ∷ valued name.Base (option_map (λ t. t.now) given.base) []
     ∷ flagged name.ErasedOnly given.erased_only

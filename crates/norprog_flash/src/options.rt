@@ -24,6 +24,7 @@ pub(crate) enum Name {
     Device,
     Limit,
     Hex,
+    Bin,
     Layout,
     Base,
     ErasedOnly,
@@ -93,7 +94,7 @@ fn write_command<W: ByteOut>(given: &FlashArgs<'_>, writer: &mut W) -> Result<()
 }
 
 /// Its options.
-fn options<'a>(given: &'a FlashArgs<'a>) -> [Given<'a>; 22]
+fn options<'a>(given: &'a FlashArgs<'a>) -> [Given<'a>; 23]
     ensures { flat_map given_text result ≡ next_options given.now }
 {
     [
@@ -106,6 +107,7 @@ fn options<'a>(given: &'a FlashArgs<'a>) -> [Given<'a>; 22]
         Given::Text(Name::Device, given.device),
         Given::Text(Name::Limit, given.limit),
         Given::Text(Name::Hex, given.hex),
+        Given::Text(Name::Bin, given.bin),
         Given::Text(Name::Layout, given.layout),
         Given::Text(Name::Base, given.base),
         Given::Flag(Name::ErasedOnly, given.erased_only),
@@ -224,6 +226,7 @@ fn name_text(name: Name) -> &'static [u8]
         Name::Device => b"device",
         Name::Limit => b"limit",
         Name::Hex => b"hex",
+        Name::Bin => b"bin",
         Name::Layout => b"layout",
         Name::Base => b"base",
         Name::ErasedOnly => b"erased-only",

@@ -4,7 +4,7 @@ ghost use Rattle.std.specs.Prelude.{◌≡◌, is_some, IfSome};
 ghost use Rattle.norprog_flash.specs.Request.{is_well_formed, read_args, rules_of, AsksFor};
 
 use nor_base::Bytes;
-use norprog_common::{FlashArgs, ImageRules, ReadArgs, base};
+use norprog_common::{FlashArgs, ImageFile, ImageRules, ReadArgs, base, fills_chip, image_of};
 use norprog_read::ReadRequest;
 
 /// What `flash` is asked for: each value is of its form.
@@ -12,7 +12,7 @@ use norprog_read::ReadRequest;
 pub struct FlashRequest<'a> {
     /// How the chip is read.
     pub read: ReadRequest<'a>,
-    pub hex: &'a str,
+    pub image: ImageFile<'a>,
     pub layout: Option<&'a str>,
     pub base: u32,
     /// The name of the file that the content is saved in.
@@ -34,27 +34,29 @@ pub fn request_of<'a>(given: &'a FlashArgs<'a>) -> Option<FlashRequest<'a>>
     ensures forms { is_some result ≡ is_well_formed given.now }
     ensures values { IfSome result (λ request. AsksFor given.now request) }
 {
+    let image = image_of(given.hex, given.bin)?;
     Some(FlashRequest {
         read: norprog_read::request_of(read_args(given))?,
-        hex: given.hex?,
+        image,
         layout: given.layout,
         base: base(given.base.unwrap_or("0"))?,
         before: given.before?,
         resume: given.resume,
         erased_only: given.erased_only,
-        rules: rules_of(given),
+        rules: rules_of(given, fills_chip(image)),
         dry_run: given.dry_run,
         regions: given.regions.as_slice(),
         texts: given,
     })
 }
 
-/// What the image has to give: all of each named region and nothing off the chip, except where the
-/// values allow that.
-fn rules_of(given: &FlashArgs<'_>) -> ImageRules
-    ensures { result ≡ rules_of given.now }
+/// What the image has to give: as many bytes as the chip has, where that is asked for; all of each
+/// named region and nothing off the chip, except where the values allow that.
+fn rules_of(given: &FlashArgs<'_>, exact: bool) -> ImageRules
+    ensures { result ≡ rules_of given.now exact }
 {
     ImageRules {
+        exact,
         strict: given.strict,
         full: !given.partial,
         inside: !given.beyond,

@@ -1,16 +1,31 @@
 -- The files of a job that were opened.
-use Rattle.std.proofs.Common.{◌≡◌, ℕ, List, [], ◌∷◌, ◌++◌, Global, IfErr, Option, Some, Result, Ok, Err, Vec, subst, sym}
+use Rattle.std.proofs.Common.{◌≡◌, ℕ, List, [], ◌∷◌, ◌++◌, Global, IfErr, Option, Some, Result, option_map, Ok, Err, Vec, subst, sym}
 use Rattle.std.specs.Prelude.{IsErrAnd}
 use Rattle.nor_base.specs.Device.{Ahead}
-use Rattle.nor_job.specs.Task.{Task}
-use Rattle.norprog_common.specs.Chip.{Origin, Sfdp, Sheet}
+use Rattle.norprog_common.specs.Chip.{Origin, Sfdp, Sheet, origin_of}
+use Rattle.norprog_common.specs.Held.{Held}
+use Rattle.norprog_common.specs.Image.{Bin, Hex, Image, Where, image_in}
 use Rattle.norprog_common.specs.declared.faults.FileName.{FileName}
 use Rattle.norprog_common.specs.declared.faults.FileName.TheVariants as file
 use Rattle.norprog_common.specs.declared.faults.Refusal.{Refusal}
 use Rattle.norprog_common.specs.declared.request.Request.{Request}
-use Rattle.norprog_files.specs.Files.{AreUsed, Denied, Denies, Event, Given, Here, IsGiven, IsOpened, NoneUsed, OneUsed, Opened, StopsOpening, came}
-use Rattle.norprog_files.proofs.FilesLemmas.{Inputs}
-use Rattle.norprog_named.specs.Job.{IsJobOf, Named, NoChip, NoTables, OfChip, Opens_job, Reading, Reads, ReadsNamed, ReadsTables, Tables, Text, Unnamed, chip_files, job_files, named_by, origin_files}
+use Rattle.norprog_files.specs.Files.{AreUsed, Denied, Denies, Event, Given, Here, IsGiven, NoneUsed, OneUsed, Opened, StopsOpening, came}
+use Rattle.norprog_named.specs.Job.{Named, NoChip, NoTables, OfChip, Opening, OpensJob, Opens_files, Read_image, Reading, Reads, ReadsImage, ReadsNamed, ReadsTables, StopsJob, Tables, Text, Unnamed, chip_files, image_file, named_by, origin_files}
+
+pub image_used : (image : Image) {bytes : List ℕ} {log : List Event} → ReadsImage image bytes log → AreUsed (image_file image ∷ []) log
+image_used (Hex path) {bytes} Read_image = OneUsed file.Hex path _ (Given path bytes) _ (IsGiven bytes) NoneUsed
+image_used (Bin place path) {bytes} Read_image = OneUsed file.Bin path _ (Given path bytes) _ (IsGiven bytes) NoneUsed
+
+-- the file of an image was read, or can't be
+pub hex_read : (path : List ℕ) (result : Result (Vec ℕ Global) Refusal) → IfErr result (Denies file.Hex)
+    → Reading ((file.Hex, path) ∷ []) (λ bytes. ReadsImage (Hex path) bytes.items) result (came result (λ bytes. Given path bytes.items) (Denied path))
+hex_read path (Ok bytes) denied = Read_image
+hex_read path (Err why) denied = Here file.Hex path [] why denied
+
+pub bin_read : (place : Where) (path : List ℕ) (result : Result (Vec ℕ Global) Refusal) → IfErr result (Denies file.Bin)
+    → Reading ((file.Bin, path) ∷ []) (λ bytes. ReadsImage (Bin place path) bytes.items) result (came result (λ bytes. Given path bytes.items) (Denied path))
+bin_read place path (Ok bytes) denied = Read_image
+bin_read place path (Err why) denied = Here file.Bin path [] why denied
 
 pub reads_used : (name : FileName) {path bytes : Option (List ℕ)} {log : List Event} → Reads path bytes log → AreUsed (named_by name path) log
 reads_used name Unnamed = NoneUsed
@@ -21,22 +36,22 @@ tables_used (Tables path bits bytes) = OneUsed file.Sfdp path _ (Given path byte
 tables_used (NoTables size bytes) = NoneUsed
 tables_used (Text path text) = OneUsed file.Sheet path _ (Given path text) _ (IsGiven text) NoneUsed
 
--- all of a job were
-used_both : {xs ys : Inputs} {front log : List Event} → AreUsed xs front → AreUsed ys log → AreUsed (xs ++ ys) (front ++ log)
-used_both NoneUsed more = more
-used_both (OneUsed name path rest event front used some) more = OneUsed name path _ event _ used (used_both some more)
-
-pub job_used : {r : Request} {t : Task} {content : Ahead} {len : ℕ} {log : List Event} → IsJobOf r t content len log → AreUsed (job_files r) log
-job_used {r} {content = content} {len = len} (Opens_job held layout tables is reads opens) =
-    OneUsed file.Hex r.hex.now _ (Given r.hex.now held.hex) _ (IsGiven held.hex)
-    (used_both (reads_used file.Layout reads)
-    (used_both (tables_used opens) (OneUsed file.Content r.content.now [] (Opened r.content.now content len) [] (IsOpened content len) NoneUsed)))
+-- all of a job were opened
+pub opens_files : {r : Request} {read : Held} {content : Ahead} {len : ℕ} {image layout tables : List Event} → ReadsImage (image_in r.image) read.hex image
+    → Reads (option_map (λ t. t.now) r.layout) read.layout layout → ReadsTables (origin_of r.chip) read.sfdp tables
+    → OpensJob r read content len (image ++ (layout ++ (tables ++ (Opened r.content.now content len ∷ []))))
+opens_files {layout = layout} {tables = tables} Read_image reads opens = Opens_files layout tables reads opens
 
 -- a refusal that is handed on
 pub stops_reading : {A : Type 0} (files : List (FileName × List ℕ)) (Was : A → List Event → Type 0) (result : Result A Refusal) (why : Refusal) (log : List Event)
     → IsErrAnd result (λ told. told ≡ why) → StopsOpening files log why → Reading files Was result log
 stops_reading files Was (Ok x) why log is stops = absurd is
 stops_reading files Was (Err told) why log is stops = subst (λ (w : Refusal). StopsOpening files log w) (sym is) stops
+
+pub stops_opening : {A : Type 0} (r : Request) (Was : A → List Event → Type 0) (result : Result A Refusal) (why : Refusal) (log : List Event)
+    → IsErrAnd result (λ told. told ≡ why) → StopsJob r log why → Opening r Was result log
+stops_opening r Was (Ok x) why log is stops = absurd is
+stops_opening r Was (Err told) why log is stops = subst (λ (w : Refusal). StopsJob r log w) (sym is) stops
 
 -- the tables of a file were read, or can't be
 pub tables_read : (path bits : List ℕ) (result : Result (Vec ℕ Global) Refusal) → IfErr result (Denies file.Sfdp)

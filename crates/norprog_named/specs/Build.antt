@@ -15,9 +15,9 @@ use Rattle.norprog_common.specs.declared.faults.Refusal.TheVariants.{Build}
 use Rattle.norprog_common.specs.declared.given.OutFile.{OutFile}
 use Rattle.norprog_common.specs.declared.request.Request.{Request}
 use Rattle.norprog_common.specs.declared.rules.ImageRules.{ImageRules}
-use Rattle.norprog_files.specs.Files.{Event, Denied, Denies, IsClosed, Lost, Made, Sent, StopsOpening}
+use Rattle.norprog_files.specs.Files.{Event, Denied, Denies, IsClosed, Lost, Made, Sent}
 use Rattle.norprog_files.specs.declared.replaced.OutKind.TheVariants as kind
-use Rattle.norprog_named.specs.Job.{IsJobOf, job_files}
+use Rattle.norprog_named.specs.Job.{IsJobOf, StopsJob}
 
 -- the work of a build: its task, the content's length, what the content's reader had ahead and what it has, what the output held and what
 -- it holds
@@ -53,8 +53,8 @@ pub data EndsBuild (Unread : Type 0) (r : Request) (out : OutFile) : List Event 
   -- the output was sent the script of the request's job
   Built : (w : Work) (job : List Event) (report : Report) → IsJobOf r w.task w.content w.len job → MeetsRules r.rules w.task w.len → IsBuiltBy w report
       → EndsBuild Unread r out (job ++ (Made out kind.Script w.begun ∷ Sent out.path.now w.ended ∷ [])) (Ok report)
-  -- a file of the job can't be opened
-  NoInput : (log : List Event) (why : Refusal) → StopsOpening (job_files r) log why → EndsBuild Unread r out log (Err why)
+  -- a file of the job can't be opened, or its image has no text
+  NoInput : (log : List Event) (why : Refusal) → StopsJob r log why → EndsBuild Unread r out log (Err why)
   -- the output can't be made
   NoOutput : (t : Task) (content : Ahead) (len : ℕ) (job : List Event) (why : Refusal) → IsJobOf r t content len job → Denies file.Out why
       → EndsBuild Unread r out (job ++ (Denied out.path.now ∷ [])) (Err why)

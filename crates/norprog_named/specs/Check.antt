@@ -1,7 +1,9 @@
 -- How `check` ends (this project's).
 use Rattle.std.specs.Prelude.{ℕ, List, [], ◌∷◌, ◌++◌, Result, Ok, Err}
+use Rattle.nor_base.specs.Device.{Ahead}
 use Rattle.nor_check.specs.declared.verdict.Verdict.{Verdict}
 use Rattle.nor_check.specs.declared.verdict.Verdict.TheVariants.{Yes, No}
+use Rattle.nor_job.specs.Task.{Task}
 use Rattle.norprog_check.specs.Stream.{IsFound, Unchecked, Work}
 use Rattle.norprog_check.specs.declared.fault.CheckStop.TheVariants as check
 use Rattle.norprog_check.specs.declared.fault.StreamStop.{StreamStop}
@@ -9,19 +11,14 @@ use Rattle.norprog_check.specs.declared.fault.StreamStop.TheVariants as stream
 use Rattle.norprog_check.specs.declared.finding.Finding.{Finding}
 use Rattle.norprog_common.specs.Lines.{script_refusal}
 use Rattle.norprog_common.specs.Rules.{BreaksRules, MeetsRules}
-use Rattle.norprog_common.specs.declared.faults.FileName.{FileName}
 use Rattle.norprog_common.specs.declared.faults.FileName.TheVariants as file
 use Rattle.norprog_common.specs.declared.faults.Refusal.{Refusal}
 use Rattle.norprog_common.specs.declared.faults.Refusal.TheVariants.{Build, File}
 use Rattle.norprog_common.specs.declared.request.Request.{Request}
-use Rattle.norprog_files.specs.Files.{Event, Opened, StopsOpening}
-use Rattle.norprog_named.specs.Job.{IsJobOf, job_files}
+use Rattle.norprog_files.specs.Files.{Denied, Denies, Event, Opened}
+use Rattle.norprog_named.specs.Job.{IsJobOf, StopsJob}
 
--- the files that a check reads, in the order in which they are opened: those of the job, then the script
-abbrev pub check_files : Request → List ℕ → List (FileName × List ℕ)
-check_files r script = job_files r ++ ((file.Script, script) ∷ [])
-
--- those were opened: the work is of their job, and of this script
+-- the files of the job were opened, then the script: the work is of their job, and of this script
 pub data Opens (r : Request) (script : List ℕ) (w : Work) : List Event → Type 0 where
   Opens_all : (job : List Event) (len : ℕ) → IsJobOf r w.task w.content w.len job → Opens r script w (job ++ (Opened script w.script len ∷ []))
 
@@ -41,8 +38,11 @@ pub data EndsCheck (Unread : Type 0) (r : Request) (script : List ℕ) : List Ev
   -- this is found of the text that the script's file has, for the job of the files of the request
   Checked : (w : Work) (log : List Event) (found : Finding) → Opens r script w log → MeetsRules r.rules w.task w.len → IsFound w found
       → EndsCheck Unread r script log (Ok found)
-  -- a file can't be opened
-  NoInput : (log : List Event) (why : Refusal) → StopsOpening (check_files r script) log why → EndsCheck Unread r script log (Err why)
+  -- a file of the job can't be opened, or its image has no text
+  NoInput : (log : List Event) (why : Refusal) → StopsJob r log why → EndsCheck Unread r script log (Err why)
+  -- the script can't be opened
+  NoScript : (t : Task) (content : Ahead) (len : ℕ) (job : List Event) (why : Refusal) → IsJobOf r t content len job → Denies file.Script why
+      → EndsCheck Unread r script (job ++ (Denied script ∷ [])) (Err why)
   -- the image breaks a rule
   Breaking : (w : Work) (log : List Event) (why : Refusal) → Opens r script w log → BreaksRules r.rules w.task w.len why
       → EndsCheck Unread r script log (Err why)

@@ -4,6 +4,7 @@ use Rattle.nor_serprog.specs.Greeting.{Greeted}
 use Rattle.nor_serprog.specs.declared.fault.GreetFault.{GreetFault}
 use Rattle.nor_serprog.specs.declared.limits.Limits.{Limits}
 use Rattle.norprog_common.specs.Chip.{origin_of}
+use Rattle.norprog_common.specs.Image.{IsTextOf, RefusesText, image_in, path_of}
 use Rattle.norprog_common.specs.declared.faults.FileName.{FileName}
 use Rattle.norprog_common.specs.declared.faults.FileName.TheVariants as file
 use Rattle.norprog_common.specs.declared.faults.Refusal.{Refusal}
@@ -22,7 +23,7 @@ use Rattle.norprog_flash.specs.declared.ending.Unflashed.{Unflashed}
 use Rattle.norprog_flash.specs.declared.ending.Unflashed.TheVariants.{Device, Refused}
 use Rattle.norprog_flash.specs.declared.job.Job.{Job}
 use Rattle.norprog_flash.specs.declared.request.FlashRequest.{FlashRequest}
-use Rattle.norprog_named.specs.Job.{Reads, ReadsNamed, chip_files, named_by}
+use Rattle.norprog_named.specs.Job.{Reads, ReadsNamed, chip_files, image_file, named_by}
 use Rattle.norprog_named.specs.Saved.{SavesIf}
 use Rattle.norprog_named.specs.declared.flash_files.FlashTexts.{FlashTexts}
 use Rattle.norprog_read.specs.Request.{IsAskOf}
@@ -32,7 +33,7 @@ use Rattle.norprog_read.specs.declared.request.ReadRequest.{ReadRequest}
 -- the files that are read, each with its option, in their order
 abbrev pub flash_files : FlashRequest → List (FileName × List ℕ)
 flash_files r =
-    (file.Hex, r.hex.now) ∷ (named_by file.Layout (option_map (λ t. t.now) r.layout) ++ (chip_files (option_map origin_of r.read.chip)
+    image_file (image_in r.image) ∷ (named_by file.Layout (option_map (λ t. t.now) r.layout) ++ (chip_files (option_map origin_of r.read.chip)
     ++ named_by file.Resume (option_map (λ t. t.now) r.resume)))
 
 -- each was read whole, and has these bytes
@@ -40,7 +41,16 @@ pub data ReadsFlash (r : FlashRequest) (held : FlashTexts) : List Event → Type
   Reads_all : (layout tables old : List Event) → Reads (option_map (λ t. t.now) r.layout) (option_map (λ bytes. bytes.items) held.layout) layout
       → ReadsNamed (option_map origin_of r.read.chip) held.sfdp.items tables
       → Reads (option_map (λ t. t.now) r.resume) (option_map (λ bytes. bytes.items) held.old) old
-      → ReadsFlash r held (Given r.hex.now held.hex.items ∷ (layout ++ (tables ++ old)))
+      → ReadsFlash r held (Given (path_of (image_in r.image)) held.hex.items ∷ (layout ++ (tables ++ old)))
+
+-- they were, and these are the texts of the job: that of the image is made of its file's bytes; or one can't be read, or the image has none
+pub data EndsReading (r : FlashRequest) : Result FlashTexts Refusal → List Event → Type 0 where
+  HasTexts : (read texts : FlashTexts) (log : List Event) → ReadsFlash r read log
+      → IsTextOf r.base (option_map (λ bytes. bytes.items) read.layout) read.hex.items (image_in r.image) texts.hex.items
+      → texts ≡ record read { hex = texts.hex } → EndsReading r (Ok texts) log
+  NoFile : (log : List Event) (why : Refusal) → StopsOpening (flash_files r) log why → EndsReading r (Err why) log
+  NoText : (read : FlashTexts) (log : List Event) (why : Refusal) → ReadsFlash r read log
+      → RefusesText r.base (option_map (λ bytes. bytes.items) read.layout) read.hex.items (image_in r.image) why → EndsReading r (Err why) log
 
 -- standard output failed only where work was refused
 abbrev pub StillWorks : Result Ending Unflashed → ℕ → ℕ → Type 0
@@ -123,8 +133,8 @@ pub data EndsJob (device name : List ℕ) (job : Job) (out : Printed) : List Eve
 
 -- how `flash` ends, and what was done with files by then
 pub data EndsFlash (r : FlashRequest) (out : Printed) : List Event → Result Ending Unflashed → Type 0 where
-  -- the files were read, and their job ended so
-  Worked : (held : FlashTexts) (job : Job) (read work : List Event) (answer : Result Ending Unflashed) → ReadsFlash r held read → IsJobOf r held job
+  -- the files were read, and the job of their texts ended so
+  Worked : (held : FlashTexts) (job : Job) (read work : List Event) (answer : Result Ending Unflashed) → EndsReading r (Ok held) read → IsJobOf r held job
       → EndsJob r.read.device.now r.before.now job out work answer → EndsFlash r out (read ++ work) answer
-  -- one can't be read
-  NoInput : (log : List Event) (why : Refusal) → StopsOpening (flash_files r) log why → out.after ≡ out.before → EndsFlash r out log (Err (Refused why))
+  -- one can't be read, or the image has no text
+  NoInput : (log : List Event) (why : Refusal) → EndsReading r (Err why) log → out.after ≡ out.before → EndsFlash r out log (Err (Refused why))

@@ -4,6 +4,7 @@ use Rattle.nor_base.specs.Device.{Ahead}
 use Rattle.nor_job.specs.Task.{Task}
 use Rattle.norprog_common.specs.Chip.{Origin, Sfdp, Uniform, Sheet, origin_of}
 use Rattle.norprog_common.specs.Held.{Held, task_by}
+use Rattle.norprog_common.specs.Image.{Bin, Hex, Image, IsTextOf, RefusesText, image_in, path_of}
 use Rattle.norprog_common.specs.declared.faults.FileName.{FileName}
 use Rattle.norprog_common.specs.declared.faults.FileName.TheVariants as file
 use Rattle.norprog_common.specs.declared.faults.Refusal.{Refusal}
@@ -21,10 +22,19 @@ origin_files (Sfdp path bits) = (file.Sfdp, path) ∷ []
 origin_files (Uniform size) = []
 origin_files (Sheet path) = (file.Sheet, path) ∷ []
 
+-- the file of an image
+abbrev pub image_file : Image → FileName × List ℕ
+image_file (Hex path) = (file.Hex, path)
+image_file (Bin place path) = (file.Bin, path)
+
+-- it was read, and has these bytes
+pub data ReadsImage (image : Image) (bytes : List ℕ) : List Event → Type 0 where
+  Read_image : ReadsImage image bytes (Given (path_of image) bytes ∷ [])
+
 -- the files that a job reads, each with its option, in the order in which they are opened
 abbrev pub job_files : Request → List (FileName × List ℕ)
 job_files r =
-    (file.Hex, r.hex.now) ∷ (named_by file.Layout (option_map (λ t. t.now) r.layout) ++ (origin_files (origin_of r.chip)
+    image_file (image_in r.image) ∷ (named_by file.Layout (option_map (λ t. t.now) r.layout) ++ (origin_files (origin_of r.chip)
     ++ ((file.Content, r.content.now) ∷ [])))
 
 -- the file of this name was read, where there is a name; it has these bytes
@@ -53,8 +63,23 @@ abbrev pub Reading : {A : Type 0} → List (FileName × List ℕ) → (A → Lis
 Reading files Was (Ok x) log = Was x log
 Reading files Was (Err why) log = StopsOpening files log why
 
--- the files of a request were opened in their order, and this is its task; this is ahead of the content's reader, which has so many bytes
-pub data IsJobOf (r : Request) (t : Task) (content : Ahead) (len : ℕ) : List Event → Type 0 where
-  Opens_job : (held : Held) (layout tables : List Event) → t ≡ task_by r held → Reads (option_map (λ t. t.now) r.layout) held.layout layout
-      → ReadsTables (origin_of r.chip) held.sfdp tables
-      → IsJobOf r t content len (Given r.hex.now held.hex ∷ (layout ++ (tables ++ (Opened r.content.now content len ∷ []))))
+-- the files of a request were opened in their order, and hold this; this is ahead of the content's reader, which has so many bytes
+pub data OpensJob (r : Request) (read : Held) (content : Ahead) (len : ℕ) : List Event → Type 0 where
+  Opens_files : (layout tables : List Event) → Reads (option_map (λ t. t.now) r.layout) read.layout layout → ReadsTables (origin_of r.chip) read.sfdp tables
+      → OpensJob r read content len (Given (path_of (image_in r.image)) read.hex ∷ (layout ++ (tables ++ (Opened r.content.now content len ∷ []))))
+
+-- they were, and this is its task: its text is that of the image
+pub data IsJobOf (r : Request) (t : Task) (content : Ahead) (len : ℕ) (log : List Event) : Type 0 where
+  Opens_job : (read : Held) (text : List ℕ) → OpensJob r read content len log → IsTextOf r.base read.layout read.hex (image_in r.image) text
+      → t ≡ task_by r (record read { hex = text }) → IsJobOf r t content len log
+
+-- why they give no job: one can't be opened; or the image has no text
+pub data StopsJob (r : Request) (log : List Event) : Refusal → Type 0 where
+  NoFile : (why : Refusal) → StopsOpening (job_files r) log why → StopsJob r log why
+  NoText : (read : Held) (content : Ahead) (len : ℕ) (why : Refusal) → OpensJob r read content len log
+      → RefusesText r.base read.layout read.hex (image_in r.image) why → StopsJob r log why
+
+-- the job was opened, or it wasn't
+abbrev pub Opening : {A : Type 0} → Request → (A → List Event → Type 0) → Result A Refusal → List Event → Type 0
+Opening r Was (Ok x) log = Was x log
+Opening r Was (Err why) log = StopsJob r log why

@@ -18,7 +18,7 @@ use Rattle.norprog_common.specs.declared.rules.ImageRules.{ImageRules}
 use Rattle.norprog_files.specs.Files.{Event, Leaves, Lost, Made, Sends, StopsOpening}
 use Rattle.norprog_files.specs.declared.replaced.OutKind.TheVariants as kind
 use Rattle.norprog_named.specs.Build.{Undone, Work, work}
-use Rattle.norprog_named.specs.Job.{IsJobOf, job_files, named_by}
+use Rattle.norprog_named.specs.Job.{IsJobOf, StopsJob, named_by}
 use Rattle.norprog_named.specs.declared.plan_files.MapFile.{MapFile}
 use Rattle.norprog_named.specs.declared.plan_files.PlanRequest.{PlanRequest}
 use Rattle.norprog_plan.specs.Outline.{IsOutline, Outline}
@@ -75,8 +75,8 @@ pub data EndsPlan (Unread : Type 0) (r : PlanRequest) (out : Output) : List Even
   -- the lines of the plan and what stands behind them were printed, and its picture went out
   Told : (o : Outline) (job map : List Event) → TellsJob r o job → SendsMap o.picture r.map map → Appends out.before out.after (o.lines ++ o.rest)
       → EndsPlan Unread r out (job ++ map) (Ok 0)
-  -- a file of the job can't be opened: nothing is printed
-  NoInput : (log : List Event) (why : Refusal) → StopsOpening (job_files r.job) log why → out.after ≡ out.before → EndsPlan Unread r out log (Err why)
+  -- a file of the job can't be opened, or its image has no text: nothing is printed
+  NoInput : (log : List Event) (why : Refusal) → StopsJob r.job log why → out.after ≡ out.before → EndsPlan Unread r out log (Err why)
   -- the file of the picture can't be made: nothing is printed
   NoMap : (t : Task) (content : Ahead) (len : ℕ) (job map : List Event) (why : Refusal) → IsJobOf r.job t content len job
       → StopsOpening (named_by file.Map (option_map (λ m. m.path.now) r.map)) map why → out.after ≡ out.before → EndsPlan Unread r out (job ++ map) (Err why)

@@ -1,22 +1,23 @@
 //! `flash` on its files and its device.
 
-ghost use Rattle.std.specs.Prelude.{◌≡◌};
-ghost use Rattle.std.specs.Prelude.{◌&&◌, not, true, option_map};
+ghost use Rattle.std.specs.Prelude.{◌≡◌, ◌&&◌, not, true, IfErr, IfOk, option_map};
+ghost use Rattle.norprog_common.specs.Image.{IsTextOf, RefusesText, image_in};
 ghost use Rattle.norprog_device.specs.Blame.{is_cut};
 ghost use Rattle.norprog_common.specs.Wire.{wire};
 ghost use Rattle.norprog_files.specs.Files.{Did};
 ghost use Rattle.norprog_flash.specs.Blame.{fault_in as told_in};
-ghost use Rattle.norprog_named.specs.Flash.{EndsFlash, EndsGreeted, EndsHeld, EndsJob, IsJobOf};
-ghost use Rattle.norprog_named.specs.Flash.{ReadsFlash, StillWorks, file_for, flash_files};
+ghost use Rattle.norprog_named.specs.Flash.{EndsFlash, EndsGreeted, EndsHeld, EndsJob};
+ghost use Rattle.norprog_named.specs.Flash.{EndsReading, IsJobOf, ReadsFlash, StillWorks};
+ghost use Rattle.norprog_named.specs.Flash.{file_for, flash_files};
 ghost use Rattle.norprog_flash.specs.Begun.{printed};
 ghost use Rattle.norprog_named.specs.Flash.{reading_of};
 ghost use Rattle.norprog_named.specs.Job.{Reading};
 
-use crate::job::{read_chip, read_named};
+use crate::job::{bytes_in, read_chip, read_image, read_named};
 use crate::saved::save_if;
 use nor_base::{ByteIn, ByteOut};
 use nor_serprog::{Limits, greet};
-use norprog_common::{FileName, Refusal};
+use norprog_common::{FileName, Refusal, image_text};
 use norprog_device::{DeviceFault, is_cut, let_go};
 use norprog_files::{Files, Trail};
 use norprog_flash::{Ending, FlashRequest, Job, Unflashed, fault_in, go_on, hold, look_at};
@@ -63,8 +64,53 @@ pub fn flash<F: Files, O: ByteOut, P: ByteOut>(
     )
 }
 
-/// Reads the files of a request whole, in the order image, layout, tables, older content.
+/// Reads the files of a request whole, in the order image, layout, tables, older content. Of a raw
+/// image the text is made.
 fn read_texts<F: Files>(
+    alloc: Global,
+    files: &F,
+    trail: &mut F::Trail,
+    request: &FlashRequest<'_>,
+) -> Result<FlashTexts, Refusal>
+    ensures { Did (F.Trail.did trail.old) (F.Trail.did trail.new)
+        (EndsReading request.now result) }
+{
+    let read = read_files(alloc, files, trail, request)?;
+    let texts = texts_of(alloc, request, read)?;
+    Ok(texts)
+}
+
+/// Puts the image's text in place of the bytes of its file.
+fn texts_of(
+    alloc: Global,
+    request: &FlashRequest<'_>,
+    read: FlashTexts,
+) -> Result<FlashTexts, Refusal>
+    ensures text { IfOk result (λ texts. IsTextOf request.now.base
+        (option_map (λ bytes. bytes.items) read.layout) read.hex.items
+        (image_in request.now.image) texts.hex.items
+        × (texts ≡ record read { hex = texts.hex })) }
+    ensures refused { IfErr result (RefusesText request.now.base
+        (option_map (λ bytes. bytes.items) read.layout) read.hex.items
+        (image_in request.now.image)) }
+{
+    let FlashTexts {
+        hex: bytes,
+        layout,
+        sfdp,
+        old,
+    } = read;
+    let hex = image_text(alloc, request.image, request.base, bytes_in(&layout), bytes)?;
+    Ok(FlashTexts {
+        hex,
+        layout,
+        sfdp,
+        old,
+    })
+}
+
+/// The same, with the bytes of the image's file in place of its text.
+fn read_files<F: Files>(
     alloc: Global,
     files: &F,
     trail: &mut F::Trail,
@@ -73,7 +119,7 @@ fn read_texts<F: Files>(
     ensures { Did (F.Trail.did trail.old) (F.Trail.did trail.new)
         (Reading (flash_files request.now) (ReadsFlash request.now) result) }
 {
-    let hex = files.read(trail, alloc, request.hex, FileName::Hex)?;
+    let hex = read_image(alloc, files, trail, request.image)?;
     let layout = read_named(alloc, files, trail, request.layout, FileName::Layout)?;
     let sfdp = read_chip(alloc, files, trail, request.read.chip)?;
     let old = read_named(alloc, files, trail, request.resume, FileName::Resume)?;
@@ -123,16 +169,6 @@ fn reading_of<'a>(request: &FlashRequest<'a>) -> ReadRequest<'a>
     ReadRequest {
         out: Some(request.before),
         ..request.read
-    }
-}
-
-fn bytes_in(bytes: &Option<Vec<u8>>) -> Option<&[u8]>
-    ensures { option_map (λ text. text.now) result
-        ≡ option_map (λ held. held.items) bytes.entry.now }
-{
-    match bytes {
-        Some(bytes) => Some(bytes.as_slice()),
-        None => None,
     }
 }
 

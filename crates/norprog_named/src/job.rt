@@ -1,33 +1,96 @@
 //! The files of a job.
 
-ghost use Rattle.std.specs.Prelude.{◌≡◌, option_map};
+ghost use Rattle.std.specs.Prelude.{◌≡◌, ◌∷◌, [], ℕ, IfErr, IfOk, List, option_map};
 ghost use Rattle.norprog_common.specs.Chip.{origin_of};
 ghost use Rattle.norprog_common.specs.Held.{held_in, task_by};
+ghost use Rattle.norprog_common.specs.Image.{IsTextOf, RefusesText, image_in};
 ghost use Rattle.norprog_files.specs.Files.{Did};
-ghost use Rattle.norprog_named.specs.Job.{IsJobOf, Reading, Reads, ReadsNamed, ReadsTables};
-ghost use Rattle.norprog_named.specs.Job.{chip_files, job_files, named_by, origin_files};
+ghost use Rattle.norprog_named.specs.Job.{IsJobOf, Opening, OpensJob, Reading, Reads};
+ghost use Rattle.norprog_named.specs.Job.{ReadsImage, ReadsNamed, ReadsTables, chip_files};
+ghost use Rattle.norprog_named.specs.Job.{image_file, job_files, named_by, origin_files};
 
-use norprog_common::{Chip, FileName, Refusal, Request, Texts};
+use norprog_common::{Chip, FileName, ImageFile, Refusal, Request, Texts, image_text};
 use norprog_files::{Files, Trail};
 use std::alloc::Global;
 
 /// Opens the files that a job reads, in their order: what those hold that are read whole, the
-/// content, and how many bytes that has.
+/// content, and how many bytes that has. Of a raw image the text is made.
 pub(crate) fn open_job<F: Files>(
     alloc: Global,
     files: &F,
     trail: &mut F::Trail,
     request: &Request<'_>,
 ) -> Result<(Texts, F::Input, u64), Refusal>
-    ensures did { Did (F.Trail.did trail.old) (F.Trail.did trail.new) (Reading
-        (job_files request.now) (λ job. IsJobOf request.now
-        (task_by request.now (held_in job.0)) (F.Input.ahead job.1) job.2) result) }
+    ensures did { Did (F.Trail.did trail.old) (F.Trail.did trail.new) (Opening request.now
+        (λ job. IsJobOf request.now (task_by request.now (held_in job.0))
+        (F.Input.ahead job.1) job.2) result) }
 {
-    let hex = files.read(trail, alloc, request.hex, FileName::Hex)?;
+    let (read, content, len) = open_files(alloc, files, trail, request)?;
+    let texts = texts_of(alloc, request, read)?;
+    Ok((texts, content, len))
+}
+
+/// The same, with the bytes of the image's file in place of its text.
+fn open_files<F: Files>(
+    alloc: Global,
+    files: &F,
+    trail: &mut F::Trail,
+    request: &Request<'_>,
+) -> Result<(Texts, F::Input, u64), Refusal>
+    ensures did { Did (F.Trail.did trail.old) (F.Trail.did trail.new) (Reading
+        (job_files request.now) (λ job. OpensJob request.now (held_in job.0)
+        (F.Input.ahead job.1) job.2) result) }
+{
+    let hex = read_image(alloc, files, trail, request.image)?;
     let layout = read_named(alloc, files, trail, request.layout, FileName::Layout)?;
     let sfdp = read_tables(alloc, files, trail, request.chip)?;
     let (content, len) = files.open(trail, request.content, FileName::Content)?;
     Ok((Texts { hex, layout, sfdp }, content, len))
+}
+
+/// Puts the image's text in place of the bytes of its file.
+fn texts_of(alloc: Global, request: &Request<'_>, read: Texts) -> Result<Texts, Refusal>
+    ensures text { IfOk result (λ texts. (text : List ℕ)
+        × IsTextOf request.now.base (held_in read).layout (held_in read).hex
+        (image_in request.now.image) text
+        × (held_in texts ≡ record (held_in read) { hex = text })) }
+    ensures refused { IfErr result (RefusesText request.now.base (held_in read).layout
+        (held_in read).hex (image_in request.now.image)) }
+{
+    let Texts {
+        hex: bytes,
+        layout,
+        sfdp,
+    } = read;
+    let hex = image_text(alloc, request.image, request.base, bytes_in(&layout), bytes)?;
+    Ok(Texts { hex, layout, sfdp })
+}
+
+/// Reads the file of an image whole.
+pub(crate) fn read_image<F: Files>(
+    alloc: Global,
+    files: &F,
+    trail: &mut F::Trail,
+    image: ImageFile<'_>,
+) -> Result<Vec<u8>, Refusal>
+    ensures { Did (F.Trail.did trail.old) (F.Trail.did trail.new) (Reading
+        (image_file (image_in image.entry) ∷ [])
+        (λ bytes. ReadsImage (image_in image.entry) bytes.items) result) }
+{
+    match image {
+        ImageFile::Hex(path) => files.read(trail, alloc, path, FileName::Hex),
+        ImageFile::Bin { place: _, path } => files.read(trail, alloc, path, FileName::Bin),
+    }
+}
+
+pub(crate) fn bytes_in(bytes: &Option<Vec<u8>>) -> Option<&[u8]>
+    ensures { option_map (λ text. text.now) result
+        ≡ option_map (λ held. held.items) bytes.entry.now }
+{
+    match bytes {
+        Some(bytes) => Some(bytes.as_slice()),
+        None => None,
+    }
 }
 
 /// Reads a file whole, where one is named.

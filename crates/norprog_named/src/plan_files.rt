@@ -21,7 +21,7 @@ use crate::job::open_job;
 use nor_base::{ByteIn, ByteOut, Failed, put_all};
 use nor_job::Inputs;
 use norprog_common::{
-    OutFile, PlanArgs, Refusal, Request, inputs_of, refuse_image, request_of as job_of,
+    OutFile, PlanArgs, Refusal, Request, inputs_of, path_of, refuse_image, request_of as job_of,
 };
 use norprog_files::{Files, OutKind, Trail};
 use norprog_plan::{Shows, Title, Told, tell};
@@ -152,7 +152,7 @@ fn title_of<'a>(job: &'a Request<'_>) -> Title<'a> {
         None => b"",
     };
     Title {
-        image: job.hex.as_bytes(),
+        image: path_of(job.image).as_bytes(),
         content: job.content.as_bytes(),
         layout,
         regions: job.regions.as_slice(),

@@ -55,6 +55,7 @@ pub record IsChipIn (found : Found) (given : ChipArgs) : Type 0 where
 
 pub record IsJobIn (found : Found) (given : Given) : Type 0 where
   pub hex : Has found (codes "hex") (option_map (λ t. t.now) given.hex)
+  pub bin : Has found (codes "bin") (option_map (λ t. t.now) given.bin)
   pub layout : Has found (codes "layout") (option_map (λ t. t.now) given.layout)
   pub sfdp : Has found (codes "sfdp") (option_map (λ t. t.now) given.sfdp)
   pub uniform : Has found (codes "uniform") (option_map (λ t. t.now) given.uniform)
@@ -138,6 +139,7 @@ pub record IsFlashIn (found : Found) (given : FlashArgs) : Type 0 where
   pub device : Has found (codes "device") (option_map (λ t. t.now) given.device)
   pub limit : Has found (codes "limit") (option_map (λ t. t.now) given.limit)
   pub hex : Has found (codes "hex") (option_map (λ t. t.now) given.hex)
+  pub bin : Has found (codes "bin") (option_map (λ t. t.now) given.bin)
   pub layout : Has found (codes "layout") (option_map (λ t. t.now) given.layout)
   pub base : Has found (codes "base") (option_map (λ t. t.now) given.base)
   pub before : Has found (codes "before") (option_map (λ t. t.now) given.before)

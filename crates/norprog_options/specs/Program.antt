@@ -29,9 +29,9 @@ words name = record (new_rule name) {
   action = Some Append;
 }
 
--- the options of the image: its HEX file, the layout, the address that goes to chip address 0, and the names of the chosen regions
+-- the options of the image: its HEX file or the raw one, the layout, the address that goes to chip address 0, and the names of the chosen regions
 abbrev pub image : List Rule
-image = needed (codes "hex") ∷ optional (codes "layout") ∷ optional (codes "base") ∷ words (codes "names") ∷ []
+image = optional (codes "hex") ∷ optional (codes "bin") ∷ optional (codes "layout") ∷ optional (codes "base") ∷ words (codes "names") ∷ []
 
 -- the options of the chip
 abbrev pub chip : List Rule

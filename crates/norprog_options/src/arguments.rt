@@ -68,8 +68,16 @@ struct Form {
 const HEX: Choice = Choice {
     name: "hex",
     takes: Takes::File,
-    required: true,
-    help: "The image, an Intel HEX file",
+    required: false,
+    help: "The image, an Intel HEX file; this or --bin",
+};
+
+const IMAGE_BIN: Choice = Choice {
+    name: "bin",
+    takes: Takes::File,
+    required: false,
+    help: "The raw image, [PLACE=]FILE: at an address of five to eight hexadecimal digits, or all \
+        of the layout's region of that name; without PLACE= all of the chip",
 };
 
 const LAYOUT: Choice = Choice {
@@ -485,7 +493,7 @@ const FORCE: Choice = Choice {
 /// The options of every command but explain, which takes words only.
 const EACH: &[Choice] = &[DETAILS, PLAIN];
 
-const IMAGE: &[Choice] = &[HEX, LAYOUT, BASE, REGIONS];
+const IMAGE: &[Choice] = &[HEX, IMAGE_BIN, LAYOUT, BASE, REGIONS];
 
 const CHIP: &[Choice] = &[SFDP, UNIFORM, SHEET, BITS, PART];
 

@@ -234,6 +234,7 @@ fn given_in<'a>(alloc: Global, job: &ArgMatches<'a>) -> Result<Given<'a>, Refusa
 {
     Ok(Given {
         hex: job.get_str("hex"),
+        bin: job.get_str("bin"),
         layout: job.get_str("layout"),
         sfdp: job.get_str("sfdp"),
         uniform: job.get_str("uniform"),
@@ -417,6 +418,7 @@ fn flash_in<'a>(alloc: Global, flash: &ArgMatches<'a>) -> Result<FlashArgs<'a>, 
         device: flash.get_str("device"),
         limit: flash.get_str("limit"),
         hex: flash.get_str("hex"),
+        bin: flash.get_str("bin"),
         layout: flash.get_str("layout"),
         base: flash.get_str("base"),
         before: flash.get_str("before"),

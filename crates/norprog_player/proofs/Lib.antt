@@ -8,3 +8,4 @@ mod ComparedLemmas
 mod LikenessLemmas
 pub mod OpenedLemmas
 mod LineLemmas
+mod SizeLemmas

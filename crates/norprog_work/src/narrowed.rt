@@ -7,8 +7,7 @@ ghost use Rattle.nor_job.specs.Task.{origin_of};
 ghost use Rattle.norprog_work.specs.Narrowed.{narrowed, SpansDifference};
 
 use crate::span::differing;
-use nor_base::IntoWrite;
-use nor_hex_out::write_hex;
+use nor_hex_out::hex_of;
 use nor_job::{BuildFault, Inputs, Source};
 use std::alloc::Global;
 
@@ -20,18 +19,8 @@ pub(crate) fn difference(alloc: Global, have: &[u8], want: &[u8]) -> Result<Vec<
     ensures memory { IfErr result (λ why. why ≡ Memory) }
 {
     let (low, high) = differing(have, want);
-    hex_of(alloc, low as u32, &want[low..high])
-}
-
-/// The HEX text of bytes from an address on.
-fn hex_of(alloc: Global, at: u32, bytes: &[u8]) -> Result<Vec<u8>, BuildFault>
-    requires { at + length bytes.now ≤ 2 ^ 32 }
-    ensures text { IfOk result (λ text. text.items ≡ hex_text at bytes.now) }
-    ensures memory { IfErr result (λ why. why ≡ Memory) }
-{
-    let mut text = IntoWrite::new(Vec::new(alloc));
-    match write_hex(at, bytes, &mut text) {
-        Ok(()) => Ok(text.into_inner()),
+    match hex_of(alloc, low as u32, &want[low..high]) {
+        Ok(text) => Ok(text),
         Err(_) => Err(BuildFault::Memory),
     }
 }

@@ -11,7 +11,7 @@ use crate::scripts::{
 use crate::store::{Store, Untold};
 use nor_base::{IntoWrite, Part, put_parts};
 use nor_script::hex_pair;
-use norprog_common::{Chip, ChipArgs, job_rules, refuse};
+use norprog_common::{Chip, ChipArgs, ImageFile, job_rules, refuse};
 use norprog_device::refuse_device;
 use norprog_flash::{Ending, FlashArgs, FlashRequest, Unflashed, write_ending};
 use norprog_named::flash;
@@ -266,6 +266,7 @@ fn no_texts(alloc: Global) -> FlashArgs<'static> {
         device: None,
         limit: None,
         hex: None,
+        bin: None,
         layout: None,
         base: None,
         before: None,
@@ -305,13 +306,13 @@ fn request_of<'a>(row: &Row, texts: &'a FlashArgs<'a>) -> FlashRequest<'a> {
     };
     FlashRequest {
         read,
-        hex: "script",
+        image: ImageFile::Hex("script"),
         layout: None,
         base: 0,
         before: "before",
         resume: row.old.map(|_| "content"),
         erased_only: false,
-        rules: job_rules(false, false),
+        rules: job_rules(false, false, false),
         dry_run: row.dry,
         regions: &[],
         texts,

@@ -9,10 +9,10 @@ pub(crate) const TOPICS: &[Topic] = &[
     (
         "usage",
         "A value isn't of its form, or options don't go together. Give exactly one of\n\
-         --sfdp, --uniform and --sheet, and --bits only with --sfdp. Write numbers only\n\
-         in digits, and --status as six hexadecimal digits. The command's --help has\n\
-         each form. Of explain: it has nothing on these words; without words it lists\n\
-         what you can ask.",
+         --sfdp, --uniform and --sheet, and --bits only with --sfdp; of a job exactly\n\
+         one of --hex and --bin. Write numbers only in digits, and --status as six\n\
+         hexadecimal digits. The command's --help has each form. Of explain: it has\n\
+         nothing on these words; without words it lists what you can ask.",
     ),
     (
         "file hex",
@@ -75,7 +75,9 @@ pub(crate) const TOPICS: &[Topic] = &[
         "file bin",
         "The raw image isn't there, may not be read, or is a folder; reading it failed,\n\
          or it hasn't the length that it had when it was opened, as a pipe hasn't.\n\
-         What stands in the output has no end record.",
+         What `norprog hex` wrote has no end record. In a job the name of the file is\n\
+         what comes after the first `=` of --bin, if there is one; it has at most 2^36\n\
+         bytes, and the output is as it was.",
     ),
     (
         "file log",
@@ -105,8 +107,8 @@ pub(crate) const TOPICS: &[Topic] = &[
          reading it failed. After the plan: the chip isn't the one of that file, since it\n\
          holds other bytes in whole 64 KiB or more that the job doesn't change. The file\n\
          must be what --before kept at the first try on this chip, and image and regions\n\
-         the same as then. The chip isn't changed. To write all of a file to a chip make\n\
-         it HEX (norprog hex), and flash that without --resume.",
+         the same as then. The chip isn't changed. To write all of a file to a chip give\n\
+         it as --bin, without --resume.",
     ),
     (
         "file",
@@ -180,9 +182,25 @@ pub(crate) const TOPICS: &[Topic] = &[
          give the one that the first try saved.",
     ),
     (
+        "bin size:",
+        "The raw image hasn't as many bytes as the chip or, where a name stands before\n\
+         the `=` of --bin, as that region: first comes how many it has. It was cut on\n\
+         its way, or it is another file. If it is only a part, name the address of its\n\
+         first byte, five to eight hexadecimal digits: --bin ADDRESS=FILE. If it is\n\
+         Intel HEX, give it as --hex. The output is as it was, and so is the chip.",
+    ),
+    (
         "bin size",
         "The raw image's last byte would lie past address FFFFFFFF. Correct --at, or\n\
-         give a shorter image. The output wasn't touched.",
+         in a job --base or the address before the `=` of --bin; or give a shorter\n\
+         image. The output wasn't touched. Where numbers follow, ask for `bin size:`.",
+    ),
+    (
+        "bin region",
+        "The layout has no region of the name before the first `=` of --bin, or there\n\
+         is no layout: give it by --layout. Spell the name as the layout does. An\n\
+         address there has five to eight hexadecimal digits, without 0x. The output is\n\
+         as it was, and so is the chip.",
     ),
     (
         "empty region",

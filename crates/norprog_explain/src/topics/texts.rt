@@ -9,7 +9,8 @@ pub(crate) const TOPICS: &[Topic] = &[
     (
         "hex 1",
         "This line of the HEX file doesn't begin with a colon. Lines count from 1, the\n\
-         empty ones too. Take out text between the records, or make the file anew.",
+         empty ones too. Take out text between the records, or make the file anew. A\n\
+         raw image is given by --bin, not by --hex.",
     ),
     (
         "hex 2",

@@ -49,3 +49,13 @@ pub returns-in-Nowhere-clause-bytes : goal.returns-in-Nowhere-clause-bytes
 returns-in-Nowhere-clause-bytes g c =
     subst (λ (refusal : Refusal). Writes (g.E.ByteOut.held c.args.err.now) (g.E.ByteOut.held c.put_line-in-Nowhere.new.err) c.put_line-in-Nowhere.result (printed refusal))
     (sym c.in-Nowhere.is) c.put_line-in-Nowhere.ensures.bytes
+
+pub returns-in-BinLength-clause-bytes : goal.returns-in-BinLength-clause-bytes
+returns-in-BinLength-clause-bytes g c =
+    subst (λ (refusal : Refusal). Writes (g.E.ByteOut.held c.args.err.now) (g.E.ByteOut.held c.put_length.new.err) c.put_length.result (printed refusal))
+    (sym c.in-BinLength.is) c.put_length.ensures.bytes
+
+pub returns-in-BinRegion-clause-bytes : goal.returns-in-BinRegion-clause-bytes
+returns-in-BinRegion-clause-bytes g c =
+    subst (λ (refusal : Refusal). Writes (g.E.ByteOut.held c.args.err.now) (g.E.ByteOut.held c.put_line-in-BinRegion.new.err) c.put_line-in-BinRegion.result (printed refusal))
+    (sym c.in-BinRegion.is) c.put_line-in-BinRegion.ensures.bytes

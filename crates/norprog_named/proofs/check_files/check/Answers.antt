@@ -4,13 +4,11 @@ use Rattle.nor_base.proofs.DeviceLaws.{risen_some}
 use Rattle.norprog_check.specs.Checked.{checking}
 use Rattle.nor_base.proofs.FaultLaws.{answered}
 use Rattle.norprog_check.specs.Stream.{work}
-use Rattle.norprog_common.specs.declared.faults.FileName.TheVariants as file
-use Rattle.norprog_files.specs.Files.{Denied, Here, Opened}
-use Rattle.norprog_files.proofs.FilesLemmas.{adds_both, stops_after, stops_before}
-use Rattle.norprog_named.specs.Check.{Breaking, Checked, EndsCheck, NoInput, Opens_all, Refused}
+use Rattle.norprog_files.specs.Files.{Denied, Opened}
+use Rattle.norprog_files.proofs.FilesLemmas.{adds_both}
+use Rattle.norprog_named.specs.Check.{Breaking, Checked, EndsCheck, NoInput, NoScript, Opens_all, Refused}
 use Rattle.norprog_named.proofs.BuildLemmas.{job_by}
 use Rattle.norprog_named.proofs.CheckLemmas.{wider}
-use Rattle.norprog_named.proofs.JobLemmas.{job_used}
 use Rattle.norprog_named.proofs.check_files.check.Goals as goal
 
 pub returns-in_err-texts : goal.returns-in_err-texts
@@ -18,7 +16,7 @@ returns-in_err-texts g c =
     let did = c.in_err-texts.ensures.did in (
       did.0,
       did.1,
-      answered _ (EndsCheck (g.F.Files.unread c.args.files.now) c.args.request.now c.args.path.now did.0) _ (NoInput did.0 _ (stops_before _ did.2))
+      answered _ (EndsCheck (g.F.Files.unread c.args.files.now) c.args.request.now c.args.path.now did.0) _ (NoInput did.0 _ did.2)
           c.from_residual.ensures.1,
     )
 
@@ -29,7 +27,7 @@ returns-in_err-script g c =
       _,
       adds_both job.1 c.in_err-script.ensures.did,
       answered _ (EndsCheck (g.F.Files.unread c.args.files.now) c.args.request.now path (job.0 ++ (Denied path ∷ []))) _
-          (NoInput _ _ (stops_after (job_used job.2) (Here file.Script path [] _ c.in_err-script.ensures.refused))) c.from_residual-in_err-script.ensures.1,
+          (NoScript _ _ _ job.0 _ job.2 c.in_err-script.ensures.refused) c.from_residual-in_err-script.ensures.1,
     )
 
 pub returns-in_err-refuse_image : goal.returns-in_err-refuse_image

@@ -1,0 +1,110 @@
+-- The image of a job, by the file that a command line names (this project's).
+use Rattle.std.specs.Prelude.{◌≡◌, ◌≢◌, ◌⊎◌, ℕ, ◌+◌, ◌-◌, ◌<◌, ◌≤◌, ◌^◌, ◌==◌, Bool, true, false, nat_lt, if◌then◌else◌, List, length, Option, Some, None}
+use Rattle.std.specs.List.{after_first, before_first, position_or_len}
+use Rattle.nor_hex_out.specs.Segments.{hex_text}
+use Rattle.nor_job.specs.Causes.{LayoutSays}
+use Rattle.nor_job.specs.Lifted.{lifted_layout}
+use Rattle.nor_job.specs.declared.fault.BuildFault.TheVariants as fault
+use Rattle.nor_layout.specs.Region.{Region}
+use Rattle.nor_layout.specs.Text.{Refuses}
+use Rattle.nor_layout.specs.declared.fault.LayoutFault.{LayoutFault}
+use Rattle.nor_target.specs.Shares.{region_named}
+use Rattle.norprog_common.specs.Values.{base_of}
+use Rattle.norprog_common.specs.declared.faults.Refusal.{Refusal}
+use Rattle.norprog_common.specs.declared.faults.Refusal.TheVariants.{BinLength, BinRegion, BinSize, Build}
+use Rattle.norprog_common.specs.declared.image.ImageFile.{ImageFile}
+use Rattle.norprog_common.specs.declared.image.ImageFile.TheVariants as file
+use Rattle.norprog_common.specs.declared.image.Place as declared
+use Rattle.norprog_common.specs.declared.image.Place.TheVariants as place
+
+-- where raw bytes lie: all over the chip, in the region of a name, or from a chip address on
+pub data Where : Type 0 where
+  Chip : Where
+  Named : List ℕ → Where
+  At : ℕ → Where
+
+abbrev pub place_in : declared.Place → Where
+place_in place.Chip = Chip
+place_in (place.Region name) = Named name.now
+place_in (place.At at) = At at
+
+-- the file of an image, by its path: of Intel HEX, or of raw bytes
+pub data Image : Type 0 where
+  Hex : List ℕ → Image
+  Bin : Where → List ℕ → Image
+
+abbrev pub image_in : ImageFile → Image
+image_in (file.Hex path) = Hex path.now
+image_in (file.Bin place path) = Bin (place_in place) path.now
+
+-- its path
+abbrev pub path_of : Image → List ℕ
+path_of (Hex path) = path
+path_of (Bin place path) = path
+
+-- it has to have as many bytes as the chip
+abbrev pub fills_chip : Image → Bool
+fills_chip (Bin Chip path) = true
+fills_chip (Bin (Named name) path) = false
+fills_chip (Bin (At at) path) = false
+fills_chip (Hex path) = false
+
+-- the place that a text names: five to eight hexadecimal digits are an address, else it is a region's name
+abbrev pub address_or_name : Option ℕ → List ℕ → Where
+address_or_name (Some at) text = At at
+address_or_name None text = Named text
+
+unfoldable pub place_by : List ℕ → Where
+place_by text = if nat_lt (length text) 5 then Named text else address_or_name (base_of text) text
+
+-- `PLACE=FILE` or `FILE`; `=` is 3Dh
+abbrev pub is_sign : ℕ → Bool
+is_sign b = b == 0x3D
+
+unfoldable pub bin_in : List ℕ → Image
+bin_in text =
+    if nat_lt (position_or_len is_sign text) (length text) then Bin (place_by (before_first is_sign text)) (after_first is_sign text)
+    else Bin Chip text
+
+-- exactly one of the two is named
+abbrev pub chosen_image : Option (List ℕ) → Option (List ℕ) → Option Image
+chosen_image (Some hex) None = Some (Hex hex)
+chosen_image None (Some bin) = Some (bin_in bin)
+chosen_image (Some hex) (Some bin) = None
+chosen_image None None = None
+
+-- the region of this name, among these, has so many bytes, and this is its first address
+pub data StartsIn (regions : List Region) (name : List ℕ) (len : ℕ) : ℕ → Type 0 where
+  Starts : (region : Region) → region_named regions name ≡ Some region → len ≡ region.end + 1 - region.start → StartsIn regions name len region.start
+
+-- raw bytes, of which there are so many, begin at this chip address
+pub data IsStart (layout : Option (List ℕ)) (len : ℕ) : Where → ℕ → Type 0 where
+  All : IsStart layout len Chip 0
+  From : (at : ℕ) → IsStart layout len (At at) at
+  Within : (name : List ℕ) (regions : List Region) (at : ℕ) → LayoutSays layout regions → StartsIn regions name len at → IsStart layout len (Named name) at
+
+-- why not in the region of this name, among these
+pub data MissesIn (regions : List Region) (name : List ℕ) (len : ℕ) : Refusal → Type 0 where
+  NoRegion : region_named regions name ≡ None → MissesIn regions name len BinRegion
+  OtherSize : (region : Region) → region_named regions name ≡ Some region → len ≢ region.end + 1 - region.start
+      → MissesIn regions name len (BinLength (record { given = len; wanted = region.end + 1 - region.start }))
+
+-- why they begin at none
+pub data Misses (layout : Option (List ℕ)) (len : ℕ) : Where → Refusal → Type 0 where
+  NoLayout : (name text : List ℕ) (why : LayoutFault) → layout ≡ Some text → Refuses text why → Misses layout len (Named name) (Build (lifted_layout why))
+  InLayout : (name : List ℕ) (regions : List Region) (why : Refusal) → LayoutSays layout regions → MissesIn regions name len why
+      → Misses layout len (Named name) why
+
+-- the text of an image whose file has these bytes: Intel HEX as it is; of raw bytes the one that gives just these, from the base and their
+-- place on
+pub data IsTextOf (base : ℕ) (layout : Option (List ℕ)) (bytes : List ℕ) : Image → List ℕ → Type 0 where
+  As_is : (path : List ℕ) → IsTextOf base layout bytes (Hex path) bytes
+  Written : (place : Where) (path : List ℕ) (start : ℕ) → IsStart layout (length bytes) place start → base + start + length bytes ≤ 2 ^ 32
+      → IsTextOf base layout bytes (Bin place path) (hex_text (base + start) bytes)
+
+-- why there is none
+pub data RefusesText (base : ℕ) (layout : Option (List ℕ)) (bytes : List ℕ) : Image → Refusal → Type 0 where
+  Nowhere : (place : Where) (path : List ℕ) (why : Refusal) → Misses layout (length bytes) place why → RefusesText base layout bytes (Bin place path) why
+  TooFar : (place : Where) (path : List ℕ) (start : ℕ) → IsStart layout (length bytes) place start
+      → (2 ^ 32 ≤ base + start) ⊎ (2 ^ 32 < base + start + length bytes) → RefusesText base layout bytes (Bin place path) BinSize
+  OutOfMemory : (place : Where) (path : List ℕ) → RefusesText base layout bytes (Bin place path) (Build fault.Memory)

@@ -1,0 +1,233 @@
+//! The image of a job: its file, as a command line names it, and its text.
+
+ghost use Rattle.std.specs.Prelude.{◌≡◌, ◌≢◌, ◌⊎◌, ◌+◌, ◌-◌, ◌<◌, ◌≤◌, ◌^◌, length, option_map};
+ghost use Rattle.std.specs.Prelude.{IfErr, IfOk, MatchResult};
+ghost use Rattle.nor_hex_out.specs.Segments.{hex_text};
+ghost use Rattle.nor_job.specs.declared.fault.BuildFault.TheVariants.{Memory};
+ghost use Rattle.nor_target.specs.Shares.{region_named};
+ghost use Rattle.norprog_common.specs.Image.{IsStart, IsTextOf, Misses, MissesIn, RefusesText};
+ghost use Rattle.norprog_common.specs.Image.{bin_in, chosen_image, fills_chip, image_in, place_by};
+ghost use Rattle.norprog_common.specs.Image.{Named, StartsIn, path_of, place_in};
+ghost use Rattle.norprog_common.specs.declared.faults.Refusal.TheVariants.{BinLength, BinSize};
+ghost use Rattle.norprog_common.specs.declared.faults.Refusal.TheVariants.{Build};
+
+use crate::faults::{Length, Refusal};
+use crate::values::base as address;
+use nor_hex_out::{fits, hex_of};
+use nor_job::BuildFault;
+use nor_layout::Region;
+use std::alloc::Global;
+
+/// As few digits as an address has before the `=` of a raw image; fewer are a region's name.
+const FEWEST_DIGITS: usize = 5;
+
+/// Where a raw image lies.
+#[derive(Clone, Copy)]
+pub enum Place<'a> {
+    /// From chip address 0 on. It has as many bytes as the chip.
+    Chip,
+    /// In the region of this name. It has as many bytes.
+    Region(&'a str),
+    /// From this chip address on.
+    At(u32),
+}
+
+/// The file of an image.
+#[derive(Clone, Copy)]
+pub enum ImageFile<'a> {
+    /// Intel HEX.
+    Hex(&'a str),
+    /// Raw bytes.
+    Bin { place: Place<'a>, path: &'a str },
+}
+
+/// The file, where exactly one is named: as `--hex` has it, or as `--bin`, `PLACE=FILE` or `FILE`.
+pub fn image_of<'a>(hex: Option<&'a str>, bin: Option<&'a str>) -> Option<ImageFile<'a>>
+    ensures { option_map image_in result
+        ≡ chosen_image (option_map (λ t. t.now) hex.entry) (option_map (λ t. t.now) bin.entry) }
+{
+    match (hex, bin) {
+        (Some(path), None) => Some(ImageFile::Hex(path)),
+        (None, Some(text)) => Some(bin_of(text)),
+        _ => None,
+    }
+}
+
+/// The raw image of a `--bin`.
+fn bin_of(text: &str) -> ImageFile<'_>
+    ensures { image_in result ≡ bin_in text.entry.now }
+{
+    match text.split_once('=') {
+        Some((place, path)) => ImageFile::Bin {
+            place: place_of(place),
+            path,
+        },
+        None => ImageFile::Bin {
+            place: Place::Chip,
+            path: text,
+        },
+    }
+}
+
+/// The place before the `=`: five to eight hexadecimal digits are an address, else it is a
+/// region's name.
+fn place_of(text: &str) -> Place<'_>
+    ensures { place_in result ≡ place_by text.entry.now }
+{
+    if text.len() < FEWEST_DIGITS {
+        return Place::Region(text);
+    }
+    match address(text) {
+        Some(at) => Place::At(at),
+        None => Place::Region(text),
+    }
+}
+
+/// Whether the image has to have as many bytes as the chip.
+pub fn fills_chip(image: ImageFile<'_>) -> bool
+    ensures { result ≡ fills_chip (image_in image.entry) }
+{
+    matches!(
+        image,
+        ImageFile::Bin {
+            place: Place::Chip,
+            ..
+        }
+    )
+}
+
+/// Its path.
+pub fn path_of(image: ImageFile<'_>) -> &str
+    ensures { result.now ≡ path_of (image_in image.entry) }
+{
+    match image {
+        ImageFile::Hex(path) => path,
+        ImageFile::Bin { place: _, path } => path,
+    }
+}
+
+/// The HEX text of an image whose file has these bytes: of raw bytes the one that gives just these,
+/// from `base` plus their place on.
+///
+/// `BinRegion` where no region has the name; `Layout` where the layout that has to have it is none;
+/// `BinLength` where the region has another size; `BinSize` where a byte would lie past FFFFFFFFh;
+/// `Memory`.
+pub fn image_text(
+    alloc: Global,
+    image: ImageFile<'_>,
+    base: u32,
+    layout: Option<&[u8]>,
+    bytes: Vec<u8>,
+) -> Result<Vec<u8>, Refusal>
+    ensures text { IfOk result (λ text. IsTextOf base (option_map (λ t. t.now) layout.entry)
+        bytes.items (image_in image.entry) text.items) }
+    ensures refused { IfErr result (RefusesText base (option_map (λ t. t.now) layout.entry)
+        bytes.items (image_in image.entry)) }
+{
+    match image {
+        ImageFile::Hex(_) => Ok(bytes),
+        ImageFile::Bin { place, path: _ } => {
+            let start = start_of(alloc, place, layout, bytes.len() as u64)?;
+            raw_text(alloc, base, start, bytes.as_slice())
+        }
+    }
+}
+
+/// The chip address at which a raw image of this length begins.
+fn start_of(
+    alloc: Global,
+    place: Place<'_>,
+    layout: Option<&[u8]>,
+    len: u64,
+) -> Result<u32, Refusal>
+    ensures start { IfOk result (IsStart (option_map (λ t. t.now) layout.entry) len
+        (place_in place.entry)) }
+    ensures refused { IfErr result (Misses (option_map (λ t. t.now) layout.entry) len
+        (place_in place.entry)) }
+{
+    match place {
+        Place::Chip => Ok(0),
+        Place::At(start) => Ok(start),
+        Place::Region(name) => region_start(alloc, name.as_bytes(), layout, len),
+    }
+}
+
+/// The same of a region of this name.
+fn region_start(alloc: Global, name: &[u8], layout: Option<&[u8]>, len: u64) -> Result<u32, Refusal>
+    ensures start { IfOk result (IsStart (option_map (λ t. t.now) layout.entry) len
+        (Named name.now)) }
+    ensures refused { IfErr result (Misses (option_map (λ t. t.now) layout.entry) len
+        (Named name.now)) }
+{
+    let Some(text) = layout else {
+        return Err(Refusal::BinRegion);
+    };
+    match nor_layout::read(alloc, text) {
+        Ok(layout) => sized_start(layout.regions(), name, len),
+        Err(fault) => Err(Refusal::Build(BuildFault::from(fault))),
+    }
+}
+
+/// The start of the region of this name, which has to have this size.
+fn sized_start(regions: &[Region<'_>], name: &[u8], len: u64) -> Result<u32, Refusal>
+    ensures { MatchResult result (StartsIn regions.now name.now len)
+        (MissesIn regions.now name.now len) }
+{
+    match region_named(regions, name) {
+        Some(region) => start_in(&region, len),
+        None => Err(Refusal::BinRegion),
+    }
+}
+
+/// The region of this name, byte for byte.
+fn region_named<'a>(regions: &[Region<'a>], name: &[u8]) -> Option<Region<'a>>
+    ensures { result ≡ region_named regions.now name.now }
+{
+    for region in regions {
+        if region.name == name {
+            return Some(Region {
+                start: region.start,
+                end: region.end,
+                name: region.name,
+            });
+        }
+    }
+    None
+}
+
+/// The start of a region, which has to have this size.
+fn start_in(region: &Region<'_>, len: u64) -> Result<u32, Refusal>
+    ensures start { IfOk result (λ start. (start ≡ region.now.start)
+        × (len ≡ region.now.end + 1 - region.now.start)) }
+    ensures refused { IfErr result (λ why. (why ≡ BinLength (record {
+      given = len;
+      wanted = region.now.end + 1 - region.now.start;
+    }))
+        × (len ≢ region.now.end + 1 - region.now.start)) }
+{
+    let wanted = (u64::from(region.end) + 1).saturating_sub(u64::from(region.start));
+    if len == wanted {
+        Ok(region.start)
+    } else {
+        Err(Refusal::BinLength(Length { given: len, wanted }))
+    }
+}
+
+/// The HEX text of these bytes from `base` plus `start` on.
+fn raw_text(alloc: Global, base: u32, start: u32, bytes: &[u8]) -> Result<Vec<u8>, Refusal>
+    ensures text { IfOk result (λ text. (base + start + length bytes.now ≤ 2 ^ 32)
+        × (text.items ≡ hex_text (base + start) bytes.now)) }
+    ensures refused { IfErr result (λ why. ((why ≡ BinSize) × ((2 ^ 32 ≤ base + start)
+        ⊎ (2 ^ 32 < base + start + length bytes.now))) ⊎ (why ≡ Build Memory)) }
+{
+    let Some(first) = base.checked_add(start) else {
+        return Err(Refusal::BinSize);
+    };
+    if !fits(bytes.len() as u64, first) {
+        return Err(Refusal::BinSize);
+    }
+    match hex_of(alloc, first, bytes) {
+        Ok(text) => Ok(text),
+        Err(_) => Err(Refusal::MEMORY),
+    }
+}
