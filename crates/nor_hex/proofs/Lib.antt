@@ -11,3 +11,4 @@ pub mod PutLemmas
 mod FaultLemmas
 mod AcceptLemmas
 mod LawLemmas
+mod UnionLemmas

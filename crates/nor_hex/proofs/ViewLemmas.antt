@@ -6,8 +6,9 @@ use Rattle.std.specs.List.Sorted.{IsStrictlyIncreasing}
 use Rattle.std.proofs.lemmas.List.FromFn.{length-enumerate_from}
 use Rattle.std.proofs.lemmas.Bool.{ne_eqb, eq-eqb}
 use Rattle.std.proofs.lemmas.Bool.Decides.{eqb_tells}
+use Rattle.std.proofs.lemmas.Option.{get_or_from_slice_get}
 use Rattle.nor_hex.specs.declared.segments.Segment.{Segment}
-use Rattle.nor_hex.specs.Image.{Pairs, addresses, byte_at, IsRunFrom, HasNoneFrom}
+use Rattle.nor_hex.specs.Image.{GivesBytes, Pairs, addresses, byte_at, IsRunFrom, HasNoneFrom}
 use Rattle.nor_hex.specs.Segments.{Holds, IsSegments, HoldsNoneFrom, IsRunIn, HasLeft, pairs_of, bytes_of, size, total}
 use Rattle.nor_hex.proofs.ListLemmas.{get_there, get-left, get-right, get_part, get-part, length-part, drop-here, drop-left, none_some, some_same}
 use Rattle.nor_hex.proofs.ImageLemmas.{get_from_index}
@@ -228,3 +229,12 @@ module _ (segments later : List Segment) (segment : Segment) (bytes : List ℕ) 
   step_over address byte at last which =
       subst (λ (xs : List Segment). drop done (pairs_of xs bytes) ≡ (address, byte) ∷ pairs_of later bytes) (sym first_is)
       (left_step segment later bytes done address byte at (omega arith) left_inside which ∙ ap (λ more. (address, byte) ∷ more) (left_last segment later bytes done last left_inside))
+
+-- what they give are bytes
+pub gives_bytes : (segments : List Segment) (bytes : List ℕ) → IsSegments segments bytes → ((k : ℕ) → slice_index bytes k < 256) → GivesBytes (pairs_of segments bytes)
+gives_bytes segments bytes right small address byte e =
+    let held = held_from_byte segments bytes address byte right e in
+    let place = held.segment.place + (address - held.segment.first) in
+    let value : slice_index bytes place ≡ byte = get_or_from_slice_get bytes place byte 0 held.byte_is in
+    let bound = small place in
+    omega (arith, value, bound)

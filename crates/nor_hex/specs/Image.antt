@@ -52,6 +52,10 @@ addresses image = map (λ pair. pair.0) image
 abbrev pub byte_at : Pairs → ℕ → Option ℕ
 byte_at image address = lookup (nat_eq address) image
 
+-- what the image gives are bytes
+abbrev pub GivesBytes : Pairs → Type 0
+GivesBytes image = (address byte : ℕ) → byte_at image address ≡ Some byte → byte < 256
+
 -- no address from this one on has a byte
 abbrev pub HasNoneFrom : Pairs → ℕ → Type 0
 HasNoneFrom image from = (address : ℕ) → from ≤ address → byte_at image address ≡ None

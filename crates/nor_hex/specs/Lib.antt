@@ -5,3 +5,4 @@ pub mod Faults
 pub mod Pieces
 pub mod Segments
 pub mod Steps
+pub mod Union

@@ -1,12 +1,13 @@
 //! The memory image of a text.
 
 ghost use Rattle.std.specs.Prelude.{◌≡◌, ◌↔◌, ◌<◌, ◌^◌, ℕ, length, Some, Contains, MatchOption};
+ghost use Rattle.std.specs.Prelude.{IfOk, slice_index};
 ghost use Rattle.std.specs.Iterator.{YieldsFirst, item_count};
 ghost use Rattle.std.specs.List.Sorted.{IsStrictlyIncreasing};
-ghost use Rattle.nor_hex.specs.Image.{byte_at, addresses, IsRunFrom, HasNoneFrom};
+ghost use Rattle.nor_hex.specs.Image.{byte_at, addresses, GivesBytes, IsRunFrom, HasNoneFrom};
 
 use crate::segments::{Segment, Segments, next_segment};
-use std::alloc::Global;
+use std::alloc::{AllocError, Global};
 use std::marker::Model;
 
 /// The bytes that a text gives, each at its address. Clauses see an image as the list of its
@@ -59,6 +60,21 @@ impl Image {
         ensures { result ≡ length self.now }
     {
         self.segments.bytes.len() as u64
+    }
+
+    /// The same image, in memory of its own.
+    pub fn copied(&self, alloc: Global) -> Result<Image, AllocError>
+        ensures same { IfOk result (λ copy. copy ≡ self.now) }
+        ensures bytes { IfOk result GivesBytes }
+    {
+        let mut list = Vec::new(alloc);
+        list.extend_from_slice(self.segments.list.as_slice())?;
+        let mut bytes = Vec::new(alloc);
+        bytes.extend_from_slice(self.segments.bytes.as_slice())?;
+        are_bytes(bytes.as_slice());
+        Ok(Image {
+            segments: Segments { list, bytes },
+        })
     }
 
     /// The addresses that the text gives a byte, with their bytes, in rising order.
@@ -120,3 +136,8 @@ impl<'a> Iterator for ImageIter<'a> {
         Some((address, byte))
     }
 }
+
+/// Called for what it promises: the bytes of a slice are bytes.
+fn are_bytes(_bytes: &[u8])
+    ensures { (k : ℕ) → slice_index _bytes.now k < 256 }
+{}

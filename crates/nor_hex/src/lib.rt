@@ -15,9 +15,11 @@ mod reader;
 mod record;
 mod record_iter;
 mod segments;
+mod union;
 
 pub use fault::HexFault;
 pub use image::{Image, ImageIter};
 pub use reader::read;
 pub use record::HexLine;
 pub use record_iter::{RecordIter, records};
+pub use union::UnionFault;

@@ -9,7 +9,7 @@ use Rattle.nor_hex.specs.Record.{Record}
 use Rattle.nor_hex.specs.declared.fault.HexFault.{HexFault}
 use Rattle.nor_layout.specs.Region.{Region}
 use Rattle.nor_target.specs.Shares.{share, share_in, chosen_regions, first_empty}
-use Rattle.nor_job.specs.Causes.{LayoutSays, AreAccepted}
+use Rattle.nor_job.specs.Causes.{ImageSays, LayoutSays, AreAccepted}
 use Rattle.nor_job.specs.Shares.{HasFirstEmpty, first_empty_of}
 use Rattle.nor_job.specs.Task.{Task}
 use Rattle.nor_job.proofs.ChipLemmas.{one_chip}
@@ -29,12 +29,16 @@ option_same (Some x) p f g = sym (f x refl)
 option_same None None f g = refl
 option_same None (Some y) f g = g y refl
 
-pub image_same : (text : List ℕ) (a b : Pairs) → IsImage text a → IsImage text b → (address : ℕ) → byte_at a address ≡ byte_at b address
-image_same text a b is_a is_b address =
+text_same : (text : List ℕ) (a b : Pairs) → IsImage text a → IsImage text b → (address : ℕ) → byte_at a address ≡ byte_at b address
+text_same text a b is_a is_b address =
     let same : is_a.records ≡ is_b.records = records_same is_a.records is_b.records (sym is_a.accepted.each ∙ is_b.accepted.each) in
     option_same (byte_at a address) (byte_at b address)
     (λ byte is. is_b.put address byte (subst (λ (records : List Record). Puts records address byte) same (is_a.given address byte is)))
     (λ byte is. is_a.put address byte (subst (λ (records : List Record). Puts records address byte) (sym same) (is_b.given address byte is)))
+
+pub image_same : (given : Option Pairs) (text : List ℕ) (a b : Pairs) → ImageSays given text a → ImageSays given text b → (address : ℕ) → byte_at a address ≡ byte_at b address
+image_same None text a b is_a is_b address = text_same text a b is_a is_b address
+image_same (Some its) text a b is_a is_b address = ap (λ image. byte_at image address) (is_a.0 ∙ sym is_b.0)
 
 pub regions_same : (o : Option (List ℕ)) (a b : List Region) → LayoutSays o a → LayoutSays o b → a ≡ b
 regions_same None a b is_a is_b = is_a ∙ sym is_b
@@ -74,7 +78,7 @@ pub only_first : (t : Task) (len : ℕ) (index other : Option ℕ) → HasFirstE
 only_first t len index other a b =
     let means = one_chip a.accepted.means b.accepted.means in
     let named = regions_same t.layout a.regions b.regions a.accepted.named.layout b.accepted.named.layout in
-    let bytes = image_same t.hex a.image b.image a.accepted.named.imaged.spelled b.accepted.named.imaged.spelled in
+    let bytes = image_same t.image t.hex a.image b.image a.accepted.named.imaged.spelled b.accepted.named.imaged.spelled in
     sym a.empty
     ∙ ap (λ (m : Parameters). first_empty_of t a.image a.regions m) means
     ∙ ap (λ (these : List Region). first_empty_of t a.image these b.m) named

@@ -2,8 +2,9 @@
 use Rattle.std.specs.Prelude.{◌≡◌, ◌≢◌, ℕ, List, [], Option, Some, None, Ok}
 use Rattle.nor_base.specs.Chip.{IsPossible}
 use Rattle.nor_base.specs.Parameters.{Parameters}
+use Rattle.nor_hex.specs.declared.fault.HexFault.{HexFault}
 use Rattle.nor_hex.specs.declared.fault.HexFault.TheVariants as hex
-use Rattle.nor_hex.specs.Image.{Pairs}
+use Rattle.nor_hex.specs.Image.{GivesBytes, Pairs}
 use Rattle.nor_hex.specs.Faults.{IsImage, IsFault}
 use Rattle.nor_layout.specs.declared.fault.LayoutFault.{LayoutFault}
 use Rattle.nor_layout.specs.declared.fault.LayoutFault.TheVariants as layout
@@ -21,10 +22,15 @@ abbrev pub LayoutSays : Option (List ℕ) → List Region → Type 0
 LayoutSays None regions = regions ≡ []
 LayoutSays (Some text) regions = IsLayout text regions
 
--- no contradiction, and the text has this image
+-- an image that was given, which gives bytes, is the image; else that of the HEX text
+abbrev pub ImageSays : Option Pairs → List ℕ → Pairs → Type 0
+ImageSays None text image = IsImage text image
+ImageSays (Some given) text image = (image ≡ given) × GivesBytes image
+
+-- no contradiction, and this is the image
 pub record HasImage (t : Task) (image : Pairs) : Type 0 where
   pub consistent : contradiction t ≡ None
-  pub spelled : IsImage t.hex image
+  pub spelled : ImageSays t.image t.hex image
 
 -- and each named region is one of the layout's
 pub record HasRegions (t : Task) (image : Pairs) (regions : List Region) : Type 0 where
@@ -45,6 +51,11 @@ pub record AreAccepted (t : Task) (len : ℕ) (image : Pairs) (regions : List Re
 abbrev pub AreNamed : Task → Type 0
 AreNamed t = (image : Pairs) × (regions : List Region) × HasRegions t image regions
 
+-- why there is no image: the first fault of the HEX text, where none was given; or memory ran out
+pub data RefusesImage (given : Option Pairs) (text : List ℕ) : BuildFault → Type 0 where
+  OfText : (why : HexFault) → given ≡ None → why ≢ hex.Memory → IsFault text why → RefusesImage given text (fault.Hex why)
+  OutOfMemory : RefusesImage given text fault.Memory
+
 -- the layout's first fault, or the first name that no region has
 abbrev pub RefusesLayout : Task → LayoutFault → Type 0
 RefusesLayout t layout.Memory = ⊥
@@ -56,7 +67,7 @@ RefusesLayout t fault = (text : List ℕ) × (t.layout ≡ Some text) × IsFirst
 -- alone that there is none, no earlier cause holds
 abbrev pub RefusesInputs : Task → ℕ → BuildFault → Type 0
 RefusesInputs t len (fault.Contradiction number) = contradiction t ≡ Some number
-RefusesInputs t len (fault.Hex why) = (contradiction t ≡ None) × (why ≢ hex.Memory) × IsFault t.hex why
+RefusesInputs t len (fault.Hex why) = (contradiction t ≡ None) × (t.image ≡ None) × (why ≢ hex.Memory) × IsFault t.hex why
 RefusesInputs t len (fault.Layout why) = ((image : Pairs) × HasImage t image) × RefusesLayout t why
 RefusesInputs t len (fault.Sfdp why) = AreNamed t × RefusesChip t (fault.Sfdp why)
 RefusesInputs t len (fault.Sheet why) = AreNamed t × RefusesChip t (fault.Sheet why)

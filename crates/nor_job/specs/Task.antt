@@ -2,6 +2,7 @@
 use Rattle.std.specs.Prelude.{ℕ, Bool, true, false, not, ◌&&◌, ◌||◌, if◌then◌else◌, List, [], ◌∷◌, Option, Some, None, is_some, option_map}
 use Rattle.nor_base.specs.declared.meaning.Part.{Part}
 use Rattle.nor_base.specs.Array.{is_filled}
+use Rattle.nor_hex.specs.Image.{Pairs}
 use Rattle.nor_sfdp.specs.Reading.{is_generic}
 use Rattle.nor_job.specs.declared.inputs.Source.{Source}
 use Rattle.nor_job.specs.declared.inputs.Source.TheVariants as source
@@ -20,6 +21,7 @@ origin_of (source.Sheet text) = Sheet text.now
 
 pub record Task : Type 0 where
   pub hex : List ℕ
+  pub image : Option Pairs
   pub layout : Option (List ℕ)
   pub regions : List (List ℕ)
   pub chip : Origin
@@ -34,6 +36,7 @@ pub record Task : Type 0 where
 abbrev pub task_of : Inside → Task
 task_of inputs = record {
   hex = inputs.hex.now;
+  image = option_map (λ image. image.now) inputs.image;
   layout = option_map (λ text. text.now) inputs.layout;
   regions = inputs.regions.now;
   chip = origin_of inputs.chip;

@@ -4,6 +4,7 @@ ghost use Rattle.std.specs.Prelude.{◌≡◌};
 ghost use Rattle.nor_job.specs.Task.{contradiction, has_no_tables};
 
 use nor_base::{Bytes, Part};
+use nor_target::Image;
 use std::marker::Model;
 
 /// Where the meaning of a chip comes from.
@@ -27,6 +28,8 @@ pub enum Source<'a> {
 pub struct Inputs<'a> {
     /// The image, as Intel HEX text.
     pub hex: &'a [u8],
+    /// An image in place of that text, which isn't looked at then.
+    pub image: Option<&'a Image>,
     /// The layout's text, if there is one.
     pub layout: Option<&'a [u8]>,
     /// The names of the chosen regions; with none the whole chip is chosen.

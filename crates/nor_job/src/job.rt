@@ -8,7 +8,8 @@ ghost use Rattle.nor_layout.specs.Chosen.{has, is_chosen};
 ghost use Rattle.nor_job.specs.declared.fault.BuildFault.TheVariants.{Memory};
 ghost use Rattle.nor_job.specs.Task.{contradiction};
 ghost use Rattle.nor_job.specs.Status.{start_of};
-ghost use Rattle.nor_job.specs.Causes.{HasImage, HasRegions, AreAccepted, RefusesInputs};
+ghost use Rattle.nor_job.specs.Causes.{AreAccepted, HasImage, HasRegions, ImageSays};
+ghost use Rattle.nor_job.specs.Causes.{RefusesImage, RefusesInputs};
 ghost use Rattle.nor_job.specs.Job.{IsJob};
 
 use crate::chip::chip_of;
@@ -47,7 +48,7 @@ pub fn job_of(alloc: Global, inputs: &Inputs<'_>, len: u64) -> Result<Job, Build
         → IfErr result (λ fault. fault ≡ Memory) }
 {
     consistent(inputs)?;
-    let image = nor_hex::read(alloc, inputs.hex)?;
+    let image = image_of(alloc, inputs)?;
     let chosen = choose(alloc, inputs)?;
     let (meaning, start) = sized_chip(inputs, len)?;
     Ok(Job {
@@ -69,6 +70,22 @@ fn consistent(inputs: &Inputs<'_>) -> Result<(), BuildFault>
     match contradiction(inputs) {
         Some(number) => Err(BuildFault::Contradiction(number)),
         None => Ok(()),
+    }
+}
+
+/// The image of inputs, whether they contradict one another or not: a copy of the one that was
+/// given, else that of the text.
+///
+/// `Hex` with the text's first fault; `Memory` where a growth was refused.
+pub fn image_of(alloc: Global, inputs: &Inputs<'_>) -> Result<Image, BuildFault>
+    ensures image { IfOk result (ImageSays inputs.now.image inputs.now.hex) }
+    ensures refused { IfErr result (RefusesImage inputs.now.image inputs.now.hex) }
+    ensures only_memory { (image : Pairs) → ImageSays inputs.now.image inputs.now.hex image
+        → IfErr result (λ fault. fault ≡ Memory) }
+{
+    match inputs.image {
+        Some(image) => Ok(image.copied(alloc)?),
+        None => Ok(nor_hex::read(alloc, inputs.hex)?),
     }
 }
 

@@ -17,5 +17,5 @@ pub use chip::chip_of;
 pub use content::fill_window;
 pub use fault::BuildFault;
 pub use inputs::{Inputs, Source, contradiction};
-pub use job::{Job, job_of};
+pub use job::{Job, image_of, job_of};
 pub use shares::{chosen_regions, empty_region};

@@ -1,5 +1,5 @@
 -- The task of a request, part by part.
-use Rattle.std.proofs.Common.{◌≡◌, ℕ, List, Option, refl}
+use Rattle.std.proofs.Common.{◌≡◌, ℕ, List, Option, None, refl}
 use Rattle.nor_job.specs.Task.{Task}
 use Rattle.nor_job.specs.Task as job
 use Rattle.norprog_common.specs.Chip.{origin_of, task_chip}
@@ -11,6 +11,7 @@ pub rebuilt_exactly : (request : Request) (held : Held) (hex : List ℕ) (layout
     → hex ≡ held.hex → layout ≡ held.layout → regions ≡ request.regions.items → chip ≡ task_chip (origin_of request.chip) held.sfdp
     → Path Task (record {
       hex = hex;
+      image = None;
       layout = layout;
       regions = regions;
       chip = chip;

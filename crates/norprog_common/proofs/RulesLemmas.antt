@@ -5,9 +5,8 @@ use Rattle.std.specs.List.{filter_map}
 use Rattle.std.proofs.lemmas.Bool.{cases_lt}
 use Rattle.std.proofs.lemmas.Option.{slice_get-get_or}
 use Rattle.nor_base.specs.Array.{is_filled}
-use Rattle.nor_hex.specs.Faults.{IsImage}
 use Rattle.nor_hex.specs.Image.{IsRunFrom, Pairs, byte_at}
-use Rattle.nor_job.specs.Causes.{LayoutSays}
+use Rattle.nor_job.specs.Causes.{ImageSays, LayoutSays}
 use Rattle.nor_job.specs.Job.{IsJob}
 use Rattle.nor_job.specs.Shares.{HasFirstEmpty}
 use Rattle.nor_job.specs.Task.{Task}
@@ -95,13 +94,13 @@ pub some_named : (names : List (List ℕ)) (is : Bool) → false ≡ (length nam
 some_named [] is e = cc
 some_named (name ∷ names) is e = refl
 
-pub lacks_part : (t : Task) (image : Pairs) (regions chosen : List Region) (gap : Gap) → IsImage t.hex image → LayoutSays t.layout regions
+pub lacks_part : (t : Task) (image : Pairs) (regions chosen : List Region) (gap : Gap) → ImageSays t.image t.hex image → LayoutSays t.layout regions
     → is_filled t.regions ≡ true → chosen ≡ chosen_regions regions t.regions 1 → IsGap (byte_at image) t.base chosen gap → LacksPart t (Partial gap)
 lacks_part t image regions chosen gap spelled layout filled is found =
     Gapped image regions gap (record { spelled = spelled; layout = layout })
     (subst (λ (rs : List Region). IsGap (byte_at image) t.base rs gap) (is ∙ named regions t.regions 1 filled) found)
 
-pub is_given : (t : Task) (image : Pairs) (regions chosen : List Region) → IsImage t.hex image → LayoutSays t.layout regions
+pub is_given : (t : Task) (image : Pairs) (regions chosen : List Region) → ImageSays t.image t.hex image → LayoutSays t.layout regions
     → chosen ≡ chosen_regions regions t.regions 1 → AreFilled (byte_at image) t.base chosen → is_filled t.regions ≡ true → IsGiven t
 is_given t image regions chosen spelled layout is found filled = (
   image,

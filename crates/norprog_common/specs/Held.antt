@@ -1,5 +1,5 @@
 -- The task of a job, by what its files hold (this project's).
-use Rattle.std.specs.Prelude.{ℕ, List, Option, option_map}
+use Rattle.std.specs.Prelude.{ℕ, List, Option, None, option_map}
 use Rattle.nor_job.specs.Task.{Task}
 use Rattle.norprog_common.specs.Chip.{origin_of, task_chip}
 use Rattle.norprog_common.specs.declared.inputs.Texts.{Texts}
@@ -22,6 +22,7 @@ held_in texts = record {
 abbrev pub task_by : Request → Held → Task
 task_by request held = record {
   hex = held.hex;
+  image = None;
   layout = held.layout;
   regions = request.regions.items;
   chip = task_chip (origin_of request.chip) held.sfdp;

@@ -4,9 +4,8 @@ use Rattle.std.specs.List.{filter_map, list_any}
 use Rattle.nor_base.specs.Array.{is_filled}
 use Rattle.nor_base.specs.Parameters.{Parameters}
 use Rattle.nor_base.specs.Target.{is_ignored}
-use Rattle.nor_hex.specs.Faults.{IsImage}
 use Rattle.nor_hex.specs.Image.{Pairs, byte_at}
-use Rattle.nor_job.specs.Causes.{AreAccepted, LayoutSays, RefusesInputs}
+use Rattle.nor_job.specs.Causes.{AreAccepted, ImageSays, LayoutSays, RefusesInputs}
 use Rattle.nor_job.specs.Shares.{HasFirstEmpty}
 use Rattle.nor_job.specs.Task.{Task}
 use Rattle.nor_job.specs.declared.fault.BuildFault.{BuildFault}
@@ -57,9 +56,9 @@ pub record IsGap (image : ℕ → Option ℕ) (base : ℕ) (regions : List Regio
   pub earlier : (i : ℕ) (other : Region) → i < gap.index → slice_get regions i ≡ Some other → IsFilled image base other
 
 -- ---- a job
--- the image of the task's text, and the regions of its layout
+-- the image of the task, and the regions of its layout
 pub record Spells (t : Task) (image : Pairs) (regions : List Region) : Type 0 where
-  pub spelled : IsImage t.hex image
+  pub spelled : ImageSays t.image t.hex image
   pub layout : LayoutSays t.layout regions
 
 -- the regions that are named, in the order of the names

@@ -39,6 +39,7 @@ pub record AsksSetup (given : SetupArgs) (setup : Setup) : Type 0 where
 abbrev pub setup_task : Setup → List ℕ → Task
 setup_task setup tables = record {
   hex = [];
+  image = None;
   layout = None;
   regions = [];
   chip = task_chip (origin_of setup.chip) tables;

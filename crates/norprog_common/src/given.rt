@@ -25,6 +25,17 @@ pub struct Given<'a> {
     pub regions: Vec<Bytes>,
 }
 
+/// What is to be done with a chip that was read.
+#[derive(Clone, Copy)]
+pub enum Aim {
+    /// The work.
+    Work,
+    /// Nothing: only the plan of the work is printed.
+    Plan,
+    /// Nothing: what it holds is compared with what the work would leave.
+    Compare,
+}
+
 /// A file that is to be made.
 #[derive(Clone, Copy)]
 pub struct OutFile<'a> {
@@ -176,7 +187,12 @@ pub struct FlashArgs<'a> {
     pub partial: bool,
     /// Bytes of the image may lie off the chip.
     pub beyond: bool,
-    pub dry_run: bool,
+    /// What is to be done with the chip.
+    pub aim: Aim,
+    /// No image is named: each byte is to be FFh.
+    pub blank: bool,
+    /// All of the chip is chosen.
+    pub all: bool,
     /// The plan is printed whole.
     pub list: bool,
     /// As of `read`.

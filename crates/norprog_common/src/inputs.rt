@@ -22,6 +22,7 @@ pub fn inputs_of<'a>(request: &'a Request<'_>, texts: &'a Texts) -> Inputs<'a>
 {
     Inputs {
         hex: texts.hex.as_slice(),
+        image: None,
         layout: bytes_or_none(&texts.layout),
         regions: request.regions.as_slice(),
         chip: source_of(request.chip, texts.sfdp.as_slice()),

@@ -20,7 +20,7 @@ pub use chip::{Chip, chip_of, optional_status, source_of};
 pub use content::read_content;
 pub use faults::{FileName, Gap, Length, Refusal, Stray, answered, refuse, refuse_lines};
 pub use given::{
-    BuildArgs, CheckArgs, ChipArgs, DrawArgs, FlashArgs, Given, HexArgs, ListArgs, OutFile,
+    Aim, BuildArgs, CheckArgs, ChipArgs, DrawArgs, FlashArgs, Given, HexArgs, ListArgs, OutFile,
     PlanArgs, PlayArgs, ReadArgs, RunArgs, ScriptArgs, SetupArgs,
 };
 pub use image::{ImageFile, Place, fills_chip, image_of, image_text, path_of};

@@ -19,7 +19,7 @@ ghost use Rattle.norprog_common.specs.declared.faults.Stray.{Stray as StrayOf};
 
 use crate::faults::{Gap, Length, Refusal, Stray};
 use nor_hex::Image;
-use nor_job::{Inputs, Job, chosen_regions as regions_of, job_of};
+use nor_job::{Inputs, Job, chosen_regions as regions_of, image_of, job_of};
 use nor_layout::Region;
 use nor_target::{Chosen, first_empty, ignored, share_of};
 use std::alloc::Global;
@@ -221,7 +221,7 @@ pub fn refuse_partial(alloc: Global, full: bool, inputs: &Inputs<'_>) -> Result<
     if !full || inputs.regions.is_empty() {
         return Ok(());
     }
-    let Ok(image) = nor_hex::read(alloc, inputs.hex) else {
+    let Ok(image) = image_of(alloc, inputs) else {
         return Err(Refusal::MEMORY);
     };
     let Ok(regions) = regions_of(alloc, inputs, 1) else {

@@ -49,6 +49,7 @@ pub fn setup_inputs<'a>(setup: Setup<'a>, tables: &'a [u8]) -> Inputs<'a>
 {
     Inputs {
         hex: &[],
+        image: None,
         layout: None,
         regions: &[],
         chip: source_of(setup.chip, tables),

@@ -9,6 +9,8 @@ const IMAGES: &[u8] = b"--hex and --bin don't go together\n";
 
 const NO_IMAGE: &[u8] = b"--hex or --bin is missing: the image\n";
 
+const NO_SCOPE: &[u8] = b"either --all or the names of regions: what is erased\n";
+
 const CHIPS: &[u8] = b"--sfdp and --uniform don't go together\n";
 
 const SFDP_SHEET: &[u8] = b"--sfdp and --sheet don't go together\n";
@@ -41,6 +43,7 @@ pub(crate) fn add_usage(line: CommandLine<'_>, said: &mut Vec<u8>) -> Result<(),
         &[
             pair_line(typed, "hex", "bin", IMAGES),
             image_line(line),
+            scope_line(line.command),
             pair_line(typed, "sfdp", "uniform", CHIPS),
             pair_line(typed, "sfdp", "sheet", SFDP_SHEET),
             pair_line(typed, "uniform", "sheet", UNIFORM_SHEET),
@@ -86,9 +89,14 @@ fn image_line(line: CommandLine<'_>) -> &'static [u8] {
     }
 }
 
+/// What `erase` wants.
+fn scope_line(command: &str) -> &'static [u8] {
+    if command == "erase" { NO_SCOPE } else { b"" }
+}
+
 /// Whether a command wants an image by `--hex` or `--bin`.
 fn wants_image(command: &str) -> bool {
-    matches!(command, "build" | "plan" | "check" | "flash")
+    matches!(command, "build" | "plan" | "check" | "flash" | "compare")
 }
 
 /// That no chip is named, where the command wants one.
@@ -105,7 +113,10 @@ fn chip_line(line: CommandLine<'_>) -> &'static [u8] {
 
 /// Whether a command wants a chip by `--sfdp`, `--uniform` or `--sheet`.
 fn wants_chip(command: &str) -> bool {
-    !matches!(command, "read" | "flash" | "draw" | "hex" | "explain")
+    !matches!(
+        command,
+        "read" | "flash" | "erase" | "compare" | "draw" | "hex" | "explain"
+    )
 }
 
 /// That one file is named for both outputs of a reading.

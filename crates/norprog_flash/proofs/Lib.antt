@@ -4,3 +4,4 @@ mod EndedLemmas
 mod LineLemmas
 mod StopsLemmas
 mod ResumedLemmas
+mod BlankLemmas

@@ -15,7 +15,7 @@ use Rattle.nor_serprog.specs.Row.{HasHalted}
 use Rattle.norprog_common.specs.Wire.{Wire}
 use Rattle.norprog_flash.specs.declared.job.Job.{Job}
 use Rattle.norprog_flash.specs.Begun.{HasPlanned, Printed}
-use Rattle.norprog_flash.specs.Task.{dump_of, flash_task, goal_of}
+use Rattle.norprog_flash.specs.Task.{dump_of, goal_of, task_on}
 use Rattle.norprog_read.specs.declared.asked.Reading.{Reading}
 use Rattle.norprog_read.specs.Chip.{GivesContent, way_by}
 use Rattle.norprog_read.specs.Way.{Way}
@@ -29,7 +29,7 @@ given_twice w before after false content is given = absurd cc
 
 module _ (most : ℕ) (job : Job) (before read : Wire) (r : Reading) (p : Plan) (out : Printed) (planned : HasPlanned most job before read r p out) where
   abbrev start : Start
-  start = start_of (flash_task job r.tables.items)
+  start = start_of (task_on job r)
 
   -- the work is that of the meaning that was read
   chip : planned.plan.work.m ≡ r.meaning
@@ -52,9 +52,9 @@ module _ (most : ℕ) (job : Job) (before read : Wire) (r : Reading) (p : Plan) 
     pub every_flashes : Closes → (done : Wire) (limits : Limits) (turns : ℕ) → HasDoneAll read.held done.held read.ahead done.ahead limits turns p.steps
         → ClosesApart planned.read.read.ready.held planned.read.read.held.held planned.read.read.ready.ahead planned.read.read.held.ahead read.held
         done.held read.ahead done.ahead r.meaning start r.content.items
-        (goal_of (flash_task job r.tables.items) planned.plan.work.image planned.plan.work.regions (dump_of job)) p.steps
+        (goal_of (task_on job r) planned.plan.work.image planned.plan.work.regions (dump_of job)) p.steps
     every_flashes law done limits turns all =
-        let target = goal_of (flash_task job r.tables.items) planned.plan.work.image planned.plan.work.regions (dump_of job) in
+        let target = goal_of (task_on job r) planned.plan.work.image planned.plan.work.regions (dump_of job) in
         law _ _ read.held done.held _ _ read.ahead done.ahead limits turns r.meaning start true r.content.items target p.steps
         (subst (λ (w : List ℕ). IsWorkable r.meaning start r.content.items w) planned.plan.work.goal_is workable)
         (subst (λ (w : List ℕ). ArePlanned r.meaning start true r.content.items w p.steps) planned.plan.work.goal_is steps_planned) twice all

@@ -1,9 +1,10 @@
 -- Why work isn't begun on a chip that was read.
-use Rattle.std.proofs.Common.{◌≡◌, ◌∙◌, ℕ, Bool, true, false, List, length, Option, unwrap_or, Result, Ok, Err, IfErr, inl, inr, refl, sym, ap, subst}
+use Rattle.std.proofs.Common.{◌≡◌, ◌⊎◌, ◌∙◌, ℕ, Bool, true, false, List, length, Option, unwrap_or, Result, Ok, Err, IfErr, inl, inr, refl, sym, ap, subst}
 use Rattle.std.specs.Prelude.{MatchResult}
 use Rattle.nor_base.specs.declared.meaning.Start.{Start}
+use Rattle.nor_hex.specs.Image.{Pairs}
 use Rattle.nor_job.specs.declared.fault.BuildFault.{BuildFault}
-use Rattle.nor_job.specs.declared.fault.BuildFault.TheVariants.{ContentSize}
+use Rattle.nor_job.specs.declared.fault.BuildFault.TheVariants.{ContentSize, Memory}
 use Rattle.nor_job.specs.Status.{start_of}
 use Rattle.nor_job.specs.Task.{Task}
 use Rattle.nor_probe.specs.Status.{suits}
@@ -19,10 +20,15 @@ use Rattle.norprog_flash.specs.declared.ending.Unflashed.{Unflashed}
 use Rattle.norprog_flash.specs.declared.ending.Unflashed.TheVariants.{Refused, Closed}
 use Rattle.norprog_flash.specs.declared.job.Job.{Job}
 use Rattle.norprog_flash.specs.Begun.{printed, start_at}
-use Rattle.norprog_flash.specs.Early.{Breaking, BreaksEarly, RefusesEarly, early_task, is_known}
+use Rattle.norprog_flash.specs.Early.{Breaking, BreaksEarly, RefusesEarly, early_task, file_tables, is_known}
+use Rattle.norprog_flash.specs.declared.ending.Ending.TheVariants.{Compared}
+use Rattle.norprog_flash.specs.Ended.{Comparing, IsCompared}
+use Rattle.norprog_work.specs.declared.compared.Comparison.{Comparison}
+use Rattle.norprog_work.specs.Compared.{IsComparison}
+use Rattle.nor_job.specs.Causes.{RefusesInputs}
 use Rattle.norprog_flash.specs.Opened.{AtChip, StopsHolding, Tests}
 use Rattle.norprog_flash.specs.Stops.{CantPlan, OtherSize, StopsBefore, Unplanned}
-use Rattle.norprog_flash.specs.Task.{dump_of, flash_task}
+use Rattle.norprog_flash.specs.Task.{blank_image, dump_of, imaged_task, task_on}
 use Rattle.norprog_read.specs.declared.asked.Reading.{Reading}
 use Rattle.norprog_read.specs.Chip.{GivesContent, HasReadChip, way_by}
 use Rattle.norprog_read.specs.Way.{first_by, first_of, Way}
@@ -43,15 +49,19 @@ closed most w v job r read start fits begins is unfit = inr (record {
 
 -- a chip that was read whole is read so
 pub way_there : (most : ℕ) (w v : Wire) (job : Job) (r : Reading) → HasReadChip most w v job.ask r → (start : Start)
-    → start ≡ start_of (flash_task job r.tables.items) → job.ask.content ≡ true → (by : ReadBy) → by ≡ first_by r.meaning start
-    → GivesBy r.meaning (start_of (flash_task job r.tables.items)) by
+    → start ≡ start_of (task_on job r) → job.ask.content ≡ true → (by : ReadBy) → by ≡ first_by r.meaning start
+    → GivesBy r.meaning (start_of (task_on job r)) by
 way_there most w v job r read start begins whole by is =
-    subst (GivesBy r.meaning (start_of (flash_task job r.tables.items))) (sym (is ∙ ap (first_by r.meaning) begins))
+    subst (GivesBy r.meaning (start_of (task_on job r))) (sym (is ∙ ap (first_by r.meaning) begins))
     (given_way (way_by most job.ask r.tables.items r.meaning) _ _ job.ask.content r.content.items whole read.content)
 
 pub unruled : (most : ℕ) (w v : Wire) (job : Job) (r : Reading) → HasReadChip most w v job.ask r → (why : Refusal)
-    → BreaksRules job.rules (flash_task job r.tables.items) (length r.content.items) why → StopsBefore most w v job (Refused why)
+    → BreaksRules job.rules (task_on job r) (length r.content.items) why ⊎ (why ≡ Build Memory) → StopsBefore most w v job (Refused why)
 unruled most w v job r read why breaks = inr (record { reading = r; read = read; unsuited = breaks })
+
+pub or_memory : {T : Type 0} (P : Refusal → Type 0) (result : Result T Refusal) → IfErr result P → IfErr result (λ why. P why ⊎ (why ≡ Build Memory))
+or_memory P (Ok x) is = tt
+or_memory P (Err why) is = inl is
 
 -- one of these, after the line was tested
 pub holds_not : {T : Type 0} (limits : Limits) (job : Job) (first ready last : Wire) (result : Result T Unflashed) → Tests limits first ready (Ok tt)
@@ -66,18 +76,40 @@ pub breaking : {T : Type 0} (job : Job) (result : Result T Refusal) → IfErr re
 breaking job (Ok x) breaks = tt
 breaking job (Err why) breaks = Breaking why breaks
 
+-- the inputs are those of a job whose chip wasn't read
+pub early : (job : Job) (t : Task) (tables : List ℕ) (image : Option Pairs) → t ≡ imaged_task job tables image → tables ≡ file_tables job.ask.known
+    → image ≡ blank_image job.blank 0 → t ≡ early_task job
+early job t tables image task same its =
+    task ∙ (ap (λ (xs : List ℕ). imaged_task job xs image) same ∙ ap (imaged_task job (file_tables job.ask.known)) its)
+
 -- ---- whether the work is planned
 
 -- what is so of slices and inputs is so of the chip that was read
-pub over : (P : Task → List ℕ → List ℕ → Type 0) (job : Job) (r : Reading) (t : Task) (tables content old : List ℕ) → t ≡ flash_task job tables
-    → tables ≡ r.tables.items → content ≡ r.content.items → old ≡ unwrap_or (dump_of job) content → P t content old
-    → P (flash_task job r.tables.items) r.content.items (unwrap_or (dump_of job) r.content.items)
-over P job r t tables content old task same all rest is =
+pub on_chip : (job : Job) (r : Reading) (t : Task) (tables content : List ℕ) (image : Option Pairs) → t ≡ imaged_task job tables image → tables ≡ r.tables.items
+    → content ≡ r.content.items → image ≡ blank_image job.blank (length content) → t ≡ task_on job r
+on_chip job r t tables content image task same all its =
+    task ∙ (ap (λ (xs : List ℕ). imaged_task job xs image) same ∙ ap (imaged_task job r.tables.items) (its ∙ ap (λ (xs : List ℕ). blank_image job.blank (length xs)) all))
+
+pub over : (P : Task → List ℕ → List ℕ → Type 0) (job : Job) (r : Reading) (t : Task) (content old : List ℕ) → t ≡ task_on job r
+    → content ≡ r.content.items → old ≡ unwrap_or (dump_of job) content → P t content old
+    → P (task_on job r) r.content.items (unwrap_or (dump_of job) r.content.items)
+over P job r t content old task all rest is =
     let from = unwrap_or (dump_of job) r.content.items in
-    subst (λ (x : Task). P x r.content.items from) (task ∙ ap (flash_task job) same)
+    subst (λ (x : Task). P x r.content.items from) task
     (subst (λ (xs : List ℕ). P t xs from) all (subst (λ (xs : List ℕ). P t content xs) (rest ∙ ap (unwrap_or (dump_of job)) all) is))
 
 pub other_size : (job : Job) (r : Reading) (o : Option (List ℕ)) (content old : List ℕ) → content ≡ r.content.items
     → old ≡ unwrap_or (dump_of job) content → (length old ≡ length content → ⊥) → CantPlan job r (printed o o) (Build ContentSize)
 other_size job r o content old all rest other =
     let is = rest ∙ ap (unwrap_or (dump_of job)) all in OtherSize (λ same. other (ap length is ∙ (same ∙ sym (ap length all)))) refl
+
+-- ---- whether it is compared
+pub compared : (job : Job) (r : Reading) (t : Task) (content : List ℕ) (c : Comparison) → t ≡ task_on job r → content ≡ r.content.items → IsComparison t content c
+    → IsCompared job r (Compared c)
+compared job r t content c task all is =
+    Comparing c (subst (λ (x : Task). IsComparison x r.content.items c) task (subst (λ (xs : List ℕ). IsComparison t xs c) all is))
+
+pub not_compared : (job : Job) (r : Reading) (text : Option (List ℕ)) (t : Task) (content : List ℕ) (why : BuildFault) → t ≡ task_on job r → content ≡ r.content.items
+    → RefusesInputs t (length content) why → CantPlan job r (printed text text) (Build why)
+not_compared job r text t content why task all is =
+    Unplanned why (inl (subst (λ (x : Task). RefusesInputs x (length r.content.items) why) task (subst (λ (xs : List ℕ). RefusesInputs t (length xs) why) all is))) refl

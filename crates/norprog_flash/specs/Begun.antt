@@ -8,7 +8,7 @@ use Rattle.norprog_common.specs.Rules.{MeetsRules}
 use Rattle.norprog_common.specs.Wire.{Wire}
 use Rattle.norprog_flash.specs.declared.job.Job.{Job}
 use Rattle.norprog_flash.specs.Resumed.{IsOfDump}
-use Rattle.norprog_flash.specs.Task.{dump_of, flash_task}
+use Rattle.norprog_flash.specs.Task.{dump_of, task_on}
 use Rattle.norprog_flash.specs.Way.{work_text}
 use Rattle.norprog_read.specs.declared.asked.Reading.{Reading}
 use Rattle.norprog_read.specs.Chip.{HasReadChip}
@@ -22,11 +22,11 @@ start_at job status = record { mode4 = job.ask.mode4; quad = is_set status 9 }
 pub record HasRead (most : ℕ) (job : Job) (before after : Wire) (r : Reading) : Type 0 where
   pub read : HasReadChip most before after job.ask r
   pub suited : suits job.ask.part (start_at job r.status) r.status ≡ true
-  pub meets : MeetsRules job.rules (flash_task job r.tables.items) (length r.content.items)
+  pub meets : MeetsRules job.rules (task_on job r) (length r.content.items)
 
 -- this is the work from what was read to the target
 abbrev pub IsPlanOf : Job → Reading → Plan → Type 0
-IsPlanOf job r p = IsWork (flash_task job r.tables.items) r.content.items (unwrap_or (dump_of job) r.content.items) p
+IsPlanOf job r p = IsWork (task_on job r) r.content.items (unwrap_or (dump_of job) r.content.items) p
 
 -- what standard output held before, and holds
 pub record Printed : Type 0 where

@@ -4,7 +4,7 @@ use Rattle.nor_serprog.specs.declared.fault.Fault.{Fault}
 use Rattle.norprog_device.specs.Blame.{fault_of_greeting}
 use Rattle.norprog_failure.specs.Blame.{fault_of_failure}
 use Rattle.norprog_flash.specs.declared.ending.Ending.{Ending}
-use Rattle.norprog_flash.specs.declared.ending.Ending.TheVariants.{Planned, Done, Failed}
+use Rattle.norprog_flash.specs.declared.ending.Ending.TheVariants.{Planned, Compared, Done, Failed}
 use Rattle.norprog_flash.specs.declared.ending.Unflashed.{Unflashed}
 use Rattle.norprog_flash.specs.declared.ending.Unflashed.TheVariants.{Refused, Device, Unlike, Closed}
 use Rattle.norprog_read.specs.Blame.{fault_of_unlike}
@@ -12,6 +12,7 @@ use Rattle.norprog_read.specs.Blame.{fault_of_unlike}
 -- how the exchange ended early for which a step isn't done, if one did
 abbrev pub fault_of_ending : Ending → Option Fault
 fault_of_ending Planned = None
+fault_of_ending (Compared comparison) = None
 fault_of_ending (Done transactions) = None
 fault_of_ending (Failed step why) = fault_of_failure why
 

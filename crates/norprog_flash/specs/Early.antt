@@ -5,7 +5,7 @@ use Rattle.nor_base.specs.Parameters.{Parameters}
 use Rattle.nor_job.specs.Chip.{HasChip, RefusesChip}
 use Rattle.nor_job.specs.declared.fault.BuildFault.{BuildFault}
 use Rattle.nor_job.specs.Task.{Task}
-use Rattle.nor_job.specs.declared.fault.BuildFault.TheVariants.{Contradiction}
+use Rattle.nor_job.specs.declared.fault.BuildFault.TheVariants.{Contradiction, Memory}
 use Rattle.norprog_common.specs.Rules.{BreaksRules, IsGiven, LacksPart, MeetsRules}
 use Rattle.norprog_common.specs.declared.faults.Refusal.{Refusal}
 use Rattle.norprog_common.specs.declared.faults.Refusal.TheVariants.{Build}
@@ -27,7 +27,7 @@ file_tables (Tables file) = file.now
 file_tables other = []
 
 abbrev pub early_task : Job → Task
-early_task job = flash_task job (file_tables job.ask.known)
+early_task job = flash_task job (file_tables job.ask.known) 0
 
 -- there is a layout, and none of its regions is named
 abbrev pub is_unnamed : Job → Bool
@@ -53,4 +53,5 @@ pub record IsSoundEarly (job : Job) : Type 0 where
 pub data RefusesEarly (job : Job) : Refusal → Type 0 where
   Unnamed : is_unnamed job ≡ true → RefusesEarly job (Build (Contradiction 5))
   Unsound : (why : BuildFault) → is_unnamed job ≡ false → work.RefusesEarly (is_known job.ask.known) (early_task job) why → RefusesEarly job (Build why)
+  NoMemory : RefusesEarly job (Build Memory)
   Breaking : (why : Refusal) → BreaksEarly job.rules (is_known job.ask.known) (early_task job) why → RefusesEarly job why

@@ -6,26 +6,31 @@ use Rattle.nor_job.specs.Status.{start_of}
 use Rattle.nor_reader.specs.declared.by.ReadBy.{ReadBy}
 use Rattle.nor_reader.specs.Laws.{GivesBy}
 use Rattle.nor_serprog.specs.Steps.{IsFirstNotCarried}
+use Rattle.norprog_common.specs.declared.given.Aim.TheVariants as aim
 use Rattle.norprog_common.specs.Wire.{Wire}
 use Rattle.norprog_failure.specs.declared.failure.Failure.{Failure}
 use Rattle.norprog_failure.specs.declared.failure.Failure.TheVariants.{Carried}
 use Rattle.norprog_flash.specs.declared.ending.Ending.{Ending}
-use Rattle.norprog_flash.specs.declared.ending.Ending.TheVariants.{Planned, Done, Failed}
-use Rattle.norprog_flash.specs.Begun.{HasPlanned, Printed}
-use Rattle.norprog_flash.specs.Task.{dump_of, flash_task, goal_of}
+use Rattle.norprog_flash.specs.declared.ending.Ending.TheVariants.{Planned, Compared, Done, Failed}
+use Rattle.norprog_flash.specs.declared.job.Job.{Job}
+use Rattle.norprog_flash.specs.Begun.{HasPlanned, HasRead, Printed, PrintsPlan}
+use Rattle.norprog_flash.specs.Task.{dump_of, goal_of, task_on}
 use Rattle.norprog_flash.specs.Worked.{HasFailedAt, HasMissed, HasWorked, Session, back_of}
+use Rattle.norprog_read.specs.declared.asked.Reading.{Reading}
+use Rattle.norprog_work.specs.declared.compared.Comparison.{Comparison}
+use Rattle.norprog_work.specs.Compared.{IsComparison}
 use Rattle.norprog_work.specs.Work.{Plan}
 
 -- the chip was read and planned for, and the plan is to be carried out, from these bytes of the wire on
 pub record IsToDo (s : Session) (before read : Wire) (p : Plan) (out : Printed) : Type 0 where
-  pub wet : s.job.dry ≡ false
+  pub aim : s.job.aim ≡ aim.Work
   pub planned : HasPlanned s.limits.asked s.job before read s.reading p out
 
 -- what went over the wire as the content was read, and then in the work, is explained only by chips that end with the target of what
 -- they held, and by some chip
 abbrev pub EveryChipFlashes : {s : Session} {before read : Wire} {p : Plan} {out : Printed} → IsToDo s before read p out → Wire → Type 0
 EveryChipFlashes {s = s} {read = read} {p = p} todo done =
-    let t = flash_task s.job s.reading.tables.items in
+    let t = task_on s.job s.reading in
     let chip = todo.planned.read.read in
     let work = todo.planned.plan.work in
     ClosesApart chip.ready.held chip.held.held chip.ready.ahead chip.held.ahead read.held done.held read.ahead done.ahead s.reading.meaning (start_of t)
@@ -37,16 +42,27 @@ abbrev pub EveryChipKeeps : {s : Session} {before read : Wire} {p : Plan} {out :
 EveryChipKeeps {s = s} {read = read} {p = p} todo at row =
     let chip = todo.planned.read.read in
     BreaksApart chip.ready.held chip.held.held chip.ready.ahead chip.held.ahead read.held read.ahead s.reading.meaning
-    (start_of (flash_task s.job s.reading.tables.items)) s.reading.content.items p.goal p.steps at row
+    (start_of (task_on s.job s.reading)) s.reading.content.items p.goal p.steps at row
+
+-- the work on a chip that gave this was only planned and printed
+pub data IsPlanned (job : Job) (r : Reading) (out : Printed) : Ending → Type 0 where
+  Planning : (p : Plan) → PrintsPlan job r p out → IsPlanned job r out Planned
+
+-- what a chip that gave this holds is compared with the target
+pub data IsCompared (job : Job) (r : Reading) : Ending → Type 0 where
+  Comparing : (c : Comparison) → IsComparison (task_on job r) r.content.items c → IsCompared job r (Compared c)
 
 -- how the work on a chip ends, from its first reading on
 pub data EndsWork (s : Session) (before after : Wire) (out : Printed) : Ending → Type 0 where
   -- only the plan is wanted, and nothing was sent after the chip was read
-  OnlyPlan : (p : Plan) → s.job.dry ≡ true → HasPlanned s.limits.asked s.job before after s.reading p out → EndsWork s before after out Planned
+  OnlyPlan : (p : Plan) → s.job.aim ≡ aim.Plan → HasPlanned s.limits.asked s.job before after s.reading p out → EndsWork s before after out Planned
+  -- it is only compared, and nothing was sent after it was read
+  OnlyCompared : (ending : Ending) → s.job.aim ≡ aim.Compare → HasRead s.limits.asked s.job before after s.reading → out.after ≡ out.before
+      → IsCompared s.job s.reading ending → EndsWork s before after out ending
   -- each step was done, and then the chip gave just what it must hold, and past its end what one that holds just this gives, unless it may be
   -- larger, by reads of no more bytes than the device gives at once
   AllDone : (p : Plan) (read : Wire) (todo : IsToDo s before read p out) (by : ReadBy)
-      → GivesBy s.reading.meaning (start_of (flash_task s.job s.reading.tables.items)) by → (worked : HasWorked s read after (back_of s.job by) p (Ok tt))
+      → GivesBy s.reading.meaning (start_of (task_on s.job s.reading)) by → (worked : HasWorked s read after (back_of s.job by) p (Ok tt))
       → EveryChipFlashes todo worked.done → EndsWork s before after out (Done (length p.steps))
   -- a step can't be done by this device: nothing was sent after the chip was read
   NotCarried : (p : Plan) (step : ℕ) → IsToDo s before after p out → IsFirstNotCarried s.limits p.steps step → EndsWork s before after out (Failed step Carried)
@@ -56,5 +72,5 @@ pub data EndsWork (s : Session) (before after : Wire) (out : Printed) : Ending �
       → EndsWork s before after out (Failed step why)
   -- each step was done, but then the chip didn't give what it must hold
   Missed : (p : Plan) (read : Wire) (todo : IsToDo s before read p out) (by : ReadBy) (why : Failure) → why ≢ Carried
-      → GivesBy s.reading.meaning (start_of (flash_task s.job s.reading.tables.items)) by → (missed : HasMissed s read after (back_of s.job by) p why)
+      → GivesBy s.reading.meaning (start_of (task_on s.job s.reading)) by → (missed : HasMissed s read after (back_of s.job by) p why)
       → EveryChipFlashes todo missed.worked.done → EndsWork s before after out (Failed (length p.steps) why)

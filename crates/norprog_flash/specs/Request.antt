@@ -1,7 +1,10 @@
 -- What the values of a command line of `flash` ask for (this project's).
-use Rattle.std.specs.Prelude.{◌≡◌, ℕ, Bool, ◌&&◌, not, true, Option, Some, None, option_map, unwrap_or, is_some, List, codes}
+use Rattle.std.specs.Prelude.{◌≡◌, ℕ, Bool, ◌&&◌, not, true, false, if◌then◌else◌, Option, Some, None, option_map, unwrap_or, is_some, List, [], codes}
+use Rattle.nor_base.specs.Array.{is_filled}
 use Rattle.norprog_common.specs.Image.{Image, chosen_image, fills_chip, image_in}
 use Rattle.norprog_common.specs.Values.{base_of}
+use Rattle.norprog_common.specs.declared.given.Aim.{Aim}
+use Rattle.norprog_common.specs.declared.given.Aim.TheVariants.{Work, Plan, Compare}
 use Rattle.norprog_common.specs.declared.given.FlashArgs.{FlashArgs}
 use Rattle.norprog_common.specs.declared.given.ReadArgs.{ReadArgs}
 use Rattle.norprog_common.specs.declared.rules.ImageRules.{ImageRules}
@@ -25,33 +28,62 @@ read_args given = record {
 }
 
 -- what the image has to give: as many bytes as the chip has, where that is asked for; all of each named region and nothing off the chip,
--- except where the values allow that
+-- except where the values allow that, or it is blank
 abbrev pub rules_of : FlashArgs → Bool → ImageRules
-rules_of given exact = record { exact = exact; strict = given.strict; full = not given.partial; inside = not given.beyond; lands = true }
+rules_of given exact = record {
+  exact = exact;
+  strict = given.strict;
+  full = not given.partial && not given.blank;
+  inside = not given.beyond && not given.blank;
+  lands = not given.blank;
+}
 
--- the file of the image that they name
-abbrev pub asked_image : FlashArgs → Option Image
-asked_image given = chosen_image (option_map (λ t. t.now) given.hex) (option_map (λ t. t.now) given.bin)
+-- either regions are named, or all of the chip is
+abbrev pub is_said : Bool → List (List ℕ) → Bool
+is_said true regions = not (is_filled regions)
+is_said false regions = is_filled regions
+
+-- the file of the image that they name; none where each byte is to be FFh
+abbrev pub asked_by : Bool → FlashArgs → Option (Option Image)
+asked_by true given = if is_said given.all given.regions.items then Some None else None
+asked_by false given = option_map (λ image. Some image) (chosen_image (option_map (λ t. t.now) given.hex) (option_map (λ t. t.now) given.bin))
+
+abbrev pub asked_image : FlashArgs → Option (Option Image)
+asked_image given = asked_by given.blank given
+
+-- it has to have as many bytes as the chip
+abbrev pub is_exact : Option Image → Bool
+is_exact (Some image) = fills_chip image
+is_exact None = false
 
 -- the base's digits, `0` where none are given
 abbrev pub asked_base : FlashArgs → List ℕ
 asked_base given = unwrap_or (option_map (λ t. t.now) given.base) (codes "0")
 
+-- the name of the file that the content is saved in; none has to be named where it is only compared
+abbrev pub before_by : Aim → Option (List ℕ) → Option (List ℕ)
+before_by Compare name = Some []
+before_by Work name = name
+before_by Plan name = name
+
+abbrev pub asked_before : FlashArgs → Option (List ℕ)
+asked_before given = before_by given.aim (option_map (λ t. t.now) given.before)
+
 -- the files that have to be named are, and each value is of its form
 abbrev pub is_well_formed : FlashArgs → Bool
 is_well_formed given =
-    read.is_well_formed (read_args given) && is_some (asked_image given) && is_some (base_of (asked_base given)) && is_some given.before
+    read.is_well_formed (read_args given) && is_some (asked_image given) && is_some (base_of (asked_base given)) && is_some (asked_before given)
 
 -- each value is the one that its text spells
 pub record AsksFor (given : FlashArgs) (request : FlashRequest) : Type 0 where
   pub read : read.AsksFor (read_args given) request.read
-  pub image : asked_image given ≡ Some (image_in request.image)
+  pub image : asked_image given ≡ Some (option_map image_in request.image)
   pub layout : request.layout ≡ given.layout
   pub base : base_of (asked_base given) ≡ Some request.base
-  pub before : given.before ≡ Some request.before
+  pub before : asked_before given ≡ Some request.before.now
   pub resume : request.resume ≡ given.resume
   pub erased_only : request.erased_only ≡ given.erased_only
-  pub rules : request.rules ≡ rules_of given (fills_chip (image_in request.image))
-  pub dry_run : request.dry_run ≡ given.dry_run
+  pub rules : request.rules ≡ rules_of given (is_exact (option_map image_in request.image))
+  pub aim : request.aim ≡ given.aim
   pub regions : request.regions.now ≡ given.regions.items
   pub texts : request.texts.now ≡ given

@@ -23,6 +23,7 @@ name_text name.Hex = codes "hex"
 name_text name.Bin = codes "bin"
 name_text name.Layout = codes "layout"
 name_text name.Base = codes "base"
+name_text name.All = codes "all"
 name_text name.ErasedOnly = codes "erased-only"
 name_text name.Strict = codes "strict"
 name_text name.Partial = codes "partial"
@@ -72,6 +73,7 @@ next_options given = concat (
     ∷ valued name.Bin (option_map (λ t. t.now) given.bin) []
     ∷ valued name.Layout (option_map (λ t. t.now) given.layout) []
     ∷ valued name.Base (option_map (λ t. t.now) given.base) []
+    ∷ flagged name.All given.all
     ∷ flagged name.ErasedOnly given.erased_only
     ∷ flagged name.Strict given.strict
     ∷ flagged name.Partial given.partial
@@ -98,8 +100,12 @@ regions_text [] = []
 regions_text (region ∷ more) = named_text (region ∷ more)
 
 -- the command that goes on
+abbrev pub command_word : Bool → List ℕ
+command_word true = codes "norprog erase"
+command_word false = codes "norprog flash"
+
 abbrev pub next_command : FlashArgs → List ℕ
-next_command given = codes "norprog flash" ++ (next_options given ++ regions_text given.regions.items)
+next_command given = command_word given.blank ++ (next_options given ++ regions_text given.regions.items)
 
 -- what sets the terminal of the device, where one is named
 abbrev pub set_text : Option (List ℕ) → List ℕ

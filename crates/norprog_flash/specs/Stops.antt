@@ -3,7 +3,7 @@ use Rattle.std.specs.Prelude.{◌≡◌, ◌≢◌, ◌⊎◌, ℕ, false, List,
 use Rattle.std.specs.Io.KnownBytes.{Appends}
 use Rattle.nor_base.specs.Device.{Cuts}
 use Rattle.nor_job.specs.declared.fault.BuildFault.{BuildFault}
-use Rattle.nor_job.specs.declared.fault.BuildFault.TheVariants.{ContentSize, Write}
+use Rattle.nor_job.specs.declared.fault.BuildFault.TheVariants.{ContentSize, Memory, Write}
 use Rattle.nor_probe.specs.Status.{suits}
 use Rattle.norprog_common.specs.declared.faults.FileName.TheVariants as file
 use Rattle.norprog_common.specs.declared.faults.Refusal.{Refusal}
@@ -15,7 +15,7 @@ use Rattle.norprog_flash.specs.declared.ending.Unflashed.TheVariants.{Refused, D
 use Rattle.norprog_flash.specs.declared.job.Job.{Job}
 use Rattle.norprog_flash.specs.Begun.{IsPlanOf, Printed, start_at}
 use Rattle.norprog_flash.specs.Resumed.{IsOfAnother}
-use Rattle.norprog_flash.specs.Task.{dump_of, flash_task}
+use Rattle.norprog_flash.specs.Task.{dump_of, task_on}
 use Rattle.norprog_flash.specs.Way.{plan_text, work_text}
 use Rattle.norprog_read.specs.declared.asked.Ask.{Ask}
 use Rattle.norprog_read.specs.declared.asked.Reading.{Reading}
@@ -38,10 +38,10 @@ pub record StopsReading (most : ℕ) (before after : Wire) (ask : Ask) (why : Un
   pub stops : StopsChip most before after ask stop
   pub is : why ≡ of_reading stop
 
--- its status shows that it can't take work; or the job's image breaks its rules
+-- its status shows that it can't take work; or the job's image breaks its rules, or has no place in memory
 abbrev pub IsUnsuited : Job → Reading → Unflashed → Type 0
 IsUnsuited job r (Closed status) = (status ≡ r.status) × (suits job.ask.part (start_at job r.status) r.status ≡ false)
-IsUnsuited job r (Refused why) = BreaksRules job.rules (flash_task job r.tables.items) (length r.content.items) why
+IsUnsuited job r (Refused why) = BreaksRules job.rules (task_on job r) (length r.content.items) why ⊎ (why ≡ Build Memory)
 IsUnsuited job r other = ⊥
 
 -- it was read, and that is so
@@ -59,8 +59,10 @@ pub data CantPlan (job : Job) (r : Reading) (out : Printed) : Refusal → Type 0
   -- the dump from which it is resumed hasn't the chip's length
   OtherSize : length (unwrap_or (dump_of job) r.content.items) ≢ length r.content.items → out.after ≡ out.before
       → CantPlan job r out (Build ContentSize)
+  -- a blank image has no place in memory
+  NoPlace : out.after ≡ out.before → CantPlan job r out (Build Memory)
   -- it can't be planned
-  Unplanned : (fault : BuildFault) → RefusesWork (flash_task job r.tables.items) r.content.items (unwrap_or (dump_of job) r.content.items) fault
+  Unplanned : (fault : BuildFault) → RefusesWork (task_on job r) r.content.items (unwrap_or (dump_of job) r.content.items) fault
       → out.after ≡ out.before → CantPlan job r out (Build fault)
   -- the plan was printed, and the chip isn't the one of that dump
   OnAnother : (p : Plan) → IsPlanOf job r p → IsOfAnother r.meaning r.content.items (unwrap_or (dump_of job) r.content.items) p.goal

@@ -1,16 +1,26 @@
 -- The task of a command that reads a chip itself (this project's).
-use Rattle.std.specs.Prelude.{true, false, List, ℕ, None, Option, option_map, unwrap_or}
+use Rattle.std.specs.Prelude.{Bool, true, false, List, ℕ, length, replicate, Some, None, Option, option_map, unwrap_or}
+use Rattle.std.specs.List.{enumerate_from}
 use Rattle.nor_hex.specs.Image.{Pairs}
 use Rattle.nor_job.specs.Task.{Task}
 use Rattle.nor_job.specs.Wanted.{wanted}
 use Rattle.nor_layout.specs.Region.{Region}
+use Rattle.norprog_common.specs.declared.given.Aim.{Aim}
+use Rattle.norprog_common.specs.declared.given.Aim.TheVariants.{Work, Plan, Compare}
 use Rattle.norprog_flash.specs.declared.job.Job.{Job}
+use Rattle.norprog_read.specs.declared.asked.Reading.{Reading}
 use Rattle.norprog_read.specs.Chip.{task_chip}
 
--- the task of a job, on a chip that gave these tables
-abbrev pub flash_task : Job → List ℕ → Task
-flash_task job tables = record {
+-- the image of a job that erases, on a chip of so many bytes: each is FFh
+abbrev pub blank_image : Bool → ℕ → Option Pairs
+blank_image true size = Some (enumerate_from 0 (replicate size 0xFF))
+blank_image false size = None
+
+-- the task of a job with this image, on a chip that gave these tables
+abbrev pub imaged_task : Job → List ℕ → Option Pairs → Task
+imaged_task job tables image = record {
   hex = job.hex.now;
+  image = image;
   layout = option_map (λ text. text.now) job.layout;
   regions = job.regions.now;
   chip = task_chip job.ask.known job.ask.bits.now tables;
@@ -22,6 +32,20 @@ flash_task job tables = record {
   verify = true;
   erased_only = job.ask.erased_only;
 }
+
+-- its task, on a chip of so many bytes
+abbrev pub flash_task : Job → List ℕ → ℕ → Task
+flash_task job tables size = imaged_task job tables (blank_image job.blank size)
+
+-- on a chip that gave this
+abbrev pub task_on : Job → Reading → Task
+task_on job r = flash_task job r.tables.items (length r.content.items)
+
+-- the work is to be done
+abbrev pub works : Aim → Bool
+works Work = true
+works Plan = false
+works Compare = false
 
 -- the older dump whose rest is wanted, where there is one
 abbrev pub dump_of : Job → Option (List ℕ)

@@ -1,10 +1,11 @@
 -- What is printed before the first step: the plan, and how to go on with work that stops on the way (this project's).
-use Rattle.std.specs.Prelude.{ℕ, Bool, true, false, ◌||◌, nat_eq, count_by, decimal, List, [], ◌∷◌, ◌++◌, codes}
+use Rattle.std.specs.Prelude.{ℕ, Bool, true, false, ◌||◌, not, nat_eq, count_by, decimal, List, [], ◌∷◌, ◌++◌, codes}
 use Rattle.nor_base.specs.declared.step.Step.{Step}
 use Rattle.norprog.specs.Report.{report_text}
 use Rattle.norprog_common.specs.declared.given.FlashArgs.{FlashArgs}
 use Rattle.norprog_flash.specs.declared.job.Job.{Job}
 use Rattle.norprog_flash.specs.State.{way_on}
+use Rattle.norprog_flash.specs.Task.{works}
 use Rattle.norprog_read.specs.declared.asked.Reading.{Reading}
 use Rattle.norprog_read.specs.Line.{note_line}
 use Rattle.norprog_work.specs.Work.{Plan}
@@ -17,19 +18,19 @@ way_front = codes "if this stops on the way: switch the chip's power off and on,
 abbrev pub way_line : FlashArgs → List ℕ
 way_line texts = way_front ++ (way_on texts ++ codes "\n")
 
--- what is printed of how to go on before these steps; nothing where there are none, and where only the plan is wanted
+-- what is printed of how to go on before these steps; nothing where there are none, and where they aren't to be done
 abbrev pub way_text : Bool → List Step → FlashArgs → List ℕ
-way_text true steps texts = []
-way_text false [] texts = []
-way_text false (step ∷ more) texts = way_line texts
+way_text false steps texts = []
+way_text true [] texts = []
+way_text true (step ∷ more) texts = way_line texts
 
 -- and before it the size that the identification says, where that is to be noted
 abbrev pub last_text : Job → Reading → List Step → List ℕ
-last_text job r steps = note_line r.note ++ way_text job.dry steps job.texts.now
+last_text job r steps = note_line r.note ++ way_text (works job.aim) steps job.texts.now
 
 -- the whole plan is printed where that is asked for, and where only the plan is wanted
 abbrev pub is_listed : Job → Bool
-is_listed job = job.dry || job.texts.now.list
+is_listed job = not (works job.aim) || job.texts.now.list
 
 -- the lines of a plan, or how many they are
 abbrev pub lines_text : Bool → List ℕ → List ℕ

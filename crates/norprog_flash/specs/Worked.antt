@@ -21,7 +21,7 @@ use Rattle.norprog_flash.specs.declared.ending.Ending.{Ending}
 use Rattle.norprog_flash.specs.declared.ending.Ending.TheVariants.{Done, Failed}
 use Rattle.norprog_flash.specs.declared.job.Job.{Job}
 use Rattle.norprog_flash.specs.declared.work.Back.{Back}
-use Rattle.norprog_flash.specs.Task.{flash_task}
+use Rattle.norprog_flash.specs.Task.{task_on}
 use Rattle.norprog_read.specs.End.{past, EndsPast, GivesPast}
 use Rattle.norprog_read.specs.declared.asked.Reading.{Reading}
 use Rattle.norprog_work.specs.Work.{Plan}
@@ -85,5 +85,5 @@ pub data WorksOut (s : Session) (before after : Wire) (back : Back) (p : Plan) :
 -- which the chip is read back
 pub data GoesOn (s : Session) (before after : Wire) (p : Plan) : Ending → Type 0 where
   Cannot : (step : ℕ) → IsFirstNotCarried s.limits p.steps step → after ≡ before → GoesOn s before after p (Failed step Carried)
-  Goes : (by : ReadBy) (ending : Ending) → GivesBy s.reading.meaning (start_of (flash_task s.job s.reading.tables.items)) by → AreCarried s.limits p.steps
+  Goes : (by : ReadBy) (ending : Ending) → GivesBy s.reading.meaning (start_of (task_on s.job s.reading)) by → AreCarried s.limits p.steps
       → WorksOut s before after (back_of s.job by) p ending → GoesOn s before after p ending

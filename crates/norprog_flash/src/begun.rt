@@ -1,19 +1,22 @@
 //! A chip that is read, and planned for.
 
-ghost use Rattle.std.specs.Prelude.{◌≡◌, [], ◌∷◌, true, length, unwrap_or};
+ghost use Rattle.std.specs.Prelude.{◌≡◌, ◌⊎◌, [], ◌∷◌, true, length, unwrap_or};
 ghost use Rattle.std.specs.Prelude.{ℕ, List, Option, IfOk, IfErr, MatchResult, Ok};
 ghost use Rattle.nor_probe.specs.Status.{suits};
 ghost use Rattle.nor_job.specs.Status.{start_of};
+ghost use Rattle.nor_job.specs.declared.fault.BuildFault.TheVariants.{Memory};
+ghost use Rattle.norprog_common.specs.declared.faults.Refusal.TheVariants.{Build};
 ghost use Rattle.norprog_common.specs.Rules.{BreaksRules, MeetsRules};
 ghost use Rattle.norprog_common.specs.Wire.{wire};
 ghost use Rattle.norprog_flash.specs.Begun.{HasRead, IsPlanOf, PrintsPlan, printed, start_at};
-ghost use Rattle.norprog_flash.specs.Task.{dump_of, flash_task};
+ghost use Rattle.norprog_flash.specs.Task.{dump_of, flash_task, task_on};
 ghost use Rattle.norprog_work.specs.Work.{plan_of};
 ghost use Rattle.nor_reader.specs.Harmless.{HasSentHarmless, SendsHarmless};
 ghost use Rattle.nor_reader.specs.Laws.{GivesBy};
 ghost use Rattle.norprog_flash.specs.Opened.{HasHeld, StopsHolding};
 ghost use Rattle.norprog_flash.specs.Stops.{CantPlan, StopsBefore};
 
+use crate::blank::blank_image;
 use crate::ending::Unflashed;
 use crate::job::{Job, inputs_for};
 use crate::resumed::is_of_dump;
@@ -51,7 +54,7 @@ pub fn hold<R: ByteIn, W: ByteOut>(
         (wire (W.held to.old) (R.ahead from.old))
         (wire (W.held to.new) (R.ahead from.new)) held.reading
         × GivesBy held.reading.meaning
-        (start_of (flash_task job.now held.reading.tables.items)) held.by) }
+        (start_of (task_on job.now held.reading)) held.by) }
     ensures stops { IfErr result (StopsHolding limits.now job.now
         (wire (W.held to.old) (R.ahead from.old))
         (wire (W.held to.new) (R.ahead from.new))) }
@@ -103,12 +106,13 @@ fn plan_for(alloc: Global, job: &Job<'_>, reading: &Reading) -> Result<Work, Ref
     ensures refused { IfErr result (λ why. (text : Option (List ℕ))
         → CantPlan job.now reading.now (printed text text) why) }
 {
-    let inputs = inputs_for(job, reading.tables.as_slice());
     let content = reading.content.as_slice();
     let old = older(job, content);
     if old.len() != content.len() {
         return Err(Refusal::Build(BuildFault::ContentSize));
     }
+    let image = blank_image(alloc, job.blank, content.len())?;
+    let inputs = inputs_for(job, reading.tables.as_slice(), &image);
     match work_for(alloc, &inputs, content, old) {
         Ok(work) => Ok(work),
         Err(why) => Err(Refusal::Build(why)),
@@ -140,7 +144,7 @@ fn read_suited<R: ByteIn, W: ByteOut>(
         (wire (W.held to.new) (R.ahead from.new)) held.reading) }
     ensures way { IfOk result
         (λ held. GivesBy held.reading.meaning
-        (start_of (flash_task job.now held.reading.tables.items)) held.by) }
+        (start_of (task_on job.now held.reading)) held.by) }
     ensures stops { IfErr result
         (StopsBefore limits.now.asked (wire (W.held to.old) (R.ahead from.old))
         (wire (W.held to.new) (R.ahead from.new)) job.now) }
@@ -160,18 +164,20 @@ fn read_suited<R: ByteIn, W: ByteOut>(
 /// Refuses a job whose image breaks its rules, on this chip.
 fn refuse_unruled(alloc: Global, job: &Job<'_>, reading: &Reading) -> Result<(), Refusal>
     ensures meets { IfOk result (λ _. MeetsRules job.now.rules
-        (flash_task job.now reading.now.tables.items) (length reading.now.content.items)) }
-    ensures breaks { IfErr result (BreaksRules job.now.rules
-        (flash_task job.now reading.now.tables.items) (length reading.now.content.items)) }
+        (task_on job.now reading.now) (length reading.now.content.items)) }
+    ensures breaks { IfErr result (λ why. BreaksRules job.now.rules
+        (task_on job.now reading.now) (length reading.now.content.items) why
+        ⊎ (why ≡ Build Memory)) }
 {
-    let inputs = inputs_for(job, reading.tables.as_slice());
     let content = reading.content.as_slice();
+    let image = blank_image(alloc, job.blank, content.len())?;
+    let inputs = inputs_for(job, reading.tables.as_slice(), &image);
     refuse_image(alloc, job.rules, &inputs, content.len() as u64)
 }
 
 /// How the work is planned to begin: in the mode that was said, on one lane.
 pub(crate) fn said_start(job: &Job<'_>) -> Start
-    ensures { result ≡ start_of (flash_task job.now []) }
+    ensures { result ≡ start_of (flash_task job.now [] 0) }
 {
     Start {
         mode4: job.ask.mode4,

@@ -1,34 +1,36 @@
 //! Work on a chip that was read, and whose content is saved.
 
 ghost use Rattle.std.specs.Prelude.{◌≡◌, true};
-ghost use Rattle.std.specs.Prelude.{IfOk, IfErr};
+ghost use Rattle.std.specs.Prelude.{IfOk, IfErr, List, Option, ℕ};
 ghost use Rattle.nor_job.specs.Status.{start_of};
 ghost use Rattle.nor_reader.specs.Laws.{GivesBy};
 ghost use Rattle.norprog_flash.specs.Begun.{HasRead, IsPlannedOn, IsReadOn, printed};
-ghost use Rattle.norprog_flash.specs.Ended.{EndsWork};
+ghost use Rattle.norprog_flash.specs.Ended.{EndsWork, IsCompared, IsPlanned};
+ghost use Rattle.norprog_common.specs.declared.given.Aim.TheVariants as aim;
 ghost use Rattle.norprog_flash.specs.Stops.{CantPlan};
-ghost use Rattle.norprog_flash.specs.Task.{flash_task};
+ghost use Rattle.norprog_flash.specs.Task.{task_on};
 ghost use Rattle.norprog_common.specs.Wire.{Wire, wire};
 ghost use Rattle.norprog_flash.specs.Worked.{GoesOn, session};
 ghost use Rattle.norprog_work.specs.Work.{plan_of};
 
 use crate::begun::{Held, print_plan};
+use crate::blank::blank_image;
 use crate::ending::Ending;
-use crate::job::Job;
+use crate::job::{Job, inputs_for};
 use crate::work::do_work;
 use nor_base::{ByteIn, ByteOut};
 use nor_flasher::{breaks, closes, doable};
 use nor_serprog::{Limits, carried};
-use norprog_common::Refusal;
+use norprog_common::{Aim, Refusal};
 use norprog_failure::Failure;
-use norprog_work::Work;
+use norprog_read::Reading;
+use norprog_work::{Work, compare};
 use std::alloc::Global;
 
-/// Plans for a chip that was read, and prints the plan. Then, unless only the plan is wanted, it
-/// has the device do the work and read the chip back. How far it is goes to `progress`.
+/// Plans for a chip that was read, and prints the plan. Then, where the work is wanted, it has the
+/// device do that and read the chip back. How far it is goes to `progress`. Or it only compares.
 ///
-/// What the chip held must be saved before. Where it is refused, and where only the plan is wanted,
-/// nothing is sent.
+/// What the chip held must be saved before. Without work nothing is sent.
 pub fn go_on<R: ByteIn, W: ByteOut, O: ByteOut, P: ByteOut>(
     alloc: Global,
     from: &mut R,
@@ -42,7 +44,40 @@ pub fn go_on<R: ByteIn, W: ByteOut, O: ByteOut, P: ByteOut>(
     requires whole { job.now.ask.content ≡ true }
     requires read { IsReadOn limits.now.asked job.now held.now.reading
         × GivesBy held.now.reading.meaning
-        (start_of (flash_task job.now held.now.reading.tables.items)) held.now.by }
+        (start_of (task_on job.now held.now.reading)) held.now.by }
+    ensures ends { (first : Wire) → HasRead limits.now.asked job.now first
+        (wire (W.held to.old) (R.ahead from.old)) held.now.reading
+        → IfOk result (EndsWork (session job.now limits.now held.now.reading) first
+        (wire (W.held to.new) (R.ahead from.new)) (printed (O.held out.old) (O.held out.new))) }
+    ensures refused { IfErr result
+        (CantPlan job.now held.now.reading (printed (O.held out.old) (O.held out.new))) }
+    ensures unsent { IfErr result (λ _. (to.new ≡ to.old) × (from.new ≡ from.old)) }
+    ensures works { IfOk result (λ _. O.count out.new ≡ O.count out.old) }
+{
+    match job.aim {
+        Aim::Work => work_through(alloc, from, to, limits, job, held, out, progress),
+        Aim::Plan => only_plan(alloc, job, &held.reading, out),
+        Aim::Compare => compare_read(alloc, job, &held.reading),
+    }
+}
+
+/// Plans for a chip that was read, prints the plan, and has the device do the work and read the
+/// chip back.
+fn work_through<R: ByteIn, W: ByteOut, O: ByteOut, P: ByteOut>(
+    alloc: Global,
+    from: &mut R,
+    to: &mut W,
+    limits: &Limits,
+    job: &Job<'_>,
+    held: &Held,
+    out: &mut O,
+    progress: &mut P,
+) -> Result<Ending, Refusal>
+    requires aim { job.now.aim ≡ aim.Work }
+    requires whole { job.now.ask.content ≡ true }
+    requires read { IsReadOn limits.now.asked job.now held.now.reading
+        × GivesBy held.now.reading.meaning
+        (start_of (task_on job.now held.now.reading)) held.now.by }
     ensures ends { (first : Wire) → HasRead limits.now.asked job.now first
         (wire (W.held to.old) (R.ahead from.old)) held.now.reading
         → IfOk result (EndsWork (session job.now limits.now held.now.reading) first
@@ -55,10 +90,39 @@ pub fn go_on<R: ByteIn, W: ByteOut, O: ByteOut, P: ByteOut>(
     closes();
     breaks();
     let work = print_plan(alloc, job, &held.reading, out)?;
-    if job.dry {
-        return Ok(Ending::Planned);
-    }
     Ok(work_on(from, to, limits, job, held, &work, progress))
+}
+
+/// Plans for a chip that was read, and prints the plan.
+fn only_plan<O: ByteOut>(
+    alloc: Global,
+    job: &Job<'_>,
+    reading: &Reading,
+    out: &mut O,
+) -> Result<Ending, Refusal>
+    ensures planned { IfOk result
+        (IsPlanned job.now reading.now (printed (O.held out.old) (O.held out.new))) }
+    ensures refused { IfErr result
+        (CantPlan job.now reading.now (printed (O.held out.old) (O.held out.new))) }
+    ensures works { IfOk result (λ _. O.count out.new ≡ O.count out.old) }
+{
+    print_plan(alloc, job, reading, out)?;
+    Ok(Ending::Planned)
+}
+
+/// Compares what was read with the target.
+fn compare_read(alloc: Global, job: &Job<'_>, reading: &Reading) -> Result<Ending, Refusal>
+    ensures compared { IfOk result (IsCompared job.now reading.now) }
+    ensures refused { IfErr result (λ why. (text : Option (List ℕ))
+        → CantPlan job.now reading.now (printed text text) why) }
+{
+    let content = reading.content.as_slice();
+    let image = blank_image(alloc, job.blank, content.len())?;
+    let inputs = inputs_for(job, reading.tables.as_slice(), &image);
+    match compare(alloc, &inputs, content) {
+        Ok(comparison) => Ok(Ending::Compared(comparison)),
+        Err(why) => Err(Refusal::Build(why)),
+    }
 }
 
 /// Has the device do work that was planned.
@@ -74,7 +138,7 @@ fn work_on<R: ByteIn, W: ByteOut, P: ByteOut>(
     requires planned { IsPlannedOn limits.now.asked job.now held.now.reading
         (plan_of work.now) }
     requires way { GivesBy held.now.reading.meaning
-        (start_of (flash_task job.now held.now.reading.tables.items)) held.now.by }
+        (start_of (task_on job.now held.now.reading)) held.now.by }
     ensures goes { GoesOn (session job.now limits.now held.now.reading)
         (wire (W.held to.old) (R.ahead from.old)) (wire (W.held to.new) (R.ahead from.new))
         (plan_of work.now) result }

@@ -5,6 +5,7 @@ ghost use Rattle.nor_job.specs.Causes.{AreNamed};
 ghost use Rattle.norprog_flash.specs.Early.{file_tables, is_known, is_unnamed, BreaksEarly};
 ghost use Rattle.norprog_flash.specs.Early.{IsSoundEarly, MeetsEarly, RefusesEarly};
 
+use crate::blank::blank_image;
 use crate::job::{Job, inputs_for};
 use nor_job::{BuildFault, Inputs, chip_of};
 use norprog_common::{ImageRules, Refusal, refuse_image, refuse_partial};
@@ -24,7 +25,8 @@ pub fn look_at(alloc: Global, job: &Job<'_>) -> Result<(), Refusal>
         return Err(Refusal::Build(UNNAMED));
     }
     let (known, tables) = known_tables(job);
-    let inputs = inputs_for(job, tables);
+    let image = blank_image(alloc, job.blank, 0)?;
+    let inputs = inputs_for(job, tables, &image);
     match look(alloc, &inputs, known) {
         Ok(()) => refuse_early(alloc, job.rules, &inputs, known),
         Err(why) => Err(Refusal::Build(why)),

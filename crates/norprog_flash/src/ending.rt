@@ -9,12 +9,15 @@ ghost use Rattle.norprog_flash.specs.declared.ending.Unflashed.TheVariants as un
 use norprog_common::Refusal;
 use norprog_failure::Failure;
 use norprog_read::{DeviceFault, Unlike, Unread};
+use norprog_work::Comparison;
 
 /// How work on a chip ends.
 #[derive(Clone, Copy, PartialEq, Eq, Drop)]
 pub enum Ending {
     /// Nothing is to be done but the plan.
     Planned,
+    /// Nothing is to be done but to compare.
+    Compared(Comparison),
     /// Each step was done, and then the chip gave just what it must hold.
     Done {
         /// The steps.

@@ -1,13 +1,14 @@
 //! What is to be done on which chip.
 
 ghost use Rattle.std.specs.Prelude.{◌≡◌};
-ghost use Rattle.norprog_flash.specs.Task.{flash_task};
+ghost use Rattle.norprog_flash.specs.Task.{imaged_task, works};
 ghost use Rattle.norprog_read.specs.Chip.{task_chip};
 ghost use Rattle.nor_job.specs.Task.{origin_of};
 
 use nor_base::Bytes;
+use nor_hex::Image;
 use nor_job::{Inputs, Source};
-use norprog_common::{FlashArgs, ImageRules};
+use norprog_common::{Aim, FlashArgs, ImageRules};
 use norprog_read::{Ask, Known};
 
 /// What is to be done on which chip.
@@ -17,6 +18,8 @@ pub struct Job<'a> {
     pub ask: Ask<'a>,
     /// The image, as Intel HEX text.
     pub hex: &'a [u8],
+    /// In its place each byte of the chip is to be FFh.
+    pub blank: bool,
     /// The layout's text, if there is one.
     pub layout: Option<&'a [u8]>,
     /// The names of the chosen regions; with none the whole chip is chosen.
@@ -27,18 +30,30 @@ pub struct Job<'a> {
     pub old: Option<&'a [u8]>,
     /// What the image has to give.
     pub rules: ImageRules,
-    /// Only the plan is wanted.
-    pub dry: bool,
+    /// What is to be done with the chip.
+    pub aim: Aim,
     /// The texts that the way on is printed of, where there is work to do.
     pub texts: &'a FlashArgs<'a>,
 }
 
-/// The inputs of the job's build, of a chip that gave these tables.
-pub(crate) fn inputs_for<'a>(job: &'a Job<'_>, tables: &'a [u8]) -> Inputs<'a>
-    ensures { result ≡ flash_task job.now tables.now }
+/// Whether the work is to be done.
+pub(crate) fn works(aim: Aim) -> bool
+    ensures { result ≡ works aim }
+{
+    matches!(aim, Aim::Work)
+}
+
+/// The inputs of the job's build with this image, of a chip that gave these tables.
+pub(crate) fn inputs_for<'a>(
+    job: &'a Job<'_>,
+    tables: &'a [u8],
+    image: &'a Option<Image>,
+) -> Inputs<'a>
+    ensures { result ≡ imaged_task job.now tables.now image.now }
 {
     Inputs {
         hex: job.hex,
+        image: image.as_ref(),
         layout: job.layout,
         regions: job.regions,
         chip: source_for(job, tables),

@@ -8,6 +8,7 @@
 
 mod begun;
 mod blame;
+mod blank;
 mod device;
 mod early;
 mod ending;

@@ -4,7 +4,8 @@ ghost use Rattle.std.specs.Prelude.{◌≡◌, ◌++◌, codes, flat_map, option
 ghost use Rattle.nor_base.specs.Device.{Counts, Writes};
 ghost use Rattle.norprog_device.specs.Setting.{stty_command};
 ghost use Rattle.norprog_device.specs.Shell.{shell_word};
-ghost use Rattle.norprog_flash.specs.State.{first_name, flagged, given_text, name_text};
+ghost use Rattle.norprog_flash.specs.State.{command_word, first_name, flagged, given_text};
+ghost use Rattle.norprog_flash.specs.State.{name_text};
 ghost use Rattle.norprog_flash.specs.State.{named_text, next_command, next_options, option_front};
 ghost use Rattle.norprog_flash.specs.State.{region_word, regions_text, set_text, valued, way_on};
 
@@ -27,6 +28,7 @@ pub(crate) enum Name {
     Bin,
     Layout,
     Base,
+    All,
     ErasedOnly,
     Strict,
     Partial,
@@ -88,13 +90,24 @@ fn write_command<W: ByteOut>(given: &FlashArgs<'_>, writer: &mut W) -> Result<()
     ensures bytes { Writes (W.held writer.old) (W.held writer.new) result (next_command given.now) }
     ensures count { Counts (W.count writer.old) (W.count writer.new) result }
 {
-    put_all(writer, b"norprog flash")?;
+    put_all(writer, command_word(given.blank))?;
     write_options(&options(given), writer)?;
     write_regions(given.regions.as_slice(), writer)
 }
 
+/// Its name.
+fn command_word(blank: bool) -> &'static [u8]
+    ensures { result.now ≡ command_word blank }
+{
+    if blank {
+        b"norprog erase"
+    } else {
+        b"norprog flash"
+    }
+}
+
 /// Its options.
-fn options<'a>(given: &'a FlashArgs<'a>) -> [Given<'a>; 23]
+fn options<'a>(given: &'a FlashArgs<'a>) -> [Given<'a>; 24]
     ensures { flat_map given_text result ≡ next_options given.now }
 {
     [
@@ -110,6 +123,7 @@ fn options<'a>(given: &'a FlashArgs<'a>) -> [Given<'a>; 23]
         Given::Text(Name::Bin, given.bin),
         Given::Text(Name::Layout, given.layout),
         Given::Text(Name::Base, given.base),
+        Given::Flag(Name::All, given.all),
         Given::Flag(Name::ErasedOnly, given.erased_only),
         Given::Flag(Name::Strict, given.strict),
         Given::Flag(Name::Partial, given.partial),
@@ -229,6 +243,7 @@ fn name_text(name: Name) -> &'static [u8]
         Name::Bin => b"bin",
         Name::Layout => b"layout",
         Name::Base => b"base",
+        Name::All => b"all",
         Name::ErasedOnly => b"erased-only",
         Name::Strict => b"strict",
         Name::Partial => b"partial",

@@ -13,6 +13,7 @@ use crate::options::{first_name, write_way_on};
 use nor_base::{ByteOut, Failed, Part, put_all, put_parts};
 use norprog_common::{FlashArgs, part, refuse_lines};
 use norprog_failure::Failure;
+use norprog_work::Comparison;
 
 /// What is written around the name of the file that has what the chip held before the first try.
 const HALF_DONE: &[u8] = b"norprog: the chip is half done, and what it held is in ";
@@ -78,7 +79,7 @@ fn is_partial(ending: Ending) -> bool
 {
     match ending {
         Ending::Failed { why, step: _ } => is_sent(why),
-        Ending::Planned | Ending::Done { .. } => false,
+        Ending::Planned | Ending::Compared(_) | Ending::Done { .. } => false,
     }
 }
 
@@ -93,12 +94,14 @@ fn is_sent(why: Failure) -> bool
     }
 }
 
-/// 0 where all that was wanted was done, 3 where the chip may hold a part of it, else 1.
+/// 0 where all that was wanted was done or is so, 3 where the chip may hold a part of it, else 1.
 fn status_of(ending: Ending) -> u8
     ensures { result ≡ status_of ending }
 {
     match ending {
         Ending::Planned | Ending::Done { .. } => 0,
+        Ending::Compared(Comparison::Same { .. }) => 0,
+        Ending::Compared(Comparison::Differs { .. }) => 1,
         Ending::Failed { .. } if is_partial(ending) => 3,
         Ending::Failed { .. } => 1,
     }

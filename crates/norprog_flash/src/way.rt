@@ -4,10 +4,11 @@
 ghost use Rattle.std.specs.Prelude.{◌≡◌, count_by, nat_eq};
 ghost use Rattle.nor_base.specs.Device.{Counts, Writes};
 ghost use Rattle.norprog_flash.specs.Way.{is_listed, last_text, lines_text, plan_text, way_line};
+ghost use Rattle.norprog_flash.specs.Task.{works};
 ghost use Rattle.norprog_flash.specs.Way.{way_text};
 ghost use Rattle.norprog_work.specs.Work.{plan_of};
 
-use crate::job::Job;
+use crate::job::{Job, works};
 use crate::options::write_way_on;
 use itoa::Buffer;
 use nor_base::{ByteOut, Failed, Step, put_all, put_parts};
@@ -35,7 +36,7 @@ pub(crate) fn write_plan<O: ByteOut>(job: &Job<'_>, work: &Work, out: &mut O) ->
 fn is_listed(job: &Job<'_>) -> bool
     ensures { result ≡ is_listed job.now }
 {
-    job.dry || job.texts.list
+    !works(job.aim) || job.texts.list
 }
 
 /// Writes lines, or how many they are.
@@ -78,10 +79,10 @@ pub(crate) fn write_last<O: ByteOut>(
 /// Writes how to go on.
 fn write_way<O: ByteOut>(job: &Job<'_>, steps: &[Step], out: &mut O) -> Result<(), Failed>
     ensures bytes { Writes (O.held out.old) (O.held out.new) result
-        (way_text job.now.dry steps.now job.now.texts.now) }
+        (way_text (works job.now.aim) steps.now job.now.texts.now) }
     ensures count { Counts (O.count out.old) (O.count out.new) result }
 {
-    if job.dry {
+    if !works(job.aim) {
         return Ok(());
     }
     match steps {

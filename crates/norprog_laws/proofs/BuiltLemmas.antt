@@ -15,12 +15,9 @@ use Rattle.nor_check.specs.declared.verdict.Verdict.TheVariants.{Yes, No}
 use Rattle.nor_check.specs.declared.verdict.Why.TheVariants as why
 use Rattle.nor_check.specs.Outcome.{differs, first_difference, at_difference, ended, outcome_from, outcome}
 use Rattle.nor_check.specs.Worst.{IsWorst}
-use Rattle.nor_hex.specs.declared.fault.HexFault.{HexFault}
-use Rattle.nor_hex.specs.Faults.{IsImage}
-use Rattle.nor_hex.specs.Image.{Pairs, Puts, byte_at}
-use Rattle.nor_hex.specs.Record.{Record}
+use Rattle.nor_hex.specs.Image.{Pairs, byte_at}
 use Rattle.nor_job.proofs.ChipLemmas.{one_chip}
-use Rattle.nor_job.specs.Causes.{LayoutSays}
+use Rattle.nor_job.proofs.OneLemmas.{image_same, regions_same}
 use Rattle.nor_job.specs.Status.{start_of}
 use Rattle.nor_job.specs.Task.{Task}
 use Rattle.nor_laws.specs.Laws.{OneList}
@@ -56,34 +53,6 @@ built_is_right one t len before after x y wrote steps v script worst =
     let task : DoesTask worst.chip wrote.content goal steps =
     subst (λ (xs : List Step). DoesTask worst.chip wrote.content goal xs) same (wrote.task worst.chip worst.is) in
     sym worst.so ∙ does_yes worst.chip wrote.content goal steps task
-
--- records are told by their list
-records_same : (xs ys : List Record) → ◌≡◌ {A = List (Result Record HexFault)} (map Ok xs) (map Ok ys) → xs ≡ ys
-records_same [] [] h = refl
-records_same [] (y ∷ ys) h = cc
-records_same (x ∷ xs) [] h = cc
-records_same (x ∷ xs) (y ∷ ys) h =
-    let head : x ≡ y = cc in
-    let tails : ◌≡◌ {A = List (Result Record HexFault)} (map Ok xs) (map Ok ys) = cc in
-    ap (λ z. z ∷ xs) head ∙ ap (λ zs. y ∷ zs) (records_same xs ys tails)
-
-option_same : (o p : Option ℕ) → ((x : ℕ) → o ≡ Some x → p ≡ Some x) → ((x : ℕ) → p ≡ Some x → o ≡ Some x) → o ≡ p
-option_same (Some x) p f g = sym (f x refl)
-option_same None None f g = refl
-option_same None (Some y) f g = g y refl
-
--- a text has one image
-image_same : (text : List ℕ) (a b : Pairs) → IsImage text a → IsImage text b → (address : ℕ) → byte_at a address ≡ byte_at b address
-image_same text a b is_a is_b address =
-    let same : is_a.records ≡ is_b.records = records_same is_a.records is_b.records (sym is_a.accepted.each ∙ is_b.accepted.each) in
-    option_same (byte_at a address) (byte_at b address)
-    (λ byte is. is_b.put address byte (subst (λ (records : List Record). Puts records address byte) same (is_a.given address byte is)))
-    (λ byte is. is_a.put address byte (subst (λ (records : List Record). Puts records address byte) (sym same) (is_b.given address byte is)))
-
--- and one list of regions
-regions_same : (o : Option (List ℕ)) (a b : List Region) → LayoutSays o a → LayoutSays o b → a ≡ b
-regions_same None a b is_a is_b = is_a ∙ sym is_b
-regions_same (Some text) a b is_a is_b = is_a.spelled ∙ sym is_b.spelled
 
 byte_same : (f g : ℕ → Option ℕ) (base : ℕ) (c : ℕ → Bool) → ((a : ℕ) → f a ≡ g a) → (a old : ℕ) → target_byte f base c a old ≡ target_byte g base c a old
 byte_same f g base c same a old = ap (λ o. if c a && nat_lt (base + a) (2 ^ 32) then unwrap_or o old else old) (same (base + a))
@@ -121,7 +90,7 @@ built_is_checked one t len before after rest x y found wrote tells checked =
     given_same before rest after checked.content wrote.content tells checked.given wrote.given (checked.whole ∙ sym wrote.whole) in
     let goal : wanted t checked.image checked.regions wrote.content ≡ wanted t wrote.image wrote.regions wrote.content =
     wanted_same t checked.image wrote.image checked.regions wrote.regions wrote.content
-    (image_same t.hex checked.image wrote.image named.imaged.spelled own.imaged.spelled)
+    (image_same t.image t.hex checked.image wrote.image named.imaged.spelled own.imaged.spelled)
     (regions_same t.layout checked.regions wrote.regions named.layout own.layout) in
     built_is_right one t len before after x y wrote checked.steps found.verdict checked.script
     (subst (λ (wish : List ℕ). IsWorst wrote.m start wrote.content wish checked.steps found.verdict) goal

@@ -151,6 +151,7 @@ pub record AreMeanings : Type 0 where
 abbrev pub plain : ℕ → Task
 plain size = record {
   hex = [];
+  image = None;
   layout = None;
   regions = [];
   chip = Uniform size;

@@ -1,5 +1,5 @@
 -- What is said of a job.
-use Rattle.std.proofs.Common.{ℕ, List, ◌++◌, Option, Result, Ok, Err, option_map, subst}
+use Rattle.std.proofs.Common.{ℕ, List, [], ◌∷◌, ◌++◌, Global, Option, Some, Result, Ok, Err, Vec, option_map, subst}
 use Rattle.norprog_common.specs.Told.{Output, between}
 use Rattle.norprog_common.specs.declared.given.FlashArgs.{FlashArgs}
 use Rattle.norprog_flash.specs.declared.ending.Ending.{Ending}
@@ -7,19 +7,32 @@ use Rattle.norprog_flash.specs.declared.ending.Unflashed.{Unflashed}
 use Rattle.norprog_flash.specs.declared.ending.Unflashed.TheVariants.{Closed, Device, Refused, Unlike}
 use Rattle.norprog_named.specs.AskedDevice.{SaysFlash}
 use Rattle.norprog_common.specs.Chip.{origin_of}
-use Rattle.norprog_common.specs.Image.{image_in}
-use Rattle.norprog_files.specs.Files.{Event}
+use Rattle.norprog_common.specs.Image.{Image}
+use Rattle.norprog_common.specs.declared.faults.Refusal.{Refusal}
+use Rattle.norprog_files.specs.Files.{AreUsed, Event, NoneUsed}
 use Rattle.norprog_flash.specs.declared.request.FlashRequest.{FlashRequest}
-use Rattle.norprog_named.specs.Flash.{ReadsFlash, Reads_all, StillWorks}
-use Rattle.norprog_named.specs.Job.{Read_image, Reads, ReadsImage, ReadsNamed}
+use Rattle.norprog_named.specs.Flash.{NoImage, OfImage, ReadsAsked, ReadsFlash, Reads_all, StillWorks, asked_files, asked_in}
+use Rattle.norprog_named.specs.Job.{Read_image, Reading, Reads, ReadsImage, ReadsNamed, image_file}
+use Rattle.norprog_named.proofs.JobLemmas.{image_used}
 use Rattle.norprog_named.specs.declared.flash_files.FlashTexts.{FlashTexts}
 
+-- the file of an image was read, or there is none
+pub asked_used : {image : Option Image} {bytes : List ℕ} {log : List Event} → ReadsAsked image bytes log → AreUsed (asked_files image) log
+asked_used (NoImage bytes) = NoneUsed
+asked_used (OfImage image bytes) = image_used image {bytes = bytes} Read_image
+
+pub asked_read : (image : Image) (result : Result (Vec ℕ Global) Refusal) (log : List Event)
+    → Reading (image_file image ∷ []) (λ bytes. ReadsImage image bytes.items) result log
+    → Reading (asked_files (Some image)) (λ bytes. ReadsAsked (Some image) bytes.items) result log
+asked_read image (Ok bytes) log Read_image = OfImage image bytes.items
+asked_read image (Err why) log stops = stops
+
 -- all files were read
-pub reads_all : {r : FlashRequest} {held : FlashTexts} {image layout tables old : List Event} → ReadsImage (image_in r.image) held.hex.items image
+pub reads_all : {r : FlashRequest} {held : FlashTexts} {image layout tables old : List Event} → ReadsAsked (asked_in r) held.hex.items image
     → Reads (option_map (λ t. t.now) r.layout) (option_map (λ bytes. bytes.items) held.layout) layout
     → ReadsNamed (option_map origin_of r.read.chip) held.sfdp.items tables
     → Reads (option_map (λ t. t.now) r.resume) (option_map (λ bytes. bytes.items) held.old) old → ReadsFlash r held (image ++ (layout ++ (tables ++ old)))
-reads_all {layout = layout} {tables = tables} {old = old} Read_image first second third = Reads_all layout tables old first second third
+reads_all {image = image} {layout = layout} {tables = tables} {old = old} zeroth first second third = Reads_all image layout tables old zeroth first second third
 
 -- what fails as an answer is said had failed no more often before
 pub says_wider : (given : FlashArgs) (k m n : ℕ) (before after : Option (List ℕ)) (err : Output) (status : ℕ) (answer : Result Ending Unflashed)

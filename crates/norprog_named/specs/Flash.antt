@@ -1,10 +1,10 @@
 -- How `flash` ends (this project's).
-use Rattle.std.specs.Prelude.{◌≡◌, ⊤, ℕ, ◌&&◌, not, List, [], ◌∷◌, ◌++◌, if◌then◌else◌, Option, Some, None, option_map, Result, Ok, Err}
+use Rattle.std.specs.Prelude.{◌≡◌, ⊤, ℕ, ◌&&◌, not, is_some, List, [], ◌∷◌, ◌++◌, if◌then◌else◌, Option, Some, None, option_map, Result, Ok, Err}
 use Rattle.nor_serprog.specs.Greeting.{Greeted}
 use Rattle.nor_serprog.specs.declared.fault.GreetFault.{GreetFault}
 use Rattle.nor_serprog.specs.declared.limits.Limits.{Limits}
 use Rattle.norprog_common.specs.Chip.{origin_of}
-use Rattle.norprog_common.specs.Image.{IsTextOf, RefusesText, image_in, path_of}
+use Rattle.norprog_common.specs.Image.{Image, IsTextOf, RefusesText, image_in, path_of}
 use Rattle.norprog_common.specs.declared.faults.FileName.{FileName}
 use Rattle.norprog_common.specs.declared.faults.FileName.TheVariants as file
 use Rattle.norprog_common.specs.declared.faults.Refusal.{Refusal}
@@ -18,6 +18,7 @@ use Rattle.norprog_flash.specs.Blame.{fault_in}
 use Rattle.norprog_flash.specs.Early.{IsSoundEarly, RefusesEarly}
 use Rattle.norprog_flash.specs.Opened.{EndsTested, HasHeld, StopsHolding}
 use Rattle.norprog_flash.specs.Stops.{CantPlan}
+use Rattle.norprog_flash.specs.Task.{works}
 use Rattle.norprog_flash.specs.declared.ending.Ending.{Ending}
 use Rattle.norprog_flash.specs.declared.ending.Unflashed.{Unflashed}
 use Rattle.norprog_flash.specs.declared.ending.Unflashed.TheVariants.{Device, Refused}
@@ -30,27 +31,51 @@ use Rattle.norprog_read.specs.Request.{IsAskOf}
 use Rattle.norprog_read.specs.declared.asked.Reading.{Reading}
 use Rattle.norprog_read.specs.declared.request.ReadRequest.{ReadRequest}
 
+-- the image of a request, where it has a file
+abbrev pub asked_in : FlashRequest → Option Image
+asked_in r = option_map image_in r.image
+
+abbrev pub asked_files : Option Image → List (FileName × List ℕ)
+asked_files None = []
+asked_files (Some image) = image_file image ∷ []
+
+-- that was read, and has these bytes; where there is no file they have no part in it
+pub data ReadsAsked : Option Image → List ℕ → List Event → Type 0 where
+  NoImage : (bytes : List ℕ) → ReadsAsked None bytes []
+  OfImage : (image : Image) (bytes : List ℕ) → ReadsAsked (Some image) bytes (Given (path_of image) bytes ∷ [])
+
+-- the text of an image whose file has these bytes
+abbrev pub IsAskedText : ℕ → Option (List ℕ) → List ℕ → Option Image → List ℕ → Type 0
+IsAskedText base layout bytes None text = text ≡ bytes
+IsAskedText base layout bytes (Some image) text = IsTextOf base layout bytes image text
+
+-- why there is none
+abbrev pub RefusesAsked : ℕ → Option (List ℕ) → List ℕ → Option Image → Refusal → Type 0
+RefusesAsked base layout bytes None why = ⊥
+RefusesAsked base layout bytes (Some image) why = RefusesText base layout bytes image why
+
 -- the files that are read, each with its option, in their order
 abbrev pub flash_files : FlashRequest → List (FileName × List ℕ)
 flash_files r =
-    image_file (image_in r.image) ∷ (named_by file.Layout (option_map (λ t. t.now) r.layout) ++ (chip_files (option_map origin_of r.read.chip)
+    asked_files (asked_in r) ++ (named_by file.Layout (option_map (λ t. t.now) r.layout) ++ (chip_files (option_map origin_of r.read.chip)
     ++ named_by file.Resume (option_map (λ t. t.now) r.resume)))
 
 -- each was read whole, and has these bytes
 pub data ReadsFlash (r : FlashRequest) (held : FlashTexts) : List Event → Type 0 where
-  Reads_all : (layout tables old : List Event) → Reads (option_map (λ t. t.now) r.layout) (option_map (λ bytes. bytes.items) held.layout) layout
+  Reads_all : (image layout tables old : List Event) → ReadsAsked (asked_in r) held.hex.items image
+      → Reads (option_map (λ t. t.now) r.layout) (option_map (λ bytes. bytes.items) held.layout) layout
       → ReadsNamed (option_map origin_of r.read.chip) held.sfdp.items tables
       → Reads (option_map (λ t. t.now) r.resume) (option_map (λ bytes. bytes.items) held.old) old
-      → ReadsFlash r held (Given (path_of (image_in r.image)) held.hex.items ∷ (layout ++ (tables ++ old)))
+      → ReadsFlash r held (image ++ (layout ++ (tables ++ old)))
 
 -- they were, and these are the texts of the job: that of the image is made of its file's bytes; or one can't be read, or the image has none
 pub data EndsReading (r : FlashRequest) : Result FlashTexts Refusal → List Event → Type 0 where
   HasTexts : (read texts : FlashTexts) (log : List Event) → ReadsFlash r read log
-      → IsTextOf r.base (option_map (λ bytes. bytes.items) read.layout) read.hex.items (image_in r.image) texts.hex.items
+      → IsAskedText r.base (option_map (λ bytes. bytes.items) read.layout) read.hex.items (asked_in r) texts.hex.items
       → texts ≡ record read { hex = texts.hex } → EndsReading r (Ok texts) log
   NoFile : (log : List Event) (why : Refusal) → StopsOpening (flash_files r) log why → EndsReading r (Err why) log
   NoText : (read : FlashTexts) (log : List Event) (why : Refusal) → ReadsFlash r read log
-      → RefusesText r.base (option_map (λ bytes. bytes.items) read.layout) read.hex.items (image_in r.image) why → EndsReading r (Err why) log
+      → RefusesAsked r.base (option_map (λ bytes. bytes.items) read.layout) read.hex.items (asked_in r) why → EndsReading r (Err why) log
 
 -- standard output failed only where work was refused
 abbrev pub StillWorks : Result Ending Unflashed → ℕ → ℕ → Type 0
@@ -80,20 +105,21 @@ pub record IsJobOf (r : FlashRequest) (held : FlashTexts) (job : Job) : Type 0 w
   pub ask : IsAskOf (reading_of r) held.sfdp.items job.ask
   pub erased_only : job.ask.erased_only ≡ r.erased_only
   pub hex : job.hex.now ≡ held.hex.items
+  pub blank : job.blank ≡ not (is_some r.image)
   pub layout : option_map (λ t. t.now) job.layout ≡ option_map (λ bytes. bytes.items) held.layout
   pub regions : job.regions.now ≡ r.regions.now
   pub base : job.base ≡ r.base
   pub old : option_map (λ t. t.now) job.old ≡ option_map (λ bytes. bytes.items) held.old
   pub rules : job.rules ≡ r.rules
-  pub dry : job.dry ≡ r.dry_run
+  pub aim : job.aim ≡ r.aim
   pub texts : job.texts.now ≡ r.texts.now
 
--- where what the chip holds is saved: nowhere where only the plan is wanted
+-- where what the chip holds is saved: nowhere where the work isn't to be done
 abbrev pub file_for : Job → List ℕ → Option (List ℕ)
-file_for job name = if job.dry then None else Some name
+file_for job name = if works job.aim then Some name else None
 
 -- how a job ends on a device that reported these limits, while its line goes from this to that; what the chip held is saved in the file of
--- this name, unless only the plan is wanted
+-- this name, unless the work isn't to be done
 pub data EndsHeld (limits : Limits) (name : List ℕ) (job : Job) (begun done : Wire) (out : Printed) : List Event → Result Ending Unflashed → Type 0
   where
     -- what the chip held is saved, and then the work on it ended so

@@ -1,14 +1,15 @@
 //! `flash` on its files and its device.
 
 ghost use Rattle.std.specs.Prelude.{◌≡◌, ◌&&◌, not, true, IfErr, IfOk, option_map};
-ghost use Rattle.norprog_common.specs.Image.{IsTextOf, RefusesText, image_in};
+ghost use Rattle.norprog_common.specs.Image.{image_in};
 ghost use Rattle.norprog_device.specs.Blame.{is_cut};
 ghost use Rattle.norprog_common.specs.Wire.{wire};
 ghost use Rattle.norprog_files.specs.Files.{Did};
 ghost use Rattle.norprog_flash.specs.Blame.{fault_in as told_in};
 ghost use Rattle.norprog_named.specs.Flash.{EndsFlash, EndsGreeted, EndsHeld, EndsJob};
 ghost use Rattle.norprog_named.specs.Flash.{EndsReading, IsJobOf, ReadsFlash, StillWorks};
-ghost use Rattle.norprog_named.specs.Flash.{file_for, flash_files};
+ghost use Rattle.norprog_named.specs.Flash.{IsAskedText, ReadsAsked, RefusesAsked};
+ghost use Rattle.norprog_named.specs.Flash.{asked_files, asked_in, file_for, flash_files};
 ghost use Rattle.norprog_flash.specs.Begun.{printed};
 ghost use Rattle.norprog_named.specs.Flash.{reading_of};
 ghost use Rattle.norprog_named.specs.Job.{Reading};
@@ -17,7 +18,7 @@ use crate::job::{bytes_in, read_chip, read_image, read_named};
 use crate::saved::save_if;
 use nor_base::{ByteIn, ByteOut};
 use nor_serprog::{Limits, greet};
-use norprog_common::{FileName, Refusal, image_text};
+use norprog_common::{Aim, FileName, ImageFile, Refusal, image_text};
 use norprog_device::{DeviceFault, is_cut, let_go};
 use norprog_files::{Files, Trail};
 use norprog_flash::{Ending, FlashRequest, Job, Unflashed, fault_in, go_on, hold, look_at};
@@ -36,8 +37,8 @@ pub(crate) struct FlashTexts {
 }
 
 /// Programs the chip behind a device (docs/FORMATS.md, sections 9 and 14): reads it, saves what it
-/// holds in a new file, unless only the plan is wanted, plans, and does the work. The plan goes to
-/// `out`, and how far the work is to `progress`; where that fails nothing changes.
+/// holds in a new file where the work is wanted, plans, and does the work, or compares. The plan
+/// goes to `out`, and how far the work is to `progress`; where that fails nothing changes.
 pub fn flash<F: Files, O: ByteOut, P: ByteOut>(
     alloc: Global,
     files: &F,
@@ -86,13 +87,13 @@ fn texts_of(
     request: &FlashRequest<'_>,
     read: FlashTexts,
 ) -> Result<FlashTexts, Refusal>
-    ensures text { IfOk result (λ texts. IsTextOf request.now.base
+    ensures text { IfOk result (λ texts. IsAskedText request.now.base
         (option_map (λ bytes. bytes.items) read.layout) read.hex.items
-        (image_in request.now.image) texts.hex.items
+        (asked_in request.now) texts.hex.items
         × (texts ≡ record read { hex = texts.hex })) }
-    ensures refused { IfErr result (RefusesText request.now.base
+    ensures refused { IfErr result (RefusesAsked request.now.base
         (option_map (λ bytes. bytes.items) read.layout) read.hex.items
-        (image_in request.now.image)) }
+        (asked_in request.now)) }
 {
     let FlashTexts {
         hex: bytes,
@@ -100,13 +101,48 @@ fn texts_of(
         sfdp,
         old,
     } = read;
-    let hex = image_text(alloc, request.image, request.base, bytes_in(&layout), bytes)?;
+    let hex = asked_text(alloc, request, bytes_in(&layout), bytes)?;
     Ok(FlashTexts {
         hex,
         layout,
         sfdp,
         old,
     })
+}
+
+/// The text of the image that has a file with these bytes.
+fn asked_text(
+    alloc: Global,
+    request: &FlashRequest<'_>,
+    layout: Option<&[u8]>,
+    bytes: Vec<u8>,
+) -> Result<Vec<u8>, Refusal>
+    ensures text { IfOk result (λ text. IsAskedText request.now.base
+        (option_map (λ t. t.now) layout.entry) bytes.items (asked_in request.now) text.items) }
+    ensures refused { IfErr result (RefusesAsked request.now.base
+        (option_map (λ t. t.now) layout.entry) bytes.items (asked_in request.now)) }
+{
+    match request.image {
+        Some(image) => image_text(alloc, image, request.base, layout, bytes),
+        None => Ok(bytes),
+    }
+}
+
+/// Reads the file of an image whole, where it has one.
+fn read_asked<F: Files>(
+    alloc: Global,
+    files: &F,
+    trail: &mut F::Trail,
+    image: Option<ImageFile<'_>>,
+) -> Result<Vec<u8>, Refusal>
+    ensures { Did (F.Trail.did trail.old) (F.Trail.did trail.new)
+        (Reading (asked_files (option_map image_in image.entry))
+        (λ bytes. ReadsAsked (option_map image_in image.entry) bytes.items) result) }
+{
+    match image {
+        Some(image) => read_image(alloc, files, trail, image),
+        None => Ok(Vec::new(alloc)),
+    }
 }
 
 /// The same, with the bytes of the image's file in place of its text.
@@ -119,7 +155,7 @@ fn read_files<F: Files>(
     ensures { Did (F.Trail.did trail.old) (F.Trail.did trail.new)
         (Reading (flash_files request.now) (ReadsFlash request.now) result) }
 {
-    let hex = read_image(alloc, files, trail, request.image)?;
+    let hex = read_asked(alloc, files, trail, request.image)?;
     let layout = read_named(alloc, files, trail, request.layout, FileName::Layout)?;
     let sfdp = read_chip(alloc, files, trail, request.read.chip)?;
     let old = read_named(alloc, files, trail, request.resume, FileName::Resume)?;
@@ -152,12 +188,13 @@ fn job_for<'a>(request: &'a FlashRequest<'_>, texts: &'a FlashTexts) -> Job<'a>
             expect_id: asked.expect_id,
         },
         hex: texts.hex.as_slice(),
+        blank: request.image.is_none(),
         layout: bytes_in(&texts.layout),
         regions: request.regions,
         base: request.base,
         old: bytes_in(&texts.old),
         rules: request.rules,
-        dry: request.dry_run,
+        aim: request.aim,
         texts: request.texts,
     }
 }
@@ -174,7 +211,7 @@ fn reading_of<'a>(request: &FlashRequest<'a>) -> ReadRequest<'a>
 
 /// Does a job on the chip behind the device of this name, which is opened only where the job has no
 /// fault that shows before. What the chip holds is saved in the file of the name `before`, unless
-/// only the plan is wanted.
+/// the work isn't to be done.
 fn flash_job<F: Files, O: ByteOut, P: ByteOut>(
     alloc: Global,
     files: &F,
@@ -238,11 +275,14 @@ fn frees_pins(limits: &Limits, ended: &Result<Ending, Unflashed>) -> bool
     limits.pins && !is_cut(fault_in(ended))
 }
 
-/// Where what the chip holds is saved: nowhere where only the plan is wanted.
+/// Where what the chip holds is saved: nowhere where the work isn't to be done.
 fn file_for<'a>(job: &Job<'_>, before: &'a str) -> Option<&'a str>
     ensures { option_map (λ t. t.now) result ≡ file_for job.now before.entry.now }
 {
-    if job.dry { None } else { Some(before) }
+    match job.aim {
+        Aim::Work => Some(before),
+        Aim::Plan | Aim::Compare => None,
+    }
 }
 
 /// Reads the chip of a device, saves what it holds in a new file, and then has the work done.

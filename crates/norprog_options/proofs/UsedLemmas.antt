@@ -23,6 +23,10 @@ pub used_by : (m : ArgMatches) (name : Text) (rows : List Row) → subcommand_na
     → option_map (λ used. used.1) (subcommand_rows_of m) ≡ Some rows → subcommand_rows_of m ≡ Some (name, rows)
 used_by m name rows e f = paired _ _ (out-ArgMatches m).subcommand name rows e f
 
+-- or by another text that is its name
+pub used_as : (o : Option (Text × List Row)) (rows : List Row) (name other : Text) → o ≡ Some (name, rows) → other ≡ name → o ≡ Some (other, rows)
+used_as o rows name other used same = used ∙ ap (λ (n : Text). Some (n, rows)) (sym same)
+
 -- ---- the same rows have the same values
 
 first_same : (one other : Found) (name : Text) → rows_of one ≡ rows_of other → first_value one name ≡ first_value other name

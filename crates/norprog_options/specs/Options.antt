@@ -1,9 +1,11 @@
 -- Which option's text goes to which value (this project's).
-use Rattle.std.specs.Prelude.{◌≡◌, ℕ, Bool, true, false, List, [], ◌∷◌, Option, Some, None, IfSome, option_map, unwrap_or, codes}
+use Rattle.std.specs.Prelude.{◌≡◌, ⊤, ℕ, Bool, true, false, List, [], ◌∷◌, Option, Some, None, IfSome, option_map, unwrap_or, codes}
 use Rattle.std.specs.Str.{bytes_eq}
 use Rattle.clap.specs.Words.{first_value, matched_of, one_text, raw_values, rows_of, subcommand_rows_of}
 use Rattle.clap.specs.declared.parser.matches.ArgMatches.{ArgMatches}
 use Rattle.clap.specs.declared.parser.matches.Found.{Found}
+use Rattle.norprog_common.specs.declared.given.Aim.{Aim}
+use Rattle.norprog_common.specs.declared.given.Aim.TheVariants as aim
 use Rattle.norprog_common.specs.declared.given.Given.{Given}
 use Rattle.norprog_common.specs.declared.given.BuildArgs.{BuildArgs}
 use Rattle.norprog_common.specs.declared.given.CheckArgs.{CheckArgs}
@@ -133,6 +135,12 @@ pub record IsReadIn (found : Found) (given : ReadArgs) : Type 0 where
   pub repeats : Sets found (codes "repeats") given.repeats
   pub expect_id : Has found (codes "expect-id") (option_map (λ t. t.now) given.expect_id)
 
+-- --dry-run asks for the plan; compare has no such option
+abbrev pub AimsIn : Found → Aim → Type 0
+AimsIn found aim.Work = Sets found (codes "dry-run") false
+AimsIn found aim.Plan = Sets found (codes "dry-run") true
+AimsIn found aim.Compare = ⊤
+
 pub record IsFlashIn (found : Found) (given : FlashArgs) : Type 0 where
   pub chip : IsChipIn found given.chip
   pub mode4 : Sets found (codes "mode4") given.mode4
@@ -148,7 +156,8 @@ pub record IsFlashIn (found : Found) (given : FlashArgs) : Type 0 where
   pub strict : Sets found (codes "strict") given.strict
   pub partial : Sets found (codes "partial") given.partial
   pub beyond : Sets found (codes "beyond") given.beyond
-  pub dry_run : Sets found (codes "dry-run") given.dry_run
+  pub aim : AimsIn found given.aim
+  pub all : Sets found (codes "all") given.all
   pub list : Sets found (codes "list") given.list
   pub raw : Sets found (codes "raw") given.raw
   pub fresh : Sets found (codes "fresh") given.fresh
@@ -172,6 +181,14 @@ pub record IsCheckIn (found : Found) (given : CheckArgs) : Type 0 where
   pub script : Has found (codes "script") (option_map (λ t. t.now) given.script)
   pub witness : Sets found (codes "witness") given.witness
 
+-- the command that has this aim, and a blank image or not
+abbrev pub flash_name : Aim → Bool → List ℕ
+flash_name aim.Compare blank = codes "compare"
+flash_name aim.Work true = codes "erase"
+flash_name aim.Plan true = codes "erase"
+flash_name aim.Work false = codes "flash"
+flash_name aim.Plan false = codes "flash"
+
 -- the name of the command that is asked for
 abbrev pub name_of : Asked → List ℕ
 name_of (command.Build given) = codes "build"
@@ -182,7 +199,7 @@ name_of (command.List given) = codes "list"
 name_of (command.Draw given) = codes "draw"
 name_of (command.Play given) = codes "play"
 name_of (command.Read given) = codes "read"
-name_of (command.Flash given) = codes "flash"
+name_of (command.Flash given) = flash_name given.aim given.blank
 name_of (command.Sfdp given) = codes "sfdp"
 name_of (command.Hex given) = codes "hex"
 name_of (command.Script given) = codes "script"

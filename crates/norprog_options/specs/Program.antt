@@ -33,6 +33,25 @@ words name = record (new_rule name) {
 abbrev pub image : List Rule
 image = optional (codes "hex") ∷ optional (codes "bin") ∷ optional (codes "layout") ∷ optional (codes "base") ∷ words (codes "names") ∷ []
 
+-- those that choose what is erased
+abbrev pub erased : List Rule
+erased = optional (codes "layout") ∷ words (codes "names") ∷ []
+
+-- what the image has to give
+abbrev pub image_rules : List Rule
+image_rules = flag (codes "strict") ∷ flag (codes "partial") ∷ flag (codes "beyond") ∷ []
+
+-- the device that the chip is behind, and how that is read
+abbrev pub device : List Rule
+device =
+    flag (codes "mode4") ∷ needed (codes "device") ∷ optional (codes "limit") ∷ flag (codes "raw") ∷ flag (codes "fresh") ∷ flag (codes "any-size")
+    ∷ flag (codes "repeats") ∷ optional (codes "expect-id") ∷ []
+
+-- how work on it is done
+abbrev pub work : List Rule
+work =
+    flag (codes "erased-only") ∷ needed (codes "before") ∷ optional (codes "resume") ∷ flag (codes "dry-run") ∷ flag (codes "list") ∷ []
+
 -- the options of the chip
 abbrev pub chip : List Rule
 chip = optional (codes "sfdp") ∷ optional (codes "uniform") ∷ optional (codes "sheet") ∷ optional (codes "bits") ∷ optional (codes "part") ∷ []
@@ -76,17 +95,10 @@ commands =
     ∷ (codes "list", chip ++ start ++ script ++ details)
     ∷ (codes "draw", script ++ optional (codes "from") ∷ optional (codes "steps") ∷ needed (codes "out") ∷ flag (codes "force") ∷ details)
     ∷ (codes "play", chip ++ content ++ start ++ script ++ needed (codes "device") ∷ optional (codes "limit") ∷ flag (codes "trust") ∷ details)
-    ∷ (
-      codes "read",
-      chip ++ flag (codes "mode4") ∷ needed (codes "device") ∷ optional (codes "limit") ∷ flag (codes "raw") ∷ flag (codes "fresh")
-          ∷ flag (codes "any-size") ∷ flag (codes "repeats") ∷ optional (codes "expect-id") ∷ optional (codes "tables") ∷ optional (codes "out") ∷ details,
-    )
-    ∷ (
-      codes "flash",
-      image ++ chip ++ flag (codes "mode4") ∷ flag (codes "erased-only") ∷ flag (codes "strict") ∷ flag (codes "partial") ∷ flag (codes "beyond") ∷ needed (codes "device")
-          ∷ optional (codes "limit") ∷ flag (codes "raw") ∷ flag (codes "fresh") ∷ flag (codes "any-size") ∷ flag (codes "repeats")
-          ∷ optional (codes "expect-id") ∷ needed (codes "before") ∷ optional (codes "resume") ∷ flag (codes "dry-run") ∷ flag (codes "list") ∷ details,
-    )
+    ∷ (codes "read", chip ++ device ++ optional (codes "tables") ∷ optional (codes "out") ∷ details)
+    ∷ (codes "flash", image ++ chip ++ image_rules ++ device ++ work ++ details)
+    ∷ (codes "erase", erased ++ chip ++ device ++ work ++ flag (codes "all") ∷ details)
+    ∷ (codes "compare", image ++ chip ++ image_rules ++ device ++ details)
     ∷ (codes "sfdp", chip ++ details)
     ∷ (codes "hex", needed (codes "bin") ∷ needed (codes "at") ∷ needed (codes "out") ∷ flag (codes "force") ∷ details)
     ∷ (codes "script", chip ++ start ++ needed (codes "log") ∷ flag (codes "without-identity") ∷ needed (codes "out") ∷ flag (codes "force") ∷ details)

@@ -8,7 +8,7 @@ use Rattle.norprog_options.specs.declared.arguments.Group.{Group}
 use Rattle.norprog_options.specs.declared.arguments.Group.TheVariants as group
 use Rattle.norprog_options.specs.declared.arguments.Choice.{Choice}
 use Rattle.norprog_options.specs.declared.arguments.Form.{Form}
-use Rattle.norprog_options.specs.Program.{flag, valued, words, image, chip, content, start, behaviour, verify, script, details, command}
+use Rattle.norprog_options.specs.Program.{flag, valued, words, image, erased, image_rules, device, work, chip, content, start, behaviour, verify, script, details, command}
 
 -- what the library reads for an option, by what is written after it
 abbrev pub rule_for : Takes → Bool → Text → Rule
@@ -24,6 +24,10 @@ option_of choice = rule_for choice.takes choice.required choice.name.now
 -- the options of a group
 abbrev pub options_of : Group → List Rule
 options_of group.Image = image
+options_of group.Erased = erased
+options_of group.Rules = image_rules
+options_of group.Device = device
+options_of group.Work = work
 options_of group.Chip = chip
 options_of group.Content = content
 options_of group.Start = start

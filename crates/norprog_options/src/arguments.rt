@@ -41,6 +41,14 @@ struct Choice {
 enum Group {
     /// What is to stand on the chip.
     Image,
+    /// What of it is to be erased.
+    Erased,
+    /// What the image has to give.
+    Rules,
+    /// The device that it is behind, and how it is read.
+    Device,
+    /// How work on it is done.
+    Work,
     /// Which chip it is.
     Chip,
     /// What it holds.
@@ -99,6 +107,13 @@ const REGIONS: Choice = Choice {
     takes: Takes::Words("REGIONS"),
     required: false,
     help: "The names of the layout's regions to program [default: the whole chip]",
+};
+
+const ERASED_REGIONS: Choice = Choice {
+    name: "names",
+    takes: Takes::Words("REGIONS"),
+    required: false,
+    help: "The names of the layout's regions to erase [default: none]",
 };
 
 const SFDP: Choice = Choice {
@@ -200,8 +215,8 @@ const LIMIT: Choice = Choice {
     name: "limit",
     takes: Takes::Value("N"),
     required: false,
-    help: "The most status reads of one poll, and of play, read and flash until the chip is idle \
-        at first: a decimal number from 1 [default: 1000000]",
+    help: "The most status reads of one poll, and until the chip behind a device is idle at first: \
+        a decimal number from 1 [default: 1000000]",
 };
 
 const PAGE: Choice = Choice {
@@ -391,7 +406,14 @@ const BEFORE: Choice = Choice {
     name: "before",
     takes: Takes::File,
     required: true,
-    help: "What the chip holds before it is programmed, in a new file",
+    help: "What the chip holds before it is changed, in a new file",
+};
+
+const ALL: Choice = Choice {
+    name: "all",
+    takes: Takes::Nothing,
+    required: false,
+    help: "Erase all of the chip; this or REGIONS [default: no]",
 };
 
 const RESUME: Choice = Choice {
@@ -495,6 +517,16 @@ const EACH: &[Choice] = &[DETAILS, PLAIN];
 
 const IMAGE: &[Choice] = &[HEX, IMAGE_BIN, LAYOUT, BASE, REGIONS];
 
+const RULES: &[Choice] = &[STRICT, PARTIAL, BEYOND];
+
+const BEHIND: &[Choice] = &[
+    MODE4, DEVICE, LIMIT, RAW, FRESH, ANY_SIZE, REPEATS, EXPECT_ID,
+];
+
+const WORK: &[Choice] = &[ERASED_ONLY, BEFORE, RESUME, DRY_RUN, LIST];
+
+const ERASED: &[Choice] = &[LAYOUT, ERASED_REGIONS];
+
 const CHIP: &[Choice] = &[SFDP, UNIFORM, SHEET, BITS, PART];
 
 const CONTENT: &[Choice] = &[CONTENT_FILE];
@@ -508,7 +540,7 @@ const VERIFY: &[Choice] = &[READ_BACK];
 const SCRIPT: &[Choice] = &[SCRIPT_FILE];
 
 /// The commands, in the order of the help.
-static FORMS: [Form; 13] = [
+static FORMS: [Form; 15] = [
     Form {
         name: "build",
         about: "Writes the script that programs the chip, and prints a report of it",
@@ -592,10 +624,8 @@ static FORMS: [Form; 13] = [
         name: "read",
         about: "Reads the chip behind a serprog device twice: its tables and its content",
         example: "Example: norprog read --device /dev/ttyACM0 --tables now.sfdp --out now.bin",
-        groups: &[Group::Chip],
-        choices: &[
-            MODE4, DEVICE, LIMIT, RAW, FRESH, ANY_SIZE, REPEATS, EXPECT_ID, TABLES_OUT, READ_OUT,
-        ],
+        groups: &[Group::Chip, Group::Device],
+        choices: &[TABLES_OUT, READ_OUT],
     },
     Form {
         name: "flash",
@@ -603,25 +633,29 @@ static FORMS: [Form; 13] = [
             prints the plan, programs it and reads it back",
         example: "Example: norprog flash --device /dev/ttyACM0 --hex app.hex --base 8000000 \
             --before before.bin",
-        groups: &[Group::Image, Group::Chip],
-        choices: &[
-            MODE4,
-            ERASED_ONLY,
-            STRICT,
-            PARTIAL,
-            BEYOND,
-            DEVICE,
-            LIMIT,
-            RAW,
-            FRESH,
-            ANY_SIZE,
-            REPEATS,
-            EXPECT_ID,
-            BEFORE,
-            RESUME,
-            DRY_RUN,
-            LIST,
+        groups: &[
+            Group::Image,
+            Group::Chip,
+            Group::Rules,
+            Group::Device,
+            Group::Work,
         ],
+        choices: &[],
+    },
+    Form {
+        name: "erase",
+        about: "Erases regions of the chip behind a serprog device, or all of it, as flash does \
+            its work",
+        example: "Example: norprog erase --device /dev/ttyACM0 --all --before before.bin",
+        groups: &[Group::Erased, Group::Chip, Group::Device, Group::Work],
+        choices: &[ALL],
+    },
+    Form {
+        name: "compare",
+        about: "Reads the chip behind a serprog device twice, and says whether it holds the image",
+        example: "Example: norprog compare --device /dev/ttyACM0 --hex app.hex --base 8000000",
+        groups: &[Group::Image, Group::Chip, Group::Rules, Group::Device],
+        choices: &[],
     },
     Form {
         name: "sfdp",
@@ -683,6 +717,10 @@ fn choices_of(group: Group) -> &'static [Choice]
 {
     match group {
         Group::Image => IMAGE,
+        Group::Erased => ERASED,
+        Group::Rules => RULES,
+        Group::Device => BEHIND,
+        Group::Work => WORK,
         Group::Chip => CHIP,
         Group::Content => CONTENT,
         Group::Start => START,

@@ -1,11 +1,12 @@
 //! What stands on a command line, read by the command line library.
 
-ghost use Rattle.std.specs.Prelude.{◌≡◌, codes, drop, map, string_bytes, true, IfErr, IfOk, IfSome};
+ghost use Rattle.std.specs.Prelude.{◌≡◌, codes, drop, false, map, string_bytes, true, IfErr};
+ghost use Rattle.std.specs.Prelude.{IfOk, IfSome};
 ghost use Rattle.clap.specs.Words.{found_of, kind_of};
 ghost use Rattle.norprog_options.specs.Options.{texts_of, IsBuildIn, IsCheckIn, IsJobIn, IsChipIn};
 ghost use Rattle.norprog_options.specs.Options.{IsDrawIn, IsFlashIn, IsHexIn, IsListIn, IsPlanIn};
 ghost use Rattle.norprog_options.specs.Options.{IsPlayIn, IsReadIn, IsRunIn, IsSetupIn, IsAsked};
-ghost use Rattle.norprog_options.specs.Options.{IsOutIn, IsScriptIn, asks_help};
+ghost use Rattle.norprog_options.specs.Options.{AimsIn, IsOutIn, IsScriptIn, asks_help, flash_name};
 ghost use Rattle.norprog_options.specs.Spelled.{IsRefusalOf, IsUnasked, Refuses, Spells};
 ghost use Rattle.norprog_options.specs.Spelled.{command_names, memory};
 ghost use Rattle.norprog_options.specs.Typed.{IsDetailed, IsDetailedBy};
@@ -16,7 +17,7 @@ use clap::error::ErrorKind;
 use clap::{ArgMatches, Error};
 use nor_base::Bytes;
 use norprog_common::{
-    BuildArgs, CheckArgs, ChipArgs, DrawArgs, FlashArgs, Given, HexArgs, ListArgs, OutFile,
+    Aim, BuildArgs, CheckArgs, ChipArgs, DrawArgs, FlashArgs, Given, HexArgs, ListArgs, OutFile,
     PlanArgs, PlayArgs, ReadArgs, Refusal, RunArgs, ScriptArgs, SetupArgs,
 };
 use std::alloc::Global;
@@ -149,7 +150,13 @@ fn meaning_asked<'a>(alloc: Global, matches: &ArgMatches<'a>) -> Result<Asked<'a
         return Ok(Asked::Read(read_in(read)));
     }
     if let Some(flash) = matches.subcommand_matches("flash") {
-        return Ok(Asked::Flash(flash_in(alloc, flash)?));
+        return Ok(Asked::Flash(flash_in(alloc, flash, aim_in(flash), false)?));
+    }
+    if let Some(erase) = matches.subcommand_matches("erase") {
+        return Ok(Asked::Flash(flash_in(alloc, erase, aim_in(erase), true)?));
+    }
+    if let Some(compare) = matches.subcommand_matches("compare") {
+        return Ok(Asked::Flash(flash_in(alloc, compare, Aim::Compare, false)?));
     }
     if let Some(chip) = matches.subcommand_matches("sfdp") {
         return Ok(Asked::Sfdp(chip_in(chip)));
@@ -407,9 +414,29 @@ fn read_in<'a>(read: &ArgMatches<'a>) -> ReadArgs<'a>
     }
 }
 
-/// The programming of a chip.
-fn flash_in<'a>(alloc: Global, flash: &ArgMatches<'a>) -> Result<FlashArgs<'a>, Refusal>
+/// What `flash` is to do with the chip.
+fn aim_in(flash: &ArgMatches<'_>) -> Aim
+    ensures asked { AimsIn (found_of flash.now) result }
+    ensures named { (flash_name result true ≡ codes "erase")
+        × (flash_name result false ≡ codes "flash") }
+{
+    if flash.get_flag("dry-run") {
+        Aim::Plan
+    } else {
+        Aim::Work
+    }
+}
+
+/// The work on a chip, or its comparison. An option that the command doesn't have isn't given.
+fn flash_in<'a>(
+    alloc: Global,
+    flash: &ArgMatches<'a>,
+    aim: Aim,
+    blank: bool,
+) -> Result<FlashArgs<'a>, Refusal>
+    requires { AimsIn (found_of flash.now) aim }
     ensures done { IfOk result (IsFlashIn (found_of flash.now)) }
+    ensures aim { IfOk result (λ given. (given.aim ≡ aim) × (given.blank ≡ blank)) }
     ensures memory { IfErr result (λ why. why ≡ memory) }
 {
     Ok(FlashArgs {
@@ -427,7 +454,9 @@ fn flash_in<'a>(alloc: Global, flash: &ArgMatches<'a>) -> Result<FlashArgs<'a>, 
         strict: flash.get_flag("strict"),
         partial: flash.get_flag("partial"),
         beyond: flash.get_flag("beyond"),
-        dry_run: flash.get_flag("dry-run"),
+        aim,
+        blank,
+        all: flash.get_flag("all"),
         list: flash.get_flag("list"),
         raw: flash.get_flag("raw"),
         fresh: flash.get_flag("fresh"),

@@ -34,6 +34,7 @@ task_chip other bits tables = Sfdp tables bits
 abbrev pub chip_task : Ask → List ℕ → Task
 chip_task ask tables = record {
   hex = [];
+  image = None;
   layout = None;
   regions = [];
   chip = task_chip ask.known ask.bits.now tables;

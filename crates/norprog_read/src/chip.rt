@@ -355,6 +355,7 @@ fn meaning_of(ask: &Ask<'_>, tables: &[u8]) -> Result<(Meaning, Start), Refusal>
     };
     let inputs = Inputs {
         hex: &[],
+        image: None,
         layout: None,
         regions: &[],
         chip,

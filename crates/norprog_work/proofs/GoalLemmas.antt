@@ -10,6 +10,7 @@ use Rattle.nor_job.specs.Job.{IsJob}
 use Rattle.nor_job.specs.Task.{Task}
 use Rattle.nor_layout.specs.Chosen.{has, is_chosen}
 use Rattle.std.specs.List.{fold}
+use Rattle.norprog_work.specs.declared.goal.Goal.{Goal}
 use Rattle.norprog_work.specs.Work.{IsGoal}
 
 counts_same : {X : Type 0} (f g : X → Bool) (n : ℕ) (xs : List X) → ((x : X) → f x ≡ g x)
@@ -30,11 +31,12 @@ ignored_is t len job is =
     ∙ ap (λ base. count_by (λ pair. is_ignored base c job.meaning.size pair.0) job.image) is.base
 
 -- so what a job fills is the target of its inputs
-pub goal_is : (t : Task) (old : List ℕ) (job : Job) (is : IsJob t (length old) job) (filled : List ℕ) (count : ℕ)
-    → filled ≡ target_from job 0 old
-    → count ≡ count_by (λ pair. is_ignored job.base (has job.chosen) job.meaning.size pair.0) job.image
-    → job.meaning.size < 2 ^ 32 → IsGoal t old filled count
-goal_is t old job is filled count fills counts small =
+pub goal_is : (t : Task) (old : List ℕ) (job : Job) (is : IsJob t (length old) job) (goal : Goal)
+    → goal.bytes.items ≡ target_from job 0 old
+    → goal.given ≡ length job.image
+    → goal.ignored ≡ count_by (λ pair. is_ignored job.base (has job.chosen) job.meaning.size pair.0) job.image
+    → job.meaning.size < 2 ^ 32 → IsGoal t old goal
+goal_is t old job is goal fills given counts small =
     let size = is.accepted.size in
     record {
       image = job.image;
@@ -44,6 +46,7 @@ goal_is t old job is filled count fills counts small =
       bytes = fills ∙ target_is t (length old) job is old;
       size = ap length fills ∙ length-target job 0 old;
       few = omega (arith, size, small);
+      given = given;
       ignored = counts ∙ ignored_is t (length old) job is;
     }
 

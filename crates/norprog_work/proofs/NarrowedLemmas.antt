@@ -1,15 +1,12 @@
 -- The narrowed task has the same target.
 use Rattle.std.proofs.Common.{◌≡◌, ◌⊎◌, inl, inr, ℕ, zero, suc, ◌+◌, ◌-◌, ◌<◌, ◌≤◌, ◌^◌, Bool, true, nat_lt, List, [], ◌∷◌, length, take, drop, slice_index, slice_range, Option, Some, None, refl, sym, ap, subst, ◌∙◌, arith}
 use Rattle.std.specs.List.{enumerate_from}
-use Rattle.std.proofs.lemmas.Bool.{and_parts, cases_lt, lt-ltb}
+use Rattle.std.proofs.lemmas.Bool.{cases_lt}
 use Rattle.std.proofs.lemmas.List.{get_or-drop, get_or-take, length-drop, length-map, length-take, length-take-le}
 use Rattle.std.proofs.lemmas.List.FromFn.{length-enumerate_from}
 use Rattle.std.proofs.lemmas.Option.{slice_get-get_or, slice_get_within}
-use Rattle.nor_base.specs.Array.{are_bytes}
 use Rattle.nor_base.specs.Target.{target}
-use Rattle.nor_hex.specs.Faults.{IsImage}
 use Rattle.nor_hex.specs.Image.{Pairs, byte_at}
-use Rattle.nor_hex_out.specs.Laws.{GivesJust, WrittenGives}
 use Rattle.nor_laws.specs.Laws.{TargetGives, TargetKeeps}
 use Rattle.nor_layout.specs.Chosen.{is_chosen}
 use Rattle.nor_layout.specs.Region.{Region}
@@ -25,38 +22,12 @@ same_each (x ∷ xs) (y ∷ ys) long alike =
     let rest = same_each xs ys (omega (arith, long)) (λ a below. alike (suc a) (omega (arith, below))) in
     ap (λ z. z ∷ xs) first ∙ ap (λ zs. y ∷ zs) rest
 
--- parts of bytes are bytes
-bytes_of_each : (xs : List ℕ) → ((k : ℕ) → slice_index xs k < 256) → are_bytes xs ≡ true
-bytes_of_each [] small = refl
-bytes_of_each (x ∷ xs) small = rw (lt-ltb x 256 (small 0), bytes_of_each xs (λ k. small (suc k))) refl
-
-bytes_first : (n : ℕ) (xs : List ℕ) → are_bytes xs ≡ true → are_bytes (take n xs) ≡ true
-bytes_first zero xs h = refl
-bytes_first (suc n) [] h = refl
-bytes_first (suc n) (x ∷ xs) h =
-    let parts = and_parts (nat_lt x 256) (are_bytes xs) h in rw (parts.0, bytes_first n xs parts.1) refl
-
-bytes_others : (n : ℕ) (xs : List ℕ) → are_bytes xs ≡ true → are_bytes (drop n xs) ≡ true
-bytes_others zero xs h = h
-bytes_others (suc n) [] h = refl
-bytes_others (suc n) (x ∷ xs) h = bytes_others n xs (and_parts (nat_lt x 256) (are_bytes xs) h).1
-
 length-target : (image : ℕ → Option ℕ) (base : ℕ) (chosen : ℕ → Bool) (content : List ℕ) → length (target image base chosen content) ≡ length content
 unfolding target
 length-target image base chosen content = length-map (enumerate_from 0 content) _ ∙ length-enumerate_from 0 content
 
-module _ (keeps : TargetKeeps) (gives : TargetGives) (written : WrittenGives) (have want text : List ℕ) (spans : SpansDifference have want text)
-    (long : length have ≡ length want) (few : length want < 2 ^ 32) (image : Pairs) (is : IsImage text image) where
-  just : GivesJust spans.low (slice_range want spans.low spans.high) image
-  just =
-      let order = spans.order in
-      let within = spans.within in
-      let size : length (slice_range want spans.low spans.high) ≡ spans.high - spans.low =
-      length-take-le (spans.high - spans.low) (drop spans.low want) (rw (length-drop spans.low want) (omega (arith, order, within))) in
-      written spans.low (slice_range want spans.low spans.high) image
-      (bytes_first (spans.high - spans.low) (drop spans.low want) (bytes_others spans.low want (bytes_of_each want spans.bytes)))
-      (omega (arith, size, order, within, few)) (subst (λ t. IsImage t image) spans.text_is is)
-
+module _ (keeps : TargetKeeps) (gives : TargetGives) (have want : List ℕ) (image : Pairs) (spans : SpansDifference have want image)
+    (long : length have ≡ length want) (few : length want < 2 ^ 32) where
   inside : (a : ℕ) → spans.low ≤ a → a < spans.high → byte_at image a ≡ Some (slice_index want a)
   inside a past below =
       let within = spans.within in
@@ -66,19 +37,20 @@ module _ (keeps : TargetKeeps) (gives : TargetGives) (written : WrittenGives) (h
       let value : slice_index (slice_range want spans.low spans.high) (a - spans.low) ≡ slice_index want a =
       get_or-take (spans.high - spans.low) (drop spans.low want) (a - spans.low) 0 (omega (arith, past, below))
       ∙ (get_or-drop spans.low want (a - spans.low) 0 ∙ ap (slice_index want) (omega (arith, past))) in
-      (just a (slice_index want a)).1 (past, here ∙ ap (λ x. Some x) value)
+      spans.just.laid a (slice_index want a) (record { index = a - spans.low; byte_is = here ∙ ap (λ x. Some x) value; at_is = omega (arith, past) })
 
   outside : (a : ℕ) → (a < spans.low) ⊎ (spans.high ≤ a) → byte_at image a ≡ None
   outside a out = by (byte_at image a) refl
     where
       no : (b : ℕ) → byte_at image a ≡ Some b → ⊥
       no b gives_b =
-          let stands = (just a b).0 gives_b in
-          let past = stands.0 in
-          let below = slice_get_within (slice_range want spans.low spans.high) (a - spans.low) b stands.1 in
+          let lays = spans.just.given a b gives_b in
+          let place = lays.at_is in
+          let below = slice_get_within (slice_range want spans.low spans.high) lays.index b lays.byte_is in
+          let order = spans.order in
           let short : length (slice_range want spans.low spans.high) ≤ spans.high - spans.low =
           subst (λ n. n ≤ spans.high - spans.low) (sym (length-take (spans.high - spans.low) (drop spans.low want))) (omega arith) in
-          elim out [ inl early ↦ omega (arith, early, past) | inr late ↦ omega (arith, late, below, short) ]
+          elim out [ inl early ↦ omega (arith, early, place) | inr late ↦ omega (arith, late, below, short, place, order) ]
 
       by : (o : Option ℕ) → byte_at image a ≡ o → byte_at image a ≡ None
       by None e = e

@@ -6,3 +6,7 @@ pub record SpansSoFar (one other : List ℕ) (low high done : ℕ) : Type 0 wher
   pub reached : high ≤ done
   pub before : (a : ℕ) → a < done → a < low → get_or one a 0 ≡ get_or other a 0
   pub after : (a : ℕ) → a < done → high ≤ a → get_or one a 0 ≡ get_or other a 0
+
+-- nothing differs below this number
+abbrev pub AreAlikeBelow : List ℕ → List ℕ → ℕ → Type 0
+AreAlikeBelow one other done = (a : ℕ) → a < done → get_or one a 0 ≡ get_or other a 0

@@ -2,3 +2,4 @@ pub mod Work
 pub mod Narrowed
 pub mod Refused
 pub mod Early
+pub mod Compared

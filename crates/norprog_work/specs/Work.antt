@@ -14,18 +14,20 @@ use Rattle.nor_layout.specs.Region.{Region}
 use Rattle.norprog.specs.Build.{report_of}
 use Rattle.norprog.specs.PlanWindows.{plan_text}
 use Rattle.norprog.specs.declared.report.Report.{Report}
+use Rattle.norprog_work.specs.declared.goal.Goal.{Goal}
 use Rattle.norprog_work.specs.declared.work.Work.{Work}
 
--- the target of these bytes, and how many addresses of the image go nowhere
-pub record IsGoal (t : Task) (old goal : List ℕ) (nowhere : ℕ) : Type 0 where
+-- the target of these bytes, and how many addresses the image has, and how many of them go nowhere
+pub record IsGoal (t : Task) (old : List ℕ) (goal : Goal) : Type 0 where
   pub image : Pairs
   pub regions : List Region
   pub m : Parameters
   pub accepted : AreAccepted t (length old) image regions m
-  pub bytes : goal ≡ wanted t image regions old
-  pub size : length goal ≡ length old
+  pub bytes : goal.bytes.items ≡ wanted t image regions old
+  pub size : length goal.bytes.items ≡ length old
   pub few : length old < 2 ^ 32
-  pub ignored : nowhere ≡ count_by (λ pair. is_ignored t.base (is_chosen regions t.regions) m.size pair.0) image
+  pub given : goal.given ≡ length image
+  pub ignored : goal.ignored ≡ count_by (λ pair. is_ignored t.base (is_chosen regions t.regions) m.size pair.0) image
 
 -- the lines of the plan of a content, which can be worked on
 pub record HasLines (t : Task) (content lines : List ℕ) : Type 0 where

@@ -16,7 +16,9 @@ use std::alloc::Global;
 pub struct Goal {
     /// The byte of each address, from 0 on.
     pub bytes: Vec<u8>,
-    /// Addresses of the image that have no place on the chip or aren't chosen.
+    /// Addresses of the image.
+    pub given: u64,
+    /// Those of them that have no place on the chip or aren't chosen.
     pub ignored: u64,
 }
 
@@ -26,14 +28,19 @@ pub struct Goal {
 /// The refusals are those of [`nor_job::job_of`], `ContentSize` where there are more or fewer bytes
 /// than the chip has.
 pub fn goal_of(alloc: Global, inputs: &Inputs<'_>, old: &[u8]) -> Result<Goal, BuildFault>
-    ensures goal { IfOk result (λ goal. IsGoal inputs.now old.now goal.bytes.items goal.ignored) }
+    ensures goal { IfOk result (IsGoal inputs.now old.now) }
     ensures refused { IfErr result (RefusesInputs inputs.now (length old.now)) }
 {
     let job = job_of(alloc, inputs, old.len() as u64)?;
     let mut bytes = vec![in alloc; 0u8; old.len()]?;
     fill_target(&job, old, bytes.as_mut_slice());
+    let given = job.image.count();
     let ignored = count_ignored(&job);
-    Ok(Goal { bytes, ignored })
+    Ok(Goal {
+        bytes,
+        given,
+        ignored,
+    })
 }
 
 /// Fills a slice with the target of a job whose chip held these bytes.

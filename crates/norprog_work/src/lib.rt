@@ -3,9 +3,11 @@
 //! resumed that is what it holds.
 //!
 //! [`look`] refuses a job before its chip is read. [`goal_of`] has the target. [`work_for`] plans,
-//! prints the lines of the plan, and returns the steps.
+//! prints the lines of the plan, and returns the steps. [`compare`] looks whether a chip holds what
+//! it must.
 #![tactic(auto)]
 
+mod compared;
 mod early;
 mod goal;
 mod narrowed;
@@ -13,6 +15,7 @@ mod span;
 mod steps;
 mod work;
 
+pub use compared::{Comparison, compare};
 pub use early::look;
 pub use goal::{Goal, goal_of};
 pub use work::{Work, work_for};

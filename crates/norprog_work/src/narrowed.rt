@@ -1,36 +1,36 @@
 //! A build of just the bytes that are to change.
 
 ghost use Rattle.std.specs.Prelude.{◌≡◌, ◌+◌, ◌<◌, ◌≤◌, ◌^◌, length, slice_range, IfOk, IfErr};
-ghost use Rattle.nor_hex_out.specs.Segments.{hex_text};
 ghost use Rattle.nor_job.specs.declared.fault.BuildFault.TheVariants.{Memory};
 ghost use Rattle.nor_job.specs.Task.{origin_of};
 ghost use Rattle.norprog_work.specs.Narrowed.{narrowed, SpansDifference};
 
 use crate::span::differing;
-use nor_hex_out::hex_of;
 use nor_job::{BuildFault, Inputs, Source};
+use nor_target::Image;
 use std::alloc::Global;
 
-/// The HEX text of the wanted bytes, from the first to the last that is another than the chip's.
-pub(crate) fn difference(alloc: Global, have: &[u8], want: &[u8]) -> Result<Vec<u8>, BuildFault>
+/// The image of the wanted bytes, from the first to the last that is another than the chip's.
+pub(crate) fn difference(alloc: Global, have: &[u8], want: &[u8]) -> Result<Image, BuildFault>
     requires lengths { length have.now ≡ length want.now }
     requires few { length have.now < 2 ^ 32 }
-    ensures spans { IfOk result (λ text. SpansDifference have.now want.now text.items) }
+    ensures spans { IfOk result (SpansDifference have.now want.now) }
     ensures memory { IfErr result (λ why. why ≡ Memory) }
 {
     let (low, high) = differing(have, want);
-    match hex_of(alloc, low as u32, &want[low..high]) {
-        Ok(text) => Ok(text),
+    match Image::of_bytes(alloc, low as u32, &want[low..high]) {
+        Ok(image) => Ok(image),
         Err(_) => Err(BuildFault::Memory),
     }
 }
 
 /// The same job with this image and no other choice of addresses.
-pub(crate) fn narrowed<'a>(inputs: &'a Inputs<'_>, hex: &'a [u8]) -> Inputs<'a>
-    ensures { result ≡ narrowed inputs.now hex.now }
+pub(crate) fn narrowed<'a>(inputs: &'a Inputs<'_>, image: &'a Image) -> Inputs<'a>
+    ensures { result ≡ narrowed inputs.now image.now }
 {
     Inputs {
-        hex,
+        hex: &[],
+        image: Some(image),
         layout: None,
         regions: &[],
         chip: chip_in(inputs),

@@ -9,7 +9,6 @@ use crate::goal::goal_of;
 use crate::narrowed::{difference, narrowed};
 use crate::steps::build_steps;
 use nor_base::{FromRead, IntoWrite, Step};
-use nor_hex_out::written_images;
 use nor_job::{BuildFault, Inputs};
 use nor_laws::targets;
 use norprog::{Report, plan};
@@ -44,10 +43,9 @@ pub fn work_for(
     ensures refused { IfErr result (RefusesWork inputs.now content.now old.now) }
 {
     let goal = goal_of(alloc, inputs, old)?;
-    let hex = difference(alloc, content, goal.bytes.as_slice())?;
+    let image = difference(alloc, content, goal.bytes.as_slice())?;
     targets();
-    written_images();
-    let narrow = narrowed(inputs, hex.as_slice());
+    let narrow = narrowed(inputs, &image);
     let lines = plan_lines(alloc, &narrow, content)?;
     let (report, steps) = build_steps(alloc, &narrow, content)?;
     let ignored = goal.ignored;

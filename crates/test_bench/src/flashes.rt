@@ -11,7 +11,7 @@ use crate::scripts::{
 use crate::store::{Store, Untold};
 use nor_base::{IntoWrite, Part, put_parts};
 use nor_script::hex_pair;
-use norprog_common::{Chip, ChipArgs, ImageFile, job_rules, refuse};
+use norprog_common::{Aim, Chip, ChipArgs, ImageFile, job_rules, refuse};
 use norprog_device::refuse_device;
 use norprog_flash::{Ending, FlashArgs, FlashRequest, Unflashed, write_ending};
 use norprog_named::flash;
@@ -275,7 +275,9 @@ fn no_texts(alloc: Global) -> FlashArgs<'static> {
         strict: false,
         partial: false,
         beyond: false,
-        dry_run: false,
+        aim: Aim::Work,
+        blank: false,
+        all: false,
         list: true,
         raw: false,
         fresh: false,
@@ -306,14 +308,14 @@ fn request_of<'a>(row: &Row, texts: &'a FlashArgs<'a>) -> FlashRequest<'a> {
     };
     FlashRequest {
         read,
-        image: ImageFile::Hex("script"),
+        image: Some(ImageFile::Hex("script")),
         layout: None,
         base: 0,
         before: "before",
         resume: row.old.map(|_| "content"),
         erased_only: false,
         rules: job_rules(false, false, false),
-        dry_run: row.dry,
+        aim: if row.dry { Aim::Plan } else { Aim::Work },
         regions: &[],
         texts,
     }

@@ -120,6 +120,7 @@ pub(crate) fn roomy_writer(
 pub(crate) fn inputs(hex: &str) -> Inputs<'_> {
     Inputs {
         hex: hex.as_bytes(),
+        image: None,
         layout: None,
         regions: &[],
         chip: Source::Uniform(8192),

@@ -5,7 +5,7 @@
 
 use crate::same::{holds, same};
 use nor_base::{Bytes, Part};
-use nor_hex::HexFault;
+use nor_hex::{HexFault, Image, UnionFault};
 use nor_job::{BuildFault, Inputs, Source, job_of};
 use nor_layout::LayoutFault;
 use std::alloc::{AllocError, Global};
@@ -25,6 +25,7 @@ const MANY: &[u8] =
 /// the test.
 fn read_each(rt: &impl Abort, alloc: Global) -> Result<(), AllocError> {
     reads_far_apart(rt, alloc)?;
+    lays_together(rt, alloc)?;
     chooses_some(rt, alloc)?;
     gives_the_job(rt, alloc)
 }
@@ -38,6 +39,44 @@ fn reads_far_apart(rt: &impl Abort, alloc: Global) -> Result<(), AllocError> {
         }
     }
     Ok(())
+}
+
+/// Lays 01h and 02h from 10h on together with 02h and 03h from 11h on, and then with 04h and
+/// 03h there.
+fn lays_together(rt: &impl Abort, alloc: Global) -> Result<(), AllocError> {
+    let first = made(rt, alloc, 0x10, [1, 2])?;
+    let second = made(rt, alloc, 0x11, [2, 3])?;
+    let both = match first.union(alloc, &second) {
+        Ok(both) => both.copied(alloc)?,
+        Err(fault) => {
+            same(rt, "of a union", fault, UnionFault::Memory);
+            return Err(AllocError);
+        }
+    };
+    same(rt, "bytes of both", both.count(), 3);
+    same(rt, "the last of them", both.at(0x12), Some(3));
+    let other = made(rt, alloc, 0x11, [4, 3])?;
+    match both.union(alloc, &other) {
+        Ok(_) => holds(rt, "two bytes at one address", false),
+        Err(fault) => same(
+            rt,
+            "two bytes",
+            fault,
+            UnionFault::Conflict { address: 0x11 },
+        ),
+    }
+    Ok(())
+}
+
+/// The image of two bytes.
+fn made(rt: &impl Abort, alloc: Global, at: u8, bytes: [u8; 2]) -> Result<Image, AllocError> {
+    match Image::of_bytes(alloc, u32::from(at), &bytes) {
+        Ok(image) => Ok(image),
+        Err(fault) => {
+            same(rt, "of bytes", fault, HexFault::Memory);
+            Err(AllocError)
+        }
+    }
 }
 
 /// Names as the caller of `choose` has them.
@@ -67,6 +106,7 @@ fn gives_the_job(rt: &impl Abort, alloc: Global) -> Result<(), AllocError> {
     let names = owned(alloc, "a")?;
     let inputs = Inputs {
         hex: IMAGE.as_bytes(),
+        image: None,
         layout: Some(b"0:fff a"),
         regions: &names,
         chip: Source::Uniform(8192),

@@ -40,6 +40,7 @@ fn texts_of(asked: &Asked<'_, '_>) -> io::Result<Texts> {
 fn inputs<'x>(asked: &Asked<'x, 'x>, texts: &'x Texts) -> io::Result<Inputs<'x>> {
     Ok(Inputs {
         hex: &texts.hex,
+        image: None,
         layout: texts.layout.as_deref(),
         regions: &texts.names,
         chip: source_of(asked)?,

@@ -233,7 +233,7 @@ front_is : (t : Task) (len : ℕ) (job : Job) (before after : Ahead) (x y : Opti
 front_is t len job before after x y why laws accepted is cut =
     let m = job.meaning in
     let goal = wanted t job.image is.regions in
-    let gives = image_bytes t.hex job.image is.accepted.named.imaged.spelled in
+    let gives = image_bytes t.image t.hex job.image is.accepted.named.imaged.spelled in
     let fill = filled_is job cut.known cut.part cut.bytes accepted gives cut.within cut.front in
     let some = filled job cut.known cut.part in
     record {

@@ -13,13 +13,12 @@ use Rattle.nor_base.specs.Strategies.{strategy}
 use Rattle.nor_base.specs.Target.{target_byte}
 use Rattle.nor_base.specs.Planned.{IsWorkable}
 use Rattle.nor_geometry.specs.Plan.{HasPart}
-use Rattle.nor_hex.specs.Image.{byte_at}
+use Rattle.nor_hex.specs.Image.{GivesBytes, byte_at}
 use Rattle.nor_job.specs.declared.job.Job.{Job}
 use Rattle.nor_layout.specs.Chosen.{has}
 use Rattle.nor_job.specs.Filled.{target_from}
 use Rattle.norprog.specs.Windows.{IsScriptFront}
 use Rattle.nor_job.specs.Written.{AreBytes}
-use Rattle.norprog.proofs.Promise.Image.{GivesBytes}
 use Rattle.nor_job.proofs.TargetLemmas.{length-target}
 use Rattle.norprog.proofs.Content.Targets.{target_of_parts, bytes_of_parts, part_front}
 

@@ -1,5 +1,5 @@
 -- The bytes of an image are bytes.
-use Rattle.std.proofs.Common.{◌≡◌, ℕ, zero, suc, ◌-◌, ◌<◌, ◌&&◌, nat_le, nat_lt, not, Bool, true, false, if◌then◌else◌, List, [], ◌∷◌, map, drop, Some, None, Ok, Err, refl, ◌∙◌, ap, subst, arith}
+use Rattle.std.proofs.Common.{◌≡◌, ℕ, zero, suc, ◌-◌, ◌<◌, ◌&&◌, nat_le, nat_lt, not, Bool, true, false, if◌then◌else◌, List, [], ◌∷◌, map, drop, Option, Some, None, Ok, Err, refl, ◌∙◌, ap, subst, arith}
 use Rattle.std.specs.Prelude.{◌==◌, is_some, slice_get}
 use Rattle.std.specs.List.{slice_index, list_all}
 use Rattle.std.specs.Option.{unwrap_or}
@@ -8,9 +8,10 @@ use Rattle.std.proofs.lemmas.Option.{get_or_from_slice_get}
 use Rattle.nor_hex.specs.declared.fault.HexFault.{HexFault}
 use Rattle.nor_hex.specs.declared.fault.HexFault.TheVariants.{NoColon, BadDigit, BadLength, BadSum, BadType}
 use Rattle.nor_hex.specs.Faults.{IsImage}
-use Rattle.nor_hex.specs.Image.{Pairs, byte_at}
+use Rattle.nor_hex.specs.Image.{GivesBytes, Pairs, byte_at}
 use Rattle.nor_hex.specs.Record.{Record, digit, pair_bytes, has_length, has_sum, type_field, length_field, fields, record_of}
 use Rattle.nor_hex.specs.Records.{record_at}
+use Rattle.nor_job.specs.Causes.{ImageSays}
 use Rattle.nor_job.specs.Written.{AreBytes}
 use Rattle.norprog.proofs.Promise.Bytes.{small_take, small_drop}
 
@@ -70,14 +71,14 @@ records_small (l ∷ lines) (s ∷ records) (suc place) r each here =
     let later : map record_at lines ≡ map Ok records = cc in
     records_small lines records place r later here
 
--- the image gives bytes
-abbrev pub GivesBytes : Pairs → Type 0
-GivesBytes image = (a byte : ℕ) → byte_at image a ≡ Some byte → byte < 256
-
-pub image_bytes : (text : List ℕ) (image : Pairs) → IsImage text image → GivesBytes image
-image_bytes text image is a byte there =
+text_bytes : (text : List ℕ) (image : Pairs) → IsImage text image → GivesBytes image
+text_bytes text image is a byte there =
     let puts = is.given a byte there in
     let small = records_small _ is.records puts.place puts.line is.accepted.each puts.here in
     let value : slice_index puts.line.bytes puts.lays.index ≡ byte = get_or_from_slice_get puts.line.bytes puts.lays.index byte 0 puts.lays.byte_is in
     let bound = small puts.lays.index in
     omega (arith, value, bound)
+
+pub image_bytes : (given : Option Pairs) (text : List ℕ) (image : Pairs) → ImageSays given text image → GivesBytes image
+image_bytes None text image is = text_bytes text image is
+image_bytes (Some its) text image is = is.1

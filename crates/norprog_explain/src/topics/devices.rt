@@ -79,7 +79,8 @@ pub(crate) const TOPICS: &[Topic] = &[
          14 and 18 protect too, 15 says suspended, and 16 and 9 must be the address mode\n\
          and the quad setting that the options say. No step was sent. Unprotect the\n\
          chip, clear its latch (04), or give its --status where the command has that,\n\
-         and build anew.",
+         and build anew. `compare` refuses such a chip too, since it looks as `flash`\n\
+         does; `read` reads it.",
     ),
     (
         "unlike register",
@@ -205,12 +206,11 @@ pub(crate) const TOPICS: &[Topic] = &[
         "the chip",
         "Steps were sent to the chip, and not all of them are known to be done. So the\n\
          chip may hold neither what it held nor what it must hold, and may be in another\n\
-         address mode: power it off and on. After flash give the command that the line\n\
-         prints: it takes the dump of the first try as --resume. After play what it must\n\
-         hold is what norprog run --out want.bin leaves, from the old dump and script.\n\
-         Make want.bin HEX with objcopy, read the chip again, and build that HEX, whole\n\
-         and without regions, from the new dump. The old HEX would leave FF what was\n\
-         erased around it.",
+         address mode: power it off and on. After flash or erase give the command that\n\
+         the line prints: it takes the dump of the first try as --resume. After play what\n\
+         it must hold is what norprog run --out want.bin leaves, from the old dump and\n\
+         script. Read the chip again, and give build --bin want.bin, without regions, and\n\
+         the new dump. The old image would leave FF what was erased around it.",
     ),
 ];
 

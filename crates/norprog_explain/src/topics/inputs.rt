@@ -10,9 +10,10 @@ pub(crate) const TOPICS: &[Topic] = &[
         "usage",
         "A value isn't of its form, or options don't go together. Give exactly one of\n\
          --sfdp, --uniform and --sheet, and --bits only with --sfdp; of a job exactly\n\
-         one of --hex and --bin. Write numbers only in digits, and --status as six\n\
-         hexadecimal digits. The command's --help has each form. Of explain: it has\n\
-         nothing on these words; without words it lists what you can ask.",
+         one of --hex and --bin, of `erase` either --all or names of regions. Write\n\
+         numbers only in digits, and --status as six hexadecimal digits. The command's\n\
+         --help has each form. Of explain: it has nothing on these words; without words\n\
+         it lists what you can ask.",
     ),
     (
         "file hex",
@@ -119,7 +120,7 @@ pub(crate) const TOPICS: &[Topic] = &[
     (
         "contradiction 1",
         "The command names regions, but no layout. Give the layout with --layout, or\n\
-         name no region to take the whole chip.",
+         name no region to take the whole chip; of `erase` say --all instead.",
     ),
     (
         "contradiction 2",
@@ -139,8 +140,9 @@ pub(crate) const TOPICS: &[Topic] = &[
     ),
     (
         "contradiction 5",
-        "`flash` got a layout, but no name of a region, and the whole chip would be\n\
-         written. Name the regions at the end, or leave --layout out.",
+        "`flash`, `erase` or `compare` got a layout, but no name of a region, and the\n\
+         whole chip would be taken. Name the regions at the end (of `erase` in place of\n\
+         --all), or leave --layout out.",
     ),
     (
         "contradiction",
@@ -216,21 +218,22 @@ pub(crate) const TOPICS: &[Topic] = &[
          and the lowest address of the chip that gets none. The region is counted from 0,\n\
          in the order of the names. Was the file cut on its way, or made for another\n\
          address or region? Correct the image, --base or the names; or say that a part\n\
-         is meant: with --partial of `flash`, without --whole of the others. The chip is\n\
-         as it was.",
+         is meant: with --partial of `flash` and `compare`, without --whole of the\n\
+         others. The chip is as it was.",
     ),
     (
         "beyond",
         "So many bytes of the image lie off the chip, and the first of them is at this\n\
          address of the image. The image may be for a larger chip, or begin elsewhere:\n\
          --base names its address that goes to the chip's address 0. Correct that, or\n\
-         say that these bytes are to be left out: with --beyond of `flash`, without\n\
-         --whole of the others. The chip is as it was.",
+         say that these bytes are to be left out: with --beyond of `flash` and\n\
+         `compare`, without --whole of the others. The chip is as it was.",
     ),
     (
         "image lands nowhere",
         "No byte of the image lies at a chosen address of the chip: there is nothing to\n\
-         write. Correct --base, the names or the layout. The chip is as it was.",
+         write or compare. Correct --base, the names or the layout. The chip is as it\n\
+         was.",
     ),
     (
         "log line",
@@ -263,10 +266,10 @@ pub(crate) const TOPICS: &[Topic] = &[
     (
         "write",
         "Writing a file or standard output failed, or its last flush did. Make room on\n\
-         the disk, and delete the output: it may be cut, or whole. Of `flash`: if it\n\
-         printed no line `if this stops on the way`, the chip is as it was: delete the\n\
-         file of --before too, and give the command again. Else keep that file, and give\n\
-         the command of that line.",
+         the disk, and delete the output: it may be cut, or whole. Of `flash` and\n\
+         `erase`: if no line `if this stops on the way` was printed, the chip is as it\n\
+         was: delete the file of --before too, and give the command again. Else keep that\n\
+         file, and give the command of that line.",
     ),
     (
         "memory",

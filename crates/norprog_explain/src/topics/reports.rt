@@ -45,7 +45,8 @@ pub(crate) const TOPICS: &[Topic] = &[
     ),
     (
         "lines",
-        "How many lines the plan of flash has. --list prints them, and --dry-run too.",
+        "How many lines the plan of `flash` or `erase` has. --list prints them, and\n\
+         --dry-run too.",
     ),
     (
         "erases",
@@ -66,13 +67,14 @@ pub(crate) const TOPICS: &[Topic] = &[
         "ignored",
         "The number of bytes of the image that go nowhere: outside the chosen regions,\n\
          below the base address, or past the chip's end. If you expected 0, check --base\n\
-         and the regions.",
+         and the regions. Of `erase`: how many bytes of the chip aren't chosen.",
     ),
     (
         "if this stops",
-        "If flash is ended before its last line, as by Ctrl-C, a closed terminal or a\n\
-         power cut, the chip may be half done: power it off and on, and give the command\n\
-         of that line. Without its --resume what was erased and not restored yet is lost.",
+        "If flash or erase is ended before its last line, as by Ctrl-C, a closed terminal\n\
+         or a power cut, the chip may be half done: power it off and on, and give the\n\
+         command of that line. Without its --resume what was erased and not restored yet\n\
+         is lost.",
     ),
     (
         "left out",

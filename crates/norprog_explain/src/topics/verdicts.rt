@@ -34,8 +34,30 @@ pub(crate) const TOPICS: &[Topic] = &[
         "The script ran to its end, and nothing went wrong. The number counts the\n\
          transactions, each turn of a poll too. The file of --out has what the chip\n\
          holds then. Of `play`: each poll counts once. Without --trust play has read\n\
-         back what the steps touch, and the chip holds there what it must. Of `flash`:\n\
-         each step was done, and then the whole chip held what it must.",
+         back what the steps touch, and the chip holds there what it must. Of `flash`\n\
+         and `erase`: each step was done, and then the whole chip held what it must: what\n\
+         was chosen for `erase` only FF, all else as before. Later `compare` of an image\n\
+         says whether it still does.",
+    ),
+    (
+        "same",
+        "Of `compare`: the chip gave the same bytes twice, and holds each byte of the\n\
+         image that lies on it in the chosen regions; the number counts these. What the\n\
+         image doesn't give wasn't judged. Nothing was sent that changes the chip.",
+    ),
+    (
+        "differs",
+        "Of `compare`: the lowest address at which the chip holds another byte than the\n\
+         image gives; the next line says at how many it does. The chip gave its byte\n\
+         twice, so it is hardly the line. It may hold another version of the image, or\n\
+         only a part of it. Or --base, the regions or the address of --bin aren't those\n\
+         by which it was written. `flash --dry-run` prints what would have to be done.\n\
+         Nothing was sent that changes the chip.",
+    ),
+    (
+        "differing",
+        "Of `compare`: at how many addresses the chip holds another byte than the image\n\
+         gives. The line above has the lowest: ask for `differs`.",
     ),
     (
         "wrong 1",

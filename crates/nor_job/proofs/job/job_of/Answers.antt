@@ -1,10 +1,8 @@
 -- Each stage's refusal.
 use Rattle.std.proofs.Common.{◌≡◌, false, true, sym, ap, subst}
-use Rattle.nor_hex.specs.Faults.{IsFault, IsImage}
-use Rattle.nor_job.specs.Lifted.{lifted_hex}
 use Rattle.nor_job.specs.Task.{Task}
 use Rattle.nor_base.proofs.FaultLaws.{handed_on}
-use Rattle.nor_job.proofs.FaultLemmas.{has_image, refuses_text}
+use Rattle.nor_job.proofs.FaultLemmas.{has_image, refuses_image}
 use Rattle.nor_job.proofs.job.job_of.Goals as goal
 
 pub returns-in_err-consistent-clause-refused : goal.returns-in_err-consistent-clause-refused
@@ -14,24 +12,21 @@ returns-in_err-consistent-clause-refused c =
 pub returns-in_err-image-clause-refused : goal.returns-in_err-image-clause-refused
 returns-in_err-image-clause-refused c =
     handed_on _ _ _ c.from_residual-in_err-image.ensures.1
-    (refuses_text c.args.inputs.now c.args.len c.in_err-image.field-0.0 c.in_ok-consistent.ensures.consistent
-    (λ real. subst (λ text. IsFault text c.in_err-image.field-0.0) (ap (λ (t : Task). t.hex) c.inputs.view_is) (c.in_err-image.ensures.fault real)))
+    (refuses_image c.args.inputs.now c.args.len c.in_err-image.field-0.0 c.in_ok-consistent.ensures.consistent c.in_err-image.ensures.refused)
 
 pub returns-in_err-image-clause-only_memory : goal.returns-in_err-image-clause-only_memory
 returns-in_err-image-clause-only_memory c = λ image regions m accepted.
-    let spelled = subst (λ text. IsImage text image) (sym (ap (λ (t : Task). t.hex) c.inputs.view_is)) accepted.named.imaged.spelled in
-    let memory = c.in_err-image.ensures.accepted spelled.records spelled.accepted in
-    handed_on _ _ _ c.from_residual-in_err-image.ensures.1 (ap lifted_hex memory)
+    handed_on _ _ _ c.from_residual-in_err-image.ensures.1 (c.in_err-image.ensures.only_memory image accepted.named.imaged.spelled)
 
 pub sized_chip-requires : goal.sized_chip-requires
 sized_chip-requires c =
-    let its = has_image c.args.inputs.now c.in_ok-image.image c.in_ok-consistent.ensures.consistent (subst (λ text. IsImage text c.in_ok-image.image) (ap (λ (t : Task). t.hex) c.inputs.view_is) c.in_ok-image.ensures.image) in
+    let its = has_image c.args.inputs.now c.in_ok-image.image c.in_ok-consistent.ensures.consistent c.in_ok-image.ensures.image in
     let chosen = c.in_ok-chosen.ensures.chosen c.in_ok-image.image its in
     record { named = (c.in_ok-image.image, chosen.0, chosen.1) }
 
 pub returns-clause-job : goal.returns-clause-job
 returns-clause-job c =
-    let its = has_image c.args.inputs.now c.in_ok-image.image c.in_ok-consistent.ensures.consistent (subst (λ text. IsImage text c.in_ok-image.image) (ap (λ (t : Task). t.hex) c.inputs.view_is) c.in_ok-image.ensures.image) in
+    let its = has_image c.args.inputs.now c.in_ok-image.image c.in_ok-consistent.ensures.consistent c.in_ok-image.ensures.image in
     let chosen = c.in_ok-chosen.ensures.chosen c.in_ok-image.image its in
     record {
       regions = chosen.0;

@@ -1,7 +1,6 @@
 -- What was found is of the inputs.
 use Rattle.std.proofs.Common.{◌≡◌, ◌∙◌, true, ap, subst}
 use Rattle.nor_base.specs.Array.{is_filled}
-use Rattle.nor_hex.specs.Faults.{IsImage}
 use Rattle.nor_hex.specs.Image.{byte_at}
 use Rattle.nor_job.specs.Task.{Task}
 use Rattle.norprog_common.specs.Rules.{AreFilled, IsGap, Unallotted}
@@ -21,7 +20,7 @@ returns-clause-lacks c =
     let chosen = c.as_slice.ensures.value ∙ c.in-Ok-regions_of.ensures.regions c.requires.1 layout in (
       c.if-not-full.false,
       lacks_part t c.in-Ok.image c.requires.1 c.as_slice.result.now c.in-Some.gap
-          (subst (λ text. IsImage text c.in-Ok.image) (ap (λ (t : Task). t.hex) c.inputs.view_is) c.in-Ok.ensures.image) layout
+          c.in-Ok.ensures.image layout
           (subst (λ (u : Task). is_filled u.regions ≡ true) c.inputs.view_is (some_named _ c.is_empty.result c.if-is_empty.ensures)) chosen
           (subst (λ b. IsGap (byte_at c.in-Ok.image) b c.as_slice.result.now c.in-Some.gap) (ap (λ (t : Task). t.base) c.inputs.view_is) c.in-Some.ensures),
     )
@@ -32,5 +31,5 @@ returns-in-None-clause-given c = λ asked filled.
     let layout = c.requires.2.layout in
     let chosen = c.as_slice.ensures.value ∙ c.in-Ok-regions_of.ensures.regions c.requires.1 layout in
     is_given t c.in-Ok.image c.requires.1 c.as_slice.result.now
-    (subst (λ text. IsImage text c.in-Ok.image) (ap (λ (t : Task). t.hex) c.inputs.view_is) c.in-Ok.ensures.image) layout chosen
+    c.in-Ok.ensures.image layout chosen
     (subst (λ b. AreFilled (byte_at c.in-Ok.image) b c.as_slice.result.now) (ap (λ (t : Task). t.base) c.inputs.view_is) c.in-None.ensures) filled

@@ -1,16 +1,24 @@
 -- Whether the work is planned.
-use Rattle.std.proofs.Common.{refl}
-use Rattle.norprog_flash.specs.Stops.{Unplanned}
-use Rattle.norprog_flash.proofs.StopsLemmas.{other_size, over}
+use Rattle.std.proofs.Common.{ℕ, List, Option, refl, subst, sym}
+use Rattle.nor_base.proofs.FaultLaws.{handed_on}
+use Rattle.norprog_flash.specs.Begun.{printed}
+use Rattle.norprog_flash.specs.Stops.{CantPlan, NoPlace, Unplanned}
+use Rattle.norprog_flash.proofs.StopsLemmas.{on_chip, other_size, over}
 use Rattle.norprog_work.specs.Refused.{RefusesWork}
 use Rattle.norprog_work.specs.Work.{IsWork, plan_of}
 use Rattle.norprog_flash.proofs.begun.plan_for.Goals as goal
 
-pub returns-in-Err-clause-refused : goal.returns-in-Err-clause-refused
-returns-in-Err-clause-refused c = λ text.
+pub returns-in_err-image-clause-refused : goal.returns-in_err-image-clause-refused
+returns-in_err-image-clause-refused c =
+    handed_on (λ why. (text : Option (List ℕ)) → CantPlan c.args.job.now c.args.reading.now (printed text text) why) _ _ c.from_residual.ensures.1
+    (λ text. subst (CantPlan c.args.job.now c.args.reading.now (printed text text)) (sym c.in_err-image.ensures.memory) (NoPlace refl))
+
+pub returns-clause-refused : goal.returns-clause-refused
+returns-clause-refused c = λ text.
     Unplanned c.in-Err.why
-    (over (λ t content old. RefusesWork t content old c.in-Err.why) c.args.job.now c.args.reading.now _ _ _ _ c.inputs_for-inputs.ensures
-    c.as_slice.ensures.value c.as_slice-content.ensures.value c.older-old.ensures c.in-Err.ensures.refused) refl
+    (over (λ t content old. RefusesWork t content old c.in-Err.why) c.args.job.now c.args.reading.now _ _ _
+    (on_chip c.args.job.now c.args.reading.now _ _ _ _ c.inputs_for-inputs.ensures c.as_slice.ensures.value c.as_slice-content.ensures.value c.in_ok-image.ensures.image)
+    c.as_slice-content.ensures.value c.older-old.ensures c.in-Err.ensures.refused) refl
 
 pub returns-then-old-content-clause-refused : goal.returns-then-old-content-clause-refused
 returns-then-old-content-clause-refused c = λ text.
@@ -18,5 +26,6 @@ returns-then-old-content-clause-refused c = λ text.
 
 pub returns-in-Ok-clause-work : goal.returns-in-Ok-clause-work
 returns-in-Ok-clause-work c =
-    over (λ t content old. IsWork t content old (plan_of c.in-Ok.work)) c.args.job.now c.args.reading.now _ _ _ _ c.inputs_for-inputs.ensures
-    c.as_slice.ensures.value c.as_slice-content.ensures.value c.older-old.ensures c.in-Ok.ensures.work
+    over (λ t content old. IsWork t content old (plan_of c.in-Ok.work)) c.args.job.now c.args.reading.now _ _ _
+    (on_chip c.args.job.now c.args.reading.now _ _ _ _ c.inputs_for-inputs.ensures c.as_slice.ensures.value c.as_slice-content.ensures.value c.in_ok-image.ensures.image)
+    c.as_slice-content.ensures.value c.older-old.ensures c.in-Ok.ensures.work

@@ -1,17 +1,15 @@
--- What was planned, and how the work on it went, are how it ends.
-use Rattle.norprog_flash.specs.Ended.{OnlyPlan}
+-- By what is to be done.
 use Rattle.norprog_flash.specs.Worked.{session}
-use Rattle.norprog_flash.proofs.EndedLemmas.{goes_ends}
+use Rattle.norprog_flash.proofs.EndedLemmas.{compare_ends, compare_refused, plan_ends}
 use Rattle.norprog_flash.proofs.device.go_on.Goals as goal
 
-pub returns-clause-ends : goal.returns-clause-ends
-returns-clause-ends g c = λ first read.
-    goes_ends c.closes.ensures c.breaks.ensures (session c.args.job.now c.args.limits.now c.args.held.now.reading) first _ _ _ c.requires.whole c.if-job.false
-    (record { read = read; plan = c.in_ok-work.ensures.plan }) _ c.work_on.result c.work_on.ensures.goes
+pub returns-in-Plan-clause-ends : goal.returns-in-Plan-clause-ends
+returns-in-Plan-clause-ends g c = λ first read.
+    plan_ends (session c.args.job.now c.args.limits.now c.args.held.now.reading) first _ _ c.only_plan.result c.in-Plan.is read c.only_plan.ensures.planned
 
-pub returns-then-job-clause-ends : goal.returns-then-job-clause-ends
-returns-then-job-clause-ends g c = λ first read. OnlyPlan _ c.if-job.true (record { read = read; plan = c.in_ok-work.ensures.plan })
+pub returns-in-Compare-clause-ends : goal.returns-in-Compare-clause-ends
+returns-in-Compare-clause-ends g c = λ first read.
+    compare_ends (session c.args.job.now c.args.limits.now c.args.held.now.reading) first _ _ c.compare_read.result c.in-Compare.is read c.compare_read.ensures.compared
 
-pub work_on-requires-clause-planned : goal.work_on-requires-clause-planned
-work_on-requires-clause-planned g c =
-    let read = c.requires.read.0 in (read.0, read.1, _, record { read = read.2; plan = c.in_ok-work.ensures.plan })
+pub returns-in-Compare-clause-refused : goal.returns-in-Compare-clause-refused
+returns-in-Compare-clause-refused g c = compare_refused c.args.job.now c.args.held.now.reading _ c.compare_read.result c.compare_read.ensures.refused

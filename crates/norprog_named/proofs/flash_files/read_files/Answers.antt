@@ -1,9 +1,8 @@
 -- The first file that can't be read, or all of them.
-use Rattle.norprog_common.specs.Image.{image_in}
 use Rattle.norprog_common.specs.declared.faults.FileName.TheVariants as file
 use Rattle.norprog_files.proofs.FilesLemmas.{adds_both, stops_after, stops_before}
-use Rattle.norprog_named.proofs.FlashLemmas.{reads_all}
-use Rattle.norprog_named.proofs.JobLemmas.{image_used, named_used, reads_used, stops_reading}
+use Rattle.norprog_named.proofs.FlashLemmas.{asked_used, reads_all}
+use Rattle.norprog_named.proofs.JobLemmas.{named_used, reads_used, stops_reading}
 use Rattle.norprog_named.proofs.flash_files.read_files.Goals as goal
 
 pub returns-in_err-hex : goal.returns-in_err-hex
@@ -17,7 +16,7 @@ returns-in_err-layout g c =
       _,
       adds_both hex.1 did.1,
       stops_reading _ _ _ _ _ c.from_residual-in_err-layout.ensures.1
-          (stops_after (image_used (image_in c.args.request.now.image) hex.2) (stops_before _ did.2)),
+          (stops_after (asked_used hex.2) (stops_before _ did.2)),
     )
 
 pub returns-in_err-sfdp : goal.returns-in_err-sfdp
@@ -28,7 +27,7 @@ returns-in_err-sfdp g c =
       _,
       adds_both hex.1 (adds_both layout.1 did.1),
       stops_reading _ _ _ _ _ c.from_residual-in_err-sfdp.ensures.1
-          (stops_after (image_used (image_in c.args.request.now.image) hex.2)
+          (stops_after (asked_used hex.2)
           (stops_after (reads_used file.Layout layout.2) (stops_before _ did.2))),
     )
 
@@ -41,7 +40,7 @@ returns-in_err-old g c =
       _,
       adds_both hex.1 (adds_both layout.1 (adds_both tables.1 did.1)),
       stops_reading _ _ _ _ _ c.from_residual-in_err-old.ensures.1
-          (stops_after (image_used (image_in c.args.request.now.image) hex.2)
+          (stops_after (asked_used hex.2)
           (stops_after (reads_used file.Layout layout.2) (stops_after (named_used tables.2) did.2))),
     )
 

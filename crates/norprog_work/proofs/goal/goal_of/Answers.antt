@@ -1,15 +1,12 @@
 -- The job's target is that of the inputs.
-use Rattle.std.proofs.Common.{◌≡◌, length, sym, subst, arith}
-use Rattle.norprog_work.specs.Work.{IsGoal}
+use Rattle.std.proofs.Common.{◌≡◌, ◌∙◌, length, arith}
 use Rattle.norprog_work.proofs.GoalLemmas.{goal_is, written}
 use Rattle.norprog_work.proofs.goal.goal_of.Goals as goal
 
 pub returns-clause-goal : goal.returns-clause-goal
 returns-clause-goal c =
-    let t = c.args.inputs.now in
-    let old = c.args.old.now in
     let new = c.fill_target.new.want in
     let long : c.in_ok-bytes.bytes.len ≡ length new = omega (arith, c.fill_target.auto.want, c.as_mut_slice.ensures.len) in
-    subst (λ bytes. IsGoal t old bytes c.count_ignored-ignored.result) (sym (written new c.in_ok-bytes.bytes.items c.in_ok-bytes.bytes.len long))
-    (goal_is t old c.in_ok-job.job c.in_ok-job.ensures.job new c.count_ignored-ignored.result c.fill_target.ensures
-    c.count_ignored-ignored.ensures.count c.count_ignored-ignored.ensures.small)
+    goal_is c.args.inputs.now c.args.old.now c.in_ok-job.job c.in_ok-job.ensures.job _
+    (written new c.in_ok-bytes.bytes.items c.in_ok-bytes.bytes.len long ∙ c.fill_target.ensures) c.count-given.ensures
+    c.count_ignored-ignored.ensures.count c.count_ignored-ignored.ensures.small

@@ -22,35 +22,35 @@ pub returns-in_err-lines-clause-refused : goal.returns-in_err-lines-clause-refus
 returns-in_err-lines-clause-refused c =
     let t = c.args.inputs.now in
     let content = c.args.content.now in
-    let hex = c.in_ok-hex.hex.items in
+    let image = c.in_ok-image.image in
     let why = c.in_err-lines.field-0.0 in
-    let task = c.narrowed-narrow.ensures ∙ ap (narrowed t) c.as_slice-2.ensures.value in
+    let task = c.narrowed-narrow.ensures in
     handed_on (RefusesWork t content c.args.old.now) _ why c.from_residual-in_err-lines.ensures.1
-    (planning_refused c.targets.ensures.keeps c.targets.ensures.gives c.written_images.ensures t content c.args.old.now hex
+    (planning_refused c.targets.ensures.keeps c.targets.ensures.gives t content c.args.old.now image
     c.in_ok-goal.goal c.in_ok-goal.ensures.goal c.requires.sizes
-    (subst (λ (w : List ℕ). SpansDifference content w hex) c.as_slice.ensures.value c.in_ok-hex.ensures.spans) why
+    (subst (λ (w : List ℕ). SpansDifference content w image) c.as_slice.ensures.value c.in_ok-image.ensures.spans) why
     (subst (λ (x : Task). StopsPlanning x content content why ⊎ (why ≡ Memory)) task c.in_err-lines.ensures.stops))
 
 pub returns-in_err-report-clause-refused : goal.returns-in_err-report-clause-refused
 returns-in_err-report-clause-refused c =
     let t = c.args.inputs.now in
     let content = c.args.content.now in
-    let hex = c.in_ok-hex.hex.items in
+    let image = c.in_ok-image.image in
     handed_on (RefusesWork t content c.args.old.now) _ c.in_err-report.field-0.0 c.from_residual-in_err-report.ensures.1
     (subst (RefusesWork t content c.args.old.now) (sym c.in_err-report.ensures.memory)
-    (starved c.targets.ensures.keeps c.targets.ensures.gives c.written_images.ensures t content c.args.old.now hex
+    (starved c.targets.ensures.keeps c.targets.ensures.gives t content c.args.old.now image
     c.in_ok-goal.goal c.in_ok-goal.ensures.goal c.requires.sizes
-    (subst (λ (w : List ℕ). SpansDifference content w hex) c.as_slice.ensures.value c.in_ok-hex.ensures.spans)))
+    (subst (λ (w : List ℕ). SpansDifference content w image) c.as_slice.ensures.value c.in_ok-image.ensures.spans)))
 
 pub returns-clause-work : goal.returns-clause-work
 returns-clause-work c =
     let t = c.args.inputs.now in
     let content = c.args.content.now in
-    let hex = c.in_ok-hex.hex.items in
-    let task = c.narrowed-narrow.ensures ∙ ap (narrowed t) c.as_slice-2.ensures.value in
-    work_is c.targets.ensures.keeps c.targets.ensures.gives c.written_images.ensures t content c.args.old.now hex
+    let image = c.in_ok-image.image in
+    let task = c.narrowed-narrow.ensures in
+    work_is c.targets.ensures.keeps c.targets.ensures.gives t content c.args.old.now image
     c.in_ok-goal.goal c.in_ok-goal.ensures.goal c.requires.sizes
-    (subst (λ (w : List ℕ). SpansDifference content w hex) c.as_slice.ensures.value c.in_ok-hex.ensures.spans)
+    (subst (λ (w : List ℕ). SpansDifference content w image) c.as_slice.ensures.value c.in_ok-image.ensures.spans)
     c.in_ok-report.report c.in_ok-report.steps.items
     (subst (λ (x : Task). BuildsSteps x content c.in_ok-report.report c.in_ok-report.steps.items) task c.in_ok-report.ensures.built)
     c.in_ok-lines.lines.items _ refl
