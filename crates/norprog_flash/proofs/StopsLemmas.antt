@@ -7,7 +7,6 @@ use Rattle.nor_job.specs.declared.fault.BuildFault.{BuildFault}
 use Rattle.nor_job.specs.declared.fault.BuildFault.TheVariants.{ContentSize, Memory}
 use Rattle.nor_job.specs.Status.{start_of}
 use Rattle.nor_job.specs.Task.{Task}
-use Rattle.nor_probe.specs.Status.{suits}
 use Rattle.nor_reader.specs.declared.by.ReadBy.{ReadBy}
 use Rattle.nor_reader.specs.Harmless.{HasSentHarmless, SendsHarmless}
 use Rattle.nor_reader.specs.Laws.{GivesBy}
@@ -19,7 +18,7 @@ use Rattle.norprog_common.specs.Wire.{Wire}
 use Rattle.norprog_flash.specs.declared.ending.Unflashed.{Unflashed}
 use Rattle.norprog_flash.specs.declared.ending.Unflashed.TheVariants.{Refused, Closed}
 use Rattle.norprog_flash.specs.declared.job.Job.{Job}
-use Rattle.norprog_flash.specs.Begun.{printed, start_at}
+use Rattle.norprog_flash.specs.Begun.{is_closed, printed, start_at}
 use Rattle.norprog_flash.specs.Early.{Breaking, BreaksEarly, RefusesEarly, early_task, file_tables, is_known}
 use Rattle.norprog_flash.specs.declared.ending.Ending.TheVariants.{Compared}
 use Rattle.norprog_flash.specs.Ended.{Comparing, IsCompared}
@@ -39,12 +38,12 @@ given_way : (w : Way) (before after : Wire) (wanted : Bool) (content : List ℕ)
 given_way w before after true content is given = given.way
 given_way w before after false content is given = absurd cc
 
-pub closed : (most : ℕ) (w v : Wire) (job : Job) (r : Reading) → HasReadChip most w v job.ask r → (start : Start) (fits : Bool) → start ≡ start_at job r.status
-    → fits ≡ suits job.ask.part start r.status → fits ≡ false → StopsBefore most w v job (Closed r.status)
-closed most w v job r read start fits begins is unfit = inr (record {
+pub closed : (most : ℕ) (w v : Wire) (job : Job) (r : Reading) → HasReadChip most w v job.ask r → (start : Start) → start ≡ start_at job r.status
+    → is_closed job start r.status ≡ true → StopsBefore most w v job (Closed r.status)
+closed most w v job r read start begins is = inr (record {
   reading = r;
   read = read;
-  unsuited = (refl, ap (λ (s : Start). suits job.ask.part s r.status) (sym begins) ∙ (sym is ∙ unfit));
+  unsuited = (refl, ap (λ (s : Start). is_closed job s r.status) (sym begins) ∙ is);
 })
 
 -- a chip that was read whole is read so

@@ -1,9 +1,13 @@
 -- A chip that was read and planned for (this project's).
-use Rattle.std.specs.Prelude.{◌≡◌, ℕ, true, List, length, Option, unwrap_or}
+use Rattle.std.specs.Prelude.{◌≡◌, ℕ, Bool, false, not, List, length, Option, unwrap_or}
 use Rattle.std.specs.Io.KnownBytes.{Appends}
 use Rattle.nor_base.specs.declared.meaning.Start.{Start}
 use Rattle.nor_probe.specs.Status.{suits}
 use Rattle.nor_sfdp.specs.Bits.{is_set}
+use Rattle.nor_base.specs.declared.meaning.Part.{Part}
+use Rattle.norprog_common.specs.declared.given.Aim.{Aim}
+use Rattle.norprog_common.specs.declared.given.Aim.TheVariants.{Work, Compare}
+use Rattle.norprog_common.specs.declared.given.Aim.TheVariants as aim
 use Rattle.norprog_common.specs.Rules.{MeetsRules}
 use Rattle.norprog_common.specs.Wire.{Wire}
 use Rattle.norprog_flash.specs.declared.job.Job.{Job}
@@ -18,10 +22,19 @@ use Rattle.norprog_work.specs.Work.{IsWork, Plan}
 abbrev pub start_at : Job → ℕ → Start
 start_at job status = record { mode4 = job.ask.mode4; quad = is_set status 9 }
 
+-- a status shows that the chip can't take work; a comparison is none
+abbrev pub closed_by : Aim → Part → Start → ℕ → Bool
+closed_by Work part start status = not (suits part start status)
+closed_by aim.Plan part start status = not (suits part start status)
+closed_by Compare part start status = false
+
+abbrev pub is_closed : Job → Start → ℕ → Bool
+is_closed job start status = closed_by job.aim job.ask.part start status
+
 -- the chip was read, by reads of no more than so many bytes, and its status shows that it can take work; the job's image keeps its rules
 pub record HasRead (most : ℕ) (job : Job) (before after : Wire) (r : Reading) : Type 0 where
   pub read : HasReadChip most before after job.ask r
-  pub suited : suits job.ask.part (start_at job r.status) r.status ≡ true
+  pub suited : is_closed job (start_at job r.status) r.status ≡ false
   pub meets : MeetsRules job.rules (task_on job r) (length r.content.items)
 
 -- this is the work from what was read to the target

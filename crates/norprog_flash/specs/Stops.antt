@@ -1,10 +1,9 @@
 -- Why work isn't begun (this project's).
-use Rattle.std.specs.Prelude.{◌≡◌, ◌≢◌, ◌⊎◌, ℕ, false, List, length, Option, unwrap_or}
+use Rattle.std.specs.Prelude.{◌≡◌, ◌≢◌, ◌⊎◌, ℕ, true, List, length, Option, unwrap_or}
 use Rattle.std.specs.Io.KnownBytes.{Appends}
 use Rattle.nor_base.specs.Device.{Cuts}
 use Rattle.nor_job.specs.declared.fault.BuildFault.{BuildFault}
 use Rattle.nor_job.specs.declared.fault.BuildFault.TheVariants.{ContentSize, Memory, Write}
-use Rattle.nor_probe.specs.Status.{suits}
 use Rattle.norprog_common.specs.declared.faults.FileName.TheVariants as file
 use Rattle.norprog_common.specs.declared.faults.Refusal.{Refusal}
 use Rattle.norprog_common.specs.declared.faults.Refusal.TheVariants.{Build, File}
@@ -13,7 +12,7 @@ use Rattle.norprog_common.specs.Wire.{Wire}
 use Rattle.norprog_flash.specs.declared.ending.Unflashed.{Unflashed}
 use Rattle.norprog_flash.specs.declared.ending.Unflashed.TheVariants.{Refused, Device, Unlike, Closed}
 use Rattle.norprog_flash.specs.declared.job.Job.{Job}
-use Rattle.norprog_flash.specs.Begun.{IsPlanOf, Printed, start_at}
+use Rattle.norprog_flash.specs.Begun.{IsPlanOf, Printed, is_closed, start_at}
 use Rattle.norprog_flash.specs.Resumed.{IsOfAnother}
 use Rattle.norprog_flash.specs.Task.{dump_of, task_on}
 use Rattle.norprog_flash.specs.Way.{plan_text, work_text}
@@ -40,7 +39,7 @@ pub record StopsReading (most : ℕ) (before after : Wire) (ask : Ask) (why : Un
 
 -- its status shows that it can't take work; or the job's image breaks its rules, or has no place in memory
 abbrev pub IsUnsuited : Job → Reading → Unflashed → Type 0
-IsUnsuited job r (Closed status) = (status ≡ r.status) × (suits job.ask.part (start_at job r.status) r.status ≡ false)
+IsUnsuited job r (Closed status) = (status ≡ r.status) × (is_closed job (start_at job r.status) r.status ≡ true)
 IsUnsuited job r (Refused why) = BreaksRules job.rules (task_on job r) (length r.content.items) why ⊎ (why ≡ Build Memory)
 IsUnsuited job r other = ⊥
 

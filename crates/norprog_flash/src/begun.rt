@@ -2,13 +2,13 @@
 
 ghost use Rattle.std.specs.Prelude.{◌≡◌, ◌⊎◌, [], ◌∷◌, true, length, unwrap_or};
 ghost use Rattle.std.specs.Prelude.{ℕ, List, Option, IfOk, IfErr, MatchResult, Ok};
-ghost use Rattle.nor_probe.specs.Status.{suits};
 ghost use Rattle.nor_job.specs.Status.{start_of};
 ghost use Rattle.nor_job.specs.declared.fault.BuildFault.TheVariants.{Memory};
 ghost use Rattle.norprog_common.specs.declared.faults.Refusal.TheVariants.{Build};
 ghost use Rattle.norprog_common.specs.Rules.{BreaksRules, MeetsRules};
 ghost use Rattle.norprog_common.specs.Wire.{wire};
-ghost use Rattle.norprog_flash.specs.Begun.{HasRead, IsPlanOf, PrintsPlan, printed, start_at};
+ghost use Rattle.norprog_flash.specs.Begun.{HasRead, IsPlanOf, PrintsPlan, is_closed, printed};
+ghost use Rattle.norprog_flash.specs.Begun.{start_at};
 ghost use Rattle.norprog_flash.specs.Task.{dump_of, flash_task, task_on};
 ghost use Rattle.norprog_work.specs.Work.{plan_of};
 ghost use Rattle.nor_reader.specs.Harmless.{HasSentHarmless, SendsHarmless};
@@ -26,7 +26,7 @@ use nor_job::BuildFault;
 use nor_probe::suits;
 use nor_reader::ReadBy;
 use nor_serprog::{Limits, test_line};
-use norprog_common::{FileName, Refusal, refuse_image};
+use norprog_common::{Aim, FileName, Refusal, refuse_image};
 use norprog_device::DeviceFault;
 use norprog_read::{Reading, first_by, read_chip};
 use norprog_work::{Work, work_for};
@@ -153,12 +153,22 @@ fn read_suited<R: ByteIn, W: ByteOut>(
 {
     let reading = read_chip(alloc, from, to, limits, &job.ask)?;
     let start = start_at(job, reading.status);
-    if !suits(job.ask.part, start, reading.status) {
+    if is_closed(job, start, reading.status) {
         return Err(Unflashed::Closed(reading.status));
     }
     let by = first_by(&reading.meaning, said_start(job));
     refuse_unruled(alloc, job, &reading)?;
     Ok(Held { reading, by })
+}
+
+/// Whether a status shows that the chip can't take work that isn't only a comparison.
+fn is_closed(job: &Job<'_>, start: Start, status: u32) -> bool
+    ensures { result ≡ is_closed job.now start status }
+{
+    match job.aim {
+        Aim::Work | Aim::Plan => !suits(job.ask.part, start, status),
+        Aim::Compare => false,
+    }
 }
 
 /// Refuses a job whose image breaks its rules, on this chip.

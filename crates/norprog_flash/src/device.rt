@@ -73,8 +73,7 @@ fn work_through<R: ByteIn, W: ByteOut, O: ByteOut, P: ByteOut>(
     out: &mut O,
     progress: &mut P,
 ) -> Result<Ending, Refusal>
-    requires aim { job.now.aim ≡ aim.Work }
-    requires whole { job.now.ask.content ≡ true }
+    requires whole { (job.now.aim ≡ aim.Work) × (job.now.ask.content ≡ true) }
     requires read { IsReadOn limits.now.asked job.now held.now.reading
         × GivesBy held.now.reading.meaning
         (start_of (task_on job.now held.now.reading)) held.now.by }

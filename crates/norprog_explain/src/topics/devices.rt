@@ -79,8 +79,7 @@ pub(crate) const TOPICS: &[Topic] = &[
          14 and 18 protect too, 15 says suspended, and 16 and 9 must be the address mode\n\
          and the quad setting that the options say. No step was sent. Unprotect the\n\
          chip, clear its latch (04), or give its --status where the command has that,\n\
-         and build anew. `compare` refuses such a chip too, since it looks as `flash`\n\
-         does; `read` reads it.",
+         and build anew. `read` and `compare` read such a chip.",
     ),
     (
         "unlike register",

@@ -1,15 +1,15 @@
 -- What was read shows that it doesn't do.
+use Rattle.std.proofs.Common.{sym}
 use Rattle.nor_base.proofs.FaultLaws.{handed_on}
 use Rattle.norprog_flash.specs.declared.ending.Unflashed.TheVariants.{Refused}
 use Rattle.norprog_flash.specs.Stops.{StopsBefore}
 use Rattle.norprog_flash.proofs.StopsLemmas.{closed, unruled, way_there}
 use Rattle.norprog_flash.proofs.begun.read_suited.Goals as goal
 
-pub returns-then-not-suits-clause-stops : goal.returns-then-not-suits-clause-stops
-returns-then-not-suits-clause-stops g c =
-    closed c.args.limits.now.asked _ _ c.args.job.now c.in_ok-reading.reading c.in_ok-reading.ensures.read c.start_at-start.result c.suits.result
-    c.start_at-start.ensures
-    c.suits.ensures c.if-not-suits.true
+pub returns-then-is_closed-clause-stops : goal.returns-then-is_closed-clause-stops
+returns-then-is_closed-clause-stops g c =
+    closed c.args.limits.now.asked _ _ c.args.job.now c.in_ok-reading.reading c.in_ok-reading.ensures.read c.start_at-start.result
+    c.start_at-start.ensures (sym c.if-is_closed.ensures)
 
 pub returns-in_err-refuse_unruled-clause-stops : goal.returns-in_err-refuse_unruled-clause-stops
 returns-in_err-refuse_unruled-clause-stops g c =

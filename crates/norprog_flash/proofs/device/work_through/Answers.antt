@@ -5,7 +5,7 @@ use Rattle.norprog_flash.proofs.device.work_through.Goals as goal
 
 pub returns-clause-ends : goal.returns-clause-ends
 returns-clause-ends g c = λ first read.
-    goes_ends c.closes.ensures c.breaks.ensures (session c.args.job.now c.args.limits.now c.args.held.now.reading) first _ _ _ c.requires.whole c.requires.aim
+    goes_ends c.closes.ensures c.breaks.ensures (session c.args.job.now c.args.limits.now c.args.held.now.reading) first _ _ _ c.requires.whole.1 c.requires.whole.0
     (record { read = read; plan = c.in_ok-work.ensures.plan }) _ c.work_on.result c.work_on.ensures.goes
 
 pub work_on-requires-clause-planned : goal.work_on-requires-clause-planned
