@@ -18,7 +18,7 @@ use Rattle.norprog_common.specs.Wire.{Wire}
 use Rattle.norprog_flash.specs.declared.ending.Unflashed.{Unflashed}
 use Rattle.norprog_flash.specs.declared.ending.Unflashed.TheVariants.{Refused, Closed}
 use Rattle.norprog_flash.specs.declared.job.Job.{Job}
-use Rattle.norprog_flash.specs.Begun.{is_closed, printed, start_at}
+use Rattle.norprog_flash.specs.Begun.{is_closed, printed, rules_on, start_at}
 use Rattle.norprog_flash.specs.Early.{Breaking, BreaksEarly, RefusesEarly, early_task, file_tables, is_known}
 use Rattle.norprog_flash.specs.declared.ending.Ending.TheVariants.{Compared}
 use Rattle.norprog_flash.specs.Ended.{Comparing, IsCompared}
@@ -55,7 +55,7 @@ way_there most w v job r read start begins whole by is =
     (given_way (way_by most job.ask r.tables.items r.meaning) _ _ job.ask.content r.content.items whole read.content)
 
 pub unruled : (most : ℕ) (w v : Wire) (job : Job) (r : Reading) → HasReadChip most w v job.ask r → (why : Refusal)
-    → BreaksRules job.rules (task_on job r) (length r.content.items) why ⊎ (why ≡ Build Memory) → StopsBefore most w v job (Refused why)
+    → BreaksRules (rules_on job) (task_on job r) (length r.content.items) why ⊎ (why ≡ Build Memory) → StopsBefore most w v job (Refused why)
 unruled most w v job r read why breaks = inr (record { reading = r; read = read; unsuited = breaks })
 
 pub or_memory : {T : Type 0} (P : Refusal → Type 0) (result : Result T Refusal) → IfErr result P → IfErr result (λ why. P why ⊎ (why ≡ Build Memory))

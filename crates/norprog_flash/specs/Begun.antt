@@ -1,5 +1,5 @@
 -- A chip that was read and planned for (this project's).
-use Rattle.std.specs.Prelude.{◌≡◌, ℕ, Bool, false, not, List, length, Option, unwrap_or}
+use Rattle.std.specs.Prelude.{◌≡◌, ◌||◌, ℕ, Bool, false, not, List, length, Option, unwrap_or}
 use Rattle.std.specs.Io.KnownBytes.{Appends}
 use Rattle.nor_base.specs.declared.meaning.Start.{Start}
 use Rattle.nor_probe.specs.Status.{suits}
@@ -9,6 +9,7 @@ use Rattle.norprog_common.specs.declared.given.Aim.{Aim}
 use Rattle.norprog_common.specs.declared.given.Aim.TheVariants.{Work, Compare}
 use Rattle.norprog_common.specs.declared.given.Aim.TheVariants as aim
 use Rattle.norprog_common.specs.Rules.{MeetsRules}
+use Rattle.norprog_common.specs.declared.rules.ImageRules.{ImageRules}
 use Rattle.norprog_common.specs.Wire.{Wire}
 use Rattle.norprog_flash.specs.declared.job.Job.{Job}
 use Rattle.norprog_flash.specs.Resumed.{IsOfDump}
@@ -31,11 +32,21 @@ closed_by Compare part start status = false
 abbrev pub is_closed : Job → Start → ℕ → Bool
 is_closed job start status = closed_by job.aim job.ask.part start status
 
+-- what the image has to give on a chip that was read: a region that is erased has to be all there
+abbrev pub rules_on : Job → ImageRules
+rules_on job = record {
+  exact = job.rules.exact;
+  strict = job.rules.strict;
+  full = job.rules.full || job.blank;
+  inside = job.rules.inside;
+  lands = job.rules.lands;
+}
+
 -- the chip was read, by reads of no more than so many bytes, and its status shows that it can take work; the job's image keeps its rules
 pub record HasRead (most : ℕ) (job : Job) (before after : Wire) (r : Reading) : Type 0 where
   pub read : HasReadChip most before after job.ask r
   pub suited : is_closed job (start_at job r.status) r.status ≡ false
-  pub meets : MeetsRules job.rules (task_on job r) (length r.content.items)
+  pub meets : MeetsRules (rules_on job) (task_on job r) (length r.content.items)
 
 -- this is the work from what was read to the target
 abbrev pub IsPlanOf : Job → Reading → Plan → Type 0

@@ -12,7 +12,7 @@ use Rattle.norprog_common.specs.Wire.{Wire}
 use Rattle.norprog_flash.specs.declared.ending.Unflashed.{Unflashed}
 use Rattle.norprog_flash.specs.declared.ending.Unflashed.TheVariants.{Refused, Device, Unlike, Closed}
 use Rattle.norprog_flash.specs.declared.job.Job.{Job}
-use Rattle.norprog_flash.specs.Begun.{IsPlanOf, Printed, is_closed, start_at}
+use Rattle.norprog_flash.specs.Begun.{IsPlanOf, Printed, is_closed, rules_on, start_at}
 use Rattle.norprog_flash.specs.Resumed.{IsOfAnother}
 use Rattle.norprog_flash.specs.Task.{dump_of, task_on}
 use Rattle.norprog_flash.specs.Way.{plan_text, work_text}
@@ -40,7 +40,7 @@ pub record StopsReading (most : ℕ) (before after : Wire) (ask : Ask) (why : Un
 -- its status shows that it can't take work; or the job's image breaks its rules, or has no place in memory
 abbrev pub IsUnsuited : Job → Reading → Unflashed → Type 0
 IsUnsuited job r (Closed status) = (status ≡ r.status) × (is_closed job (start_at job r.status) r.status ≡ true)
-IsUnsuited job r (Refused why) = BreaksRules job.rules (task_on job r) (length r.content.items) why ⊎ (why ≡ Build Memory)
+IsUnsuited job r (Refused why) = BreaksRules (rules_on job) (task_on job r) (length r.content.items) why ⊎ (why ≡ Build Memory)
 IsUnsuited job r other = ⊥
 
 -- it was read, and that is so

@@ -8,7 +8,7 @@ ghost use Rattle.norprog_common.specs.declared.faults.Refusal.TheVariants.{Build
 ghost use Rattle.norprog_common.specs.Rules.{BreaksRules, MeetsRules};
 ghost use Rattle.norprog_common.specs.Wire.{wire};
 ghost use Rattle.norprog_flash.specs.Begun.{HasRead, IsPlanOf, PrintsPlan, is_closed, printed};
-ghost use Rattle.norprog_flash.specs.Begun.{start_at};
+ghost use Rattle.norprog_flash.specs.Begun.{rules_on, start_at};
 ghost use Rattle.norprog_flash.specs.Task.{dump_of, flash_task, task_on};
 ghost use Rattle.norprog_work.specs.Work.{plan_of};
 ghost use Rattle.nor_reader.specs.Harmless.{HasSentHarmless, SendsHarmless};
@@ -26,7 +26,7 @@ use nor_job::BuildFault;
 use nor_probe::suits;
 use nor_reader::ReadBy;
 use nor_serprog::{Limits, test_line};
-use norprog_common::{Aim, FileName, Refusal, refuse_image};
+use norprog_common::{Aim, FileName, ImageRules, Refusal, refuse_image};
 use norprog_device::DeviceFault;
 use norprog_read::{Reading, first_by, read_chip};
 use norprog_work::{Work, work_for};
@@ -173,16 +173,29 @@ fn is_closed(job: &Job<'_>, start: Start, status: u32) -> bool
 
 /// Refuses a job whose image breaks its rules, on this chip.
 fn refuse_unruled(alloc: Global, job: &Job<'_>, reading: &Reading) -> Result<(), Refusal>
-    ensures meets { IfOk result (λ _. MeetsRules job.now.rules
+    ensures meets { IfOk result (λ _. MeetsRules (rules_on job.now)
         (task_on job.now reading.now) (length reading.now.content.items)) }
-    ensures breaks { IfErr result (λ why. BreaksRules job.now.rules
+    ensures breaks { IfErr result (λ why. BreaksRules (rules_on job.now)
         (task_on job.now reading.now) (length reading.now.content.items) why
         ⊎ (why ≡ Build Memory)) }
 {
     let content = reading.content.as_slice();
     let image = blank_image(alloc, job.blank, content.len())?;
     let inputs = inputs_for(job, reading.tables.as_slice(), &image);
-    refuse_image(alloc, job.rules, &inputs, content.len() as u64)
+    refuse_image(alloc, rules_on(job), &inputs, content.len() as u64)
+}
+
+/// What the image has to give on a chip that was read. A region that is erased has to be all there.
+fn rules_on(job: &Job<'_>) -> ImageRules
+    ensures { result ≡ rules_on job.now }
+{
+    ImageRules {
+        exact: job.rules.exact,
+        strict: job.rules.strict,
+        full: job.rules.full || job.blank,
+        inside: job.rules.inside,
+        lands: job.rules.lands,
+    }
 }
 
 /// How the work is planned to begin: in the mode that was said, on one lane.
