@@ -1,10 +1,14 @@
 -- What has gone out of what was gathered, and what is told of it.
-use Rattle.std.proofs.Common.{◌≡◌, ◌∙◌, ◌≤◌, ℕ, List, [], Option, Some, None, ap, append-nil, refl, subst}
+use Rattle.std.proofs.Common.{◌≡◌, ◌∙◌, ◌≤◌, ℕ, List, [], Option, Some, None, Result, Err, ap, append-nil, refl, subst, sym}
 use Rattle.std.specs.Io.KnownBytes.{append_known, Keeps}
-use Rattle.norprog_cli.specs.Ends.{IsLeft}
+use Rattle.nor_job.specs.declared.fault.BuildFault.TheVariants.{Write}
+use Rattle.norprog_cli.specs.Ends.{AsAnswered, AsBefore, EndsOnSystem, EndsProgram, IsAdded, IsLeft, NotAdded, Unaccounted}
 use Rattle.norprog_command.specs.Answers.{AnswersWords, screen}
-use Rattle.norprog_common.specs.Told.{Output, Tells, between, output}
+use Rattle.norprog_common.specs.Told.{Ends, Output, Tells, between, output}
+use Rattle.norprog_common.specs.declared.faults.Refusal.{Refusal}
+use Rattle.norprog_common.specs.declared.faults.Refusal.TheVariants.{Build}
 use Rattle.norprog_files.specs.Files.{Event}
+use Rattle.norprog_files.specs.Trace.{Reports}
 
 -- with nothing more, known bytes are the same
 pub nothing_more : (known : Option (List ℕ)) → append_known known [] ≡ known
@@ -40,3 +44,15 @@ module _ {E : Type 0} (held : E → Option (List ℕ)) (count : E → ℕ) {old 
   -- so what is told then is all
   pub told_from : (last : E) (text : List ℕ) → new ≡ old → Tells (output held count new last) text → Tells (output held count old last) text
   told_from last text same told = subst (λ (e : E). Tells (output held count e last) text) same told
+
+-- an object behind what a command printed, or what is told of one that couldn't be written
+pub accounted : {E F : Type 0} {files : Reports F} {words : Result (List (List ℕ)) Refusal} {out : Output} {status last : ℕ} {old mid new : E}
+    (held : E → Option (List ℕ)) (count : E → ℕ) → (status ≡ 0 → mid ≡ old) → EndsOnSystem files words (screen out (output held count old mid)) status
+    → IsAdded status (output held count mid new) (new ≡ mid) last → EndsProgram files words (output held count old new) last
+accounted {E} {F} {files} {words} {out} {status} {last} {old} {mid} {new} held count quiet ends (AsBefore same) =
+    AsAnswered out (subst (λ (e : E). EndsOnSystem files words (screen out (output held count old e)) status) (sym same) ends)
+accounted {E} {F} {files} {words} {out} {status} {last} {old} {mid} {new} held count quiet ends (NotAdded end zero told) =
+    Unaccounted out
+    (subst (λ (n : ℕ). EndsOnSystem files words (screen out (output held count old old)) n) zero
+    (subst (λ (e : E). EndsOnSystem files words (screen out (output held count old e)) status) (quiet zero) ends))
+    (subst (λ (e : E). Ends (output held count e new) last (Err (Build Write))) (quiet zero) told)

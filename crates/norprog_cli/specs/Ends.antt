@@ -17,9 +17,13 @@ pub record IsLeft (printed out : Output) (left : List ℕ) : Type 0 where
   pub after : Keeps printed.after (append_known out.after left)
   pub failures : printed.failures ≡ out.failures
 
--- no word is the name of `flash`, whose plan goes out before its first step
+-- a word is no name of a command that changes a chip, whose plan goes out before its first step
+abbrev pub changes_none : List ℕ → Type 0
+changes_none word = (word ≢ codes "flash") × (word ≢ codes "erase")
+
+-- so is each
 abbrev pub AreGathered : List (List ℕ) → Type 0
-AreGathered words = All (λ word. word ≢ codes "flash") words
+AreGathered words = All changes_none words
 
 -- nothing was written to it
 abbrev pub untouched : Output → Output
@@ -46,13 +50,22 @@ abbrev pub EndsGiven : Type 0 → Result (List (List ℕ)) Refusal → Screen �
 EndsGiven Unread (Ok words) s status log = EndsWords Unread words s status log
 EndsGiven Unread (Err why) s status log = (log ≡ []) × (s.out.after ≡ s.out.before) × Ends s.err status (Err why)
 
--- the program ended so, whatever the system's files and standard output give and take: what was done with files is what some calls of the
--- system come to
-pub record EndsProgram {F : Type 0} (files : Reports F) (words : Result (List (List ℕ)) Refusal) (err : Output) (status : ℕ) : Type 0 where
+-- so it ends whatever the system's files give and take: what was done with files is what some calls of the system come to
+pub record EndsOnSystem {F : Type 0} (files : Reports F) (words : Result (List (List ℕ)) Refusal) (s : Screen) (status : ℕ) : Type 0 where
   pub begun : List FileId
   pub opened : List FileId
-  pub out : Output
-  pub ends : Did (Told files (λ calls. Unit {0}) begun) (Told files (λ calls. Unit {0}) opened) (EndsGiven (Unit {0}) words (screen out err) status)
+  pub ends : Did (Told files (λ calls. Unit {0}) begun) (Told files (λ calls. Unit {0}) opened) (EndsGiven (Unit {0}) words s status)
+
+-- behind what a command printed an object was to be written: nothing more was told, or, where the command was done, that this failed
+pub data IsAdded (status : ℕ) (err : Output) (Quiet : Type 0) : ℕ → Type 0 where
+  AsBefore : Quiet → IsAdded status err Quiet status
+  NotAdded : (last : ℕ) → status ≡ 0 → Ends err last (Err (Build Write)) → IsAdded status err Quiet last
+
+-- the program ended so, whatever standard output takes; or, where its command was done, an account of that couldn't be written, which is told
+pub data EndsProgram {F : Type 0} (files : Reports F) (words : Result (List (List ℕ)) Refusal) (err : Output) (status : ℕ) : Type 0 where
+  AsAnswered : (out : Output) → EndsOnSystem files words (screen out err) status → EndsProgram files words err status
+  Unaccounted : (out : Output) → EndsOnSystem files words (screen out (untouched err)) 0 → Ends err status (Err (Build Write))
+      → EndsProgram files words err status
 
 -- the texts of words that may not be there
 abbrev pub texts_in : {S : Type 0} → (S → List (List ℕ)) → Result S Refusal → Result (List (List ℕ)) Refusal

@@ -53,7 +53,7 @@ AnswersTo Unread (command.Help text) s status log = (log ≡ []) × Answered s.e
 pub data AnswersLine (Unread : Type 0) (line : Line) (s : Screen) (status : ℕ) : List Event → Type 0 where
   -- what its command answers
   Plainly : (log : List Event) → AnswersTo Unread line.asked s status log → AnswersLine Unread line s status log
-  -- and then more, where that is to be said and the command isn't done: at most the file of one of its options was looked at again
+  -- and then more, where that is to be said and the command isn't done: only files of its options were looked at again
   InDetail : (typed : TypedLine) (handed : CommandLine) (middle : Option (List ℕ)) (failed : ℕ) (log looks : List Event) → line.details ≡ Some typed
       → IsLineOf typed handed → status ≢ 0 → AnswersTo Unread line.asked (screen s.out (between s.err.before middle s.err.failures failed)) status log
       → LooksAgain handed.typed.now looks → AnswersLine Unread line s status (log ++ looks)

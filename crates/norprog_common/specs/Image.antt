@@ -1,9 +1,14 @@
 -- The image of a job, by the file that a command line names (this project's).
-use Rattle.std.specs.Prelude.{◌≡◌, ◌≢◌, ◌⊎◌, ℕ, ◌+◌, ◌-◌, ◌<◌, ◌≤◌, ◌^◌, ◌==◌, Bool, true, false, nat_lt, if◌then◌else◌, List, length, Option, Some, None}
-use Rattle.std.specs.List.{after_first, before_first, position_or_len}
+use Rattle.std.specs.Prelude.{◌≡◌, ◌≢◌, ◌⊎◌, ◌++◌, map, ℕ, ◌+◌, ◌-◌, ◌<◌, ◌≤◌, ◌^◌, ◌==◌, Bool, true, false, nat_lt, if◌then◌else◌, List, length, Option, Some, None}
+use Rattle.std.specs.List.{after_first, before_first, list_any, position_or_len}
+use Rattle.nor_hex.specs.Faults.{IsFault, IsImage}
+use Rattle.nor_hex.specs.Image.{Pairs}
+use Rattle.nor_hex.specs.Union.{IsFirstClash, IsUnion}
+use Rattle.nor_hex.specs.declared.fault.HexFault.{HexFault}
+use Rattle.nor_hex.specs.declared.fault.HexFault.TheVariants as hex
 use Rattle.nor_hex_out.specs.Segments.{hex_text}
 use Rattle.nor_job.specs.Causes.{LayoutSays}
-use Rattle.nor_job.specs.Lifted.{lifted_layout}
+use Rattle.nor_job.specs.Lifted.{lifted_hex, lifted_layout}
 use Rattle.nor_job.specs.declared.fault.BuildFault.TheVariants as fault
 use Rattle.nor_layout.specs.Region.{Region}
 use Rattle.nor_layout.specs.Text.{Refuses}
@@ -11,7 +16,8 @@ use Rattle.nor_layout.specs.declared.fault.LayoutFault.{LayoutFault}
 use Rattle.nor_target.specs.Shares.{region_named}
 use Rattle.norprog_common.specs.Values.{base_of}
 use Rattle.norprog_common.specs.declared.faults.Refusal.{Refusal}
-use Rattle.norprog_common.specs.declared.faults.Refusal.TheVariants.{BinLength, BinRegion, BinSize, Build}
+use Rattle.norprog_common.specs.declared.given.ImageArgs.{ImageArgs}
+use Rattle.norprog_common.specs.declared.faults.Refusal.TheVariants.{BinLength, BinRegion, BinSize, Build, Conflict}
 use Rattle.norprog_common.specs.declared.image.ImageFile.{ImageFile}
 use Rattle.norprog_common.specs.declared.image.ImageFile.TheVariants as file
 use Rattle.norprog_common.specs.declared.image.Place as declared
@@ -42,12 +48,12 @@ abbrev pub path_of : Image → List ℕ
 path_of (Hex path) = path
 path_of (Bin place path) = path
 
--- it has to have as many bytes as the chip
-abbrev pub fills_chip : Image → Bool
-fills_chip (Bin Chip path) = true
-fills_chip (Bin (Named name) path) = false
-fills_chip (Bin (At at) path) = false
-fills_chip (Hex path) = false
+-- it lies all over the chip
+abbrev pub is_placeless : Image → Bool
+is_placeless (Bin Chip path) = true
+is_placeless (Bin (Named name) path) = false
+is_placeless (Bin (At at) path) = false
+is_placeless (Hex path) = false
 
 -- the place that a text names: five to eight hexadecimal digits are an address, else it is a region's name
 abbrev pub address_or_name : Option ℕ → List ℕ → Where
@@ -66,12 +72,13 @@ bin_in text =
     if nat_lt (position_or_len is_sign text) (length text) then Bin (place_by (before_first is_sign text)) (after_first is_sign text)
     else Bin Chip text
 
--- exactly one of the two is named
-abbrev pub chosen_image : Option (List ℕ) → Option (List ℕ) → Option Image
-chosen_image (Some hex) None = Some (Hex hex)
-chosen_image None (Some bin) = Some (bin_in bin)
-chosen_image (Some hex) (Some bin) = None
-chosen_image None None = None
+-- the files that are named, in the order in which they are laid together
+abbrev pub images_in : ImageArgs → List Image
+images_in given = map (λ path. Hex path.now) given.hex.items ++ map (λ text. bin_in text.now) given.bin.items
+
+-- a raw one has no place, so that the image has to have as many bytes as the chip
+abbrev pub fills_chip : ImageArgs → Bool
+fills_chip given = list_any (λ text. is_placeless (bin_in text.now)) given.bin.items
 
 -- the region of this name, among these, has so many bytes, and this is its first address
 pub data StartsIn (regions : List Region) (name : List ℕ) (len : ℕ) : ℕ → Type 0 where
@@ -108,3 +115,18 @@ pub data RefusesText (base : ℕ) (layout : Option (List ℕ)) (bytes : List ℕ
   TooFar : (place : Where) (path : List ℕ) (start : ℕ) → IsStart layout (length bytes) place start
       → (2 ^ 32 ≤ base + start) ⊎ (2 ^ 32 < base + start + length bytes) → RefusesText base layout bytes (Bin place path) BinSize
   OutOfMemory : (place : Where) (path : List ℕ) → RefusesText base layout bytes (Bin place path) (Build fault.Memory)
+
+-- ---- several files
+-- this gives what an image gives, and what a text of Intel HEX gives
+pub data IsJoined (image : Pairs) (text : List ℕ) (both : Pairs) : Type 0 where
+  Joined : (other : Pairs) → IsImage text other → IsUnion image other both → IsJoined image text both
+
+-- the text has a fault
+pub data RefusesHex (text : List ℕ) : Refusal → Type 0 where
+  NoHex : (why : HexFault) → (why ≢ hex.Memory → IsFault text why) → RefusesHex text (Build (lifted_hex why))
+
+-- why there is none: the text has a fault; or both give this address, and no lower one, differently
+pub data RefusesJoin (image : Pairs) (text : List ℕ) : Refusal → Type 0 where
+  NoOther : (why : Refusal) → RefusesHex text why → RefusesJoin image text why
+  Clashes : (other : Pairs) (at : ℕ) → IsImage text other → IsFirstClash image other at → RefusesJoin image text (Conflict at)
+  NoRoom : RefusesJoin image text (Build fault.Memory)

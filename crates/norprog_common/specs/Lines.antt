@@ -28,7 +28,7 @@ use Rattle.norprog_common.specs.declared.faults.Length.{Length}
 use Rattle.norprog_common.specs.declared.faults.Stray.{Stray}
 use Rattle.norprog_common.specs.declared.faults.FileName.TheVariants as file
 use Rattle.norprog_common.specs.declared.faults.Refusal.{Refusal}
-use Rattle.norprog_common.specs.declared.faults.Refusal.TheVariants.{Text, Usage, File, Build, Page, Script, BinSize, BinLength, BinRegion, Steps, EmptyRegion, Partial, Beyond, Nowhere, Log}
+use Rattle.norprog_common.specs.declared.faults.Refusal.TheVariants.{Text, Usage, File, Build, Page, Script, BinSize, BinLength, BinRegion, Conflict, Steps, EmptyRegion, Partial, Beyond, Nowhere, Log}
 
 -- words, and what stands behind them: a number in decimal, or an address in eight hexadecimal digits
 abbrev pub spelled : List ℕ → Behind → List ℕ
@@ -176,6 +176,7 @@ printed (Script fault) = program_line (script_text fault)
 printed BinSize = program_line (codes "bin size")
 printed (BinLength length) = program_line (length_text length)
 printed BinRegion = program_line (codes "bin region")
+printed (Conflict address) = program_line (codes "conflict at " ++ hex_number address)
 printed (Steps number) = program_line (codes "script steps " ++ decimal number)
 printed (EmptyRegion index) = program_line (codes "empty region " ++ decimal index)
 printed (Partial gap) = program_line (partial_text gap)
@@ -194,6 +195,7 @@ status_after (Script fault) = 1
 status_after BinSize = 1
 status_after (BinLength length) = 1
 status_after BinRegion = 1
+status_after (Conflict address) = 1
 status_after (Steps number) = 1
 status_after (EmptyRegion index) = 1
 status_after (Partial gap) = 1

@@ -1,8 +1,8 @@
 -- What the values of a command line ask for (this project's).
-use Rattle.std.specs.Prelude.{◌≡◌, ℕ, Bool, ◌&&◌, Option, Some, option_map, unwrap_or, is_some, List, codes}
+use Rattle.std.specs.Prelude.{◌≡◌, ℕ, Bool, ◌&&◌, Option, Some, option_map, unwrap_or, is_some, List, slice_get, codes}
 use Rattle.norprog_common.specs.declared.given.Given.{Given}
 use Rattle.norprog_common.specs.declared.request.Request.{Request}
-use Rattle.norprog_common.specs.Image.{Image, chosen_image, fills_chip, image_in}
+use Rattle.norprog_common.specs.Image.{Image, fills_chip, image_in, images_in}
 use Rattle.norprog_common.specs.Rules.{job_rules}
 use Rattle.norprog_common.specs.Values.{part_of, base_of, said_status}
 use Rattle.norprog_common.specs.Chip.{origin_of, chosen_origin, Origin}
@@ -13,9 +13,9 @@ asked_chip given =
     chosen_origin (option_map (λ t. t.now) given.sfdp) (option_map (λ t. t.now) given.uniform) (option_map (λ t. t.now) given.sheet)
     (option_map (λ t. t.now) given.bits)
 
--- the file of the image that they name
+-- the first file of the image that they name
 abbrev pub asked_image : Given → Option Image
-asked_image given = chosen_image (option_map (λ t. t.now) given.hex) (option_map (λ t. t.now) given.bin)
+asked_image given = slice_get (images_in given.image) 0
 
 -- the family's name, `generic` where none is given
 abbrev pub asked_part : Given → List ℕ
@@ -35,6 +35,7 @@ is_well_formed given =
 -- each value is the one that its text spells
 pub record AsksFor (given : Given) (request : Request) : Type 0 where
   pub image : asked_image given ≡ Some (image_in request.image)
+  pub images : request.images ≡ given.image
   pub layout : request.layout ≡ given.layout
   pub chip : asked_chip given ≡ Some (origin_of request.chip)
   pub part : part_of (asked_part given) ≡ Some request.part
@@ -45,5 +46,5 @@ pub record AsksFor (given : Given) (request : Request) : Type 0 where
   pub content : given.content ≡ Some request.content
   pub verify : request.verify ≡ given.verify
   pub erased_only : request.erased_only ≡ given.erased_only
-  pub rules : request.rules ≡ job_rules given.strict given.whole (fills_chip (image_in request.image))
+  pub rules : request.rules ≡ job_rules given.strict given.whole (fills_chip given.image)
   pub regions : request.regions ≡ given.regions

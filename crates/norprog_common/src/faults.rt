@@ -102,6 +102,8 @@ pub enum Refusal {
     BinLength(Length),
     /// The layout has no region of the name in which a raw image has to lie.
     BinRegion,
+    /// Two files of the image give this address different bytes.
+    Conflict(u32),
     /// A script has only this many steps, and none of those asked for.
     Steps(u64),
     /// The image gives the chosen region of this index, from 0, no byte.
@@ -201,6 +203,7 @@ fn exit_status(refusal: &Refusal) -> u8
         | Refusal::BinSize
         | Refusal::BinLength(_)
         | Refusal::BinRegion
+        | Refusal::Conflict(_)
         | Refusal::Steps(_)
         | Refusal::EmptyRegion(_)
         | Refusal::Partial(_)
@@ -231,6 +234,7 @@ fn write_refusal<E: ByteOut>(refusal: &Refusal, err: &mut E) -> Result<(), Faile
         Refusal::BinSize => put_line(err, b"bin size", Behind::Nothing),
         Refusal::BinLength(length) => put_length(err, length),
         Refusal::BinRegion => put_line(err, b"bin region", Behind::Nothing),
+        Refusal::Conflict(address) => { put_line(err, b"conflict at ", Behind::Address(*address)) }
         Refusal::Steps(number) => put_line(err, b"script steps ", Behind::Number(*number)),
         Refusal::EmptyRegion(index) => put_line(err, b"empty region ", Behind::Number(*index)),
         Refusal::Partial(gap) => put_partial(err, gap),

@@ -2,11 +2,19 @@
 
 use nor_base::Bytes;
 
+/// The files of an image.
+#[derive(Drop)]
+pub struct ImageArgs<'a> {
+    /// Of Intel HEX.
+    pub hex: Vec<&'a str>,
+    /// Raw ones, as `PLACE=FILE` or `FILE`.
+    pub bin: Vec<&'a str>,
+}
+
 /// Of the job to be done, of whichever command.
 #[derive(Drop)]
 pub struct Given<'a> {
-    pub hex: Option<&'a str>,
-    pub bin: Option<&'a str>,
+    pub image: ImageArgs<'a>,
     pub layout: Option<&'a str>,
     pub sfdp: Option<&'a str>,
     pub uniform: Option<&'a str>,
@@ -175,8 +183,7 @@ pub struct FlashArgs<'a> {
     pub mode4: bool,
     pub device: Option<&'a str>,
     pub limit: Option<&'a str>,
-    pub hex: Option<&'a str>,
-    pub bin: Option<&'a str>,
+    pub image: ImageArgs<'a>,
     pub layout: Option<&'a str>,
     pub base: Option<&'a str>,
     pub before: Option<&'a str>,

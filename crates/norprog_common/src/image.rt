@@ -1,22 +1,24 @@
 //! The image of a job: its file, as a command line names it, and its text.
 
 ghost use Rattle.std.specs.Prelude.{◌≡◌, ◌≢◌, ◌⊎◌, ◌+◌, ◌-◌, ◌<◌, ◌≤◌, ◌^◌, length, option_map};
-ghost use Rattle.std.specs.Prelude.{IfErr, IfOk, MatchResult};
+ghost use Rattle.std.specs.Prelude.{◌++◌, IfErr, IfOk, MatchResult, map, slice_get};
 ghost use Rattle.nor_hex_out.specs.Segments.{hex_text};
 ghost use Rattle.nor_job.specs.declared.fault.BuildFault.TheVariants.{Memory};
 ghost use Rattle.nor_target.specs.Shares.{region_named};
 ghost use Rattle.norprog_common.specs.Image.{IsStart, IsTextOf, Misses, MissesIn, RefusesText};
-ghost use Rattle.norprog_common.specs.Image.{bin_in, chosen_image, fills_chip, image_in, place_by};
+ghost use Rattle.norprog_common.specs.Image.{bin_in, fills_chip, image_in, images_in, place_by};
+ghost use Rattle.norprog_common.specs.Image.{is_placeless};
 ghost use Rattle.norprog_common.specs.Image.{Named, StartsIn, path_of, place_in};
 ghost use Rattle.norprog_common.specs.declared.faults.Refusal.TheVariants.{BinLength, BinSize};
 ghost use Rattle.norprog_common.specs.declared.faults.Refusal.TheVariants.{Build};
 
 use crate::faults::{Length, Refusal};
+use crate::given::ImageArgs;
 use crate::values::base as address;
 use nor_hex_out::{fits, hex_of};
 use nor_job::BuildFault;
 use nor_layout::Region;
-use std::alloc::Global;
+use std::alloc::{AllocError, Global};
 
 /// As few digits as an address has before the `=` of a raw image; fewer are a region's name.
 const FEWEST_DIGITS: usize = 5;
@@ -41,16 +43,38 @@ pub enum ImageFile<'a> {
     Bin { place: Place<'a>, path: &'a str },
 }
 
-/// The file, where exactly one is named: as `--hex` has it, or as `--bin`, `PLACE=FILE` or `FILE`.
-pub fn image_of<'a>(hex: Option<&'a str>, bin: Option<&'a str>) -> Option<ImageFile<'a>>
-    ensures { option_map image_in result
-        ≡ chosen_image (option_map (λ t. t.now) hex.entry) (option_map (λ t. t.now) bin.entry) }
+/// The first of the files that are named, if there is one.
+pub fn first_of<'a>(given: &ImageArgs<'a>) -> Option<ImageFile<'a>>
+    ensures { option_map image_in result ≡ slice_get (images_in given.now) 0 }
 {
-    match (hex, bin) {
-        (Some(path), None) => Some(ImageFile::Hex(path)),
-        (None, Some(text)) => Some(bin_of(text)),
-        _ => None,
+    match (given.hex.as_slice(), given.bin.as_slice()) {
+        ([path, ..], _) => Some(ImageFile::Hex(*path)),
+        ([], [text, ..]) => Some(bin_of(*text)),
+        ([], []) => None,
     }
+}
+
+/// All of them, those of Intel HEX first.
+pub fn images_of<'a>(alloc: Global, given: &ImageArgs<'a>) -> Result<Vec<ImageFile<'a>>, AllocError>
+    ensures { IfOk result (λ images. map image_in images.items ≡ images_in given.now) }
+{
+    let mut images = Vec::new(alloc);
+    for path in given.hex.as_slice() {
+        images.push(ImageFile::Hex(*path))?;
+    }
+    add_raw(given.bin.as_slice(), &mut images)?;
+    Ok(images)
+}
+
+/// Adds the raw ones.
+fn add_raw<'a>(texts: &[&'a str], images: &mut Vec<ImageFile<'a>>) -> Result<(), AllocError>
+    ensures { IfOk result (λ _. map image_in images.new.items
+        ≡ map image_in images.old.items ++ map (λ text. bin_in text.now) texts.now) }
+{
+    for text in texts {
+        images.push(bin_of(*text))?;
+    }
+    Ok(())
 }
 
 /// The raw image of a `--bin`.
@@ -83,9 +107,16 @@ fn place_of(text: &str) -> Place<'_>
     }
 }
 
-/// Whether the image has to have as many bytes as the chip.
-pub fn fills_chip(image: ImageFile<'_>) -> bool
-    ensures { result ≡ fills_chip (image_in image.entry) }
+/// Whether the image has to have as many bytes as the chip: a raw file has no place.
+pub fn fills_chip(given: &ImageArgs<'_>) -> bool
+    ensures { result ≡ fills_chip given.now }
+{
+    given.bin.iter().any(|text| is_placeless(bin_of(*text)))
+}
+
+/// Whether it lies all over the chip.
+fn is_placeless(image: ImageFile<'_>) -> bool
+    ensures { result ≡ is_placeless (image_in image.entry) }
 {
     matches!(
         image,

@@ -5,12 +5,16 @@ ghost use Rattle.norprog_common.specs.Held.{task_by, held_in};
 
 use crate::chip::source_of;
 use crate::request::Request;
+use nor_hex::Image;
 use nor_job::Inputs;
 
 /// What the input files of a job hold, the content aside.
 #[derive(Drop)]
 pub struct Texts {
+    /// The text of the image's first file.
     pub hex: Vec<u8>,
+    /// The image of all files, where there are several.
+    pub image: Option<Image>,
     pub layout: Option<Vec<u8>>,
     /// The chip's tables, or the text of its sheet; nothing for a chip of a size.
     pub sfdp: Vec<u8>,
@@ -22,7 +26,7 @@ pub fn inputs_of<'a>(request: &'a Request<'_>, texts: &'a Texts) -> Inputs<'a>
 {
     Inputs {
         hex: texts.hex.as_slice(),
-        image: None,
+        image: texts.image.as_ref(),
         layout: bytes_or_none(&texts.layout),
         regions: request.regions.as_slice(),
         chip: source_of(request.chip, texts.sfdp.as_slice()),

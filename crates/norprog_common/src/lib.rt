@@ -9,6 +9,7 @@ mod faults;
 mod given;
 mod image;
 mod inputs;
+mod join;
 mod looked;
 mod request;
 mod rules;
@@ -20,11 +21,12 @@ pub use chip::{Chip, chip_of, optional_status, source_of};
 pub use content::read_content;
 pub use faults::{FileName, Gap, Length, Refusal, Stray, answered, refuse, refuse_lines};
 pub use given::{
-    Aim, BuildArgs, CheckArgs, ChipArgs, DrawArgs, FlashArgs, Given, HexArgs, ListArgs, OutFile,
-    PlanArgs, PlayArgs, ReadArgs, RunArgs, ScriptArgs, SetupArgs,
+    Aim, BuildArgs, CheckArgs, ChipArgs, DrawArgs, FlashArgs, Given, HexArgs, ImageArgs, ListArgs,
+    OutFile, PlanArgs, PlayArgs, ReadArgs, RunArgs, ScriptArgs, SetupArgs,
 };
-pub use image::{ImageFile, Place, fills_chip, image_of, image_text, path_of};
+pub use image::{ImageFile, Place, fills_chip, first_of, image_text, images_of, path_of};
 pub use inputs::{Texts, inputs_of};
+pub use join::{hex_image, joined};
 pub use looked::look_through;
 pub use request::{Request, request_of};
 pub use rules::{ImageRules, job_rules, refuse_image, refuse_partial};

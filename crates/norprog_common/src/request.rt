@@ -4,8 +4,8 @@ ghost use Rattle.std.specs.Prelude.{◌≡◌, is_some, IfSome};
 ghost use Rattle.norprog_common.specs.Request.{is_well_formed, AsksFor};
 
 use crate::chip::{Chip, chip_of, optional_status};
-use crate::given::Given;
-use crate::image::{ImageFile, fills_chip, image_of};
+use crate::given::{Given, ImageArgs};
+use crate::image::{ImageFile, fills_chip, first_of};
 use crate::rules::{ImageRules, job_rules};
 use crate::values::{base, part};
 use nor_base::{Bytes, Part};
@@ -13,7 +13,10 @@ use nor_base::{Bytes, Part};
 /// The job that is asked for: each value is of its form.
 #[derive(Drop)]
 pub struct Request<'a> {
+    /// The first file of the image.
     pub image: ImageFile<'a>,
+    /// All of them.
+    pub images: ImageArgs<'a>,
     pub layout: Option<&'a str>,
     pub chip: Chip<'a>,
     pub part: Part,
@@ -34,9 +37,11 @@ pub fn request_of<'a>(given: Given<'a>) -> Option<Request<'a>>
     ensures forms { is_some result ≡ is_well_formed given.entry }
     ensures values { IfSome result (λ request. AsksFor given.entry request) }
 {
-    let image = image_of(given.hex, given.bin)?;
+    let image = first_of(&given.image)?;
+    let exact = fills_chip(&given.image);
     Some(Request {
         image,
+        images: given.image,
         layout: given.layout,
         chip: chip_of(given.sfdp, given.uniform, given.sheet, given.bits)?,
         part: part(given.part.unwrap_or("generic"))?,
@@ -47,7 +52,7 @@ pub fn request_of<'a>(given: Given<'a>) -> Option<Request<'a>>
         content: given.content?,
         verify: given.verify,
         erased_only: given.erased_only,
-        rules: job_rules(given.strict, given.whole, fills_chip(image)),
+        rules: job_rules(given.strict, given.whole, exact),
         regions: given.regions,
     })
 }

@@ -30,7 +30,8 @@ pub data AreLooks (path : List ℕ) : List Event → Type 0 where
   NoLook : AreLooks path []
   OneLook : (event : Event) (log : List Event) → IsLook path event → AreLooks path log → AreLooks path (event ∷ log)
 
--- only the file of one of these options was looked at, or none
+-- only files of these options were looked at
 pub data LooksAgain (typed : List Typed) : List Event → Type 0 where
-  AtNone : LooksAgain typed []
-  AtOne : (option : Typed) (log : List Event) → Contains typed option → AreLooks (path_of typed option) log → LooksAgain typed log
+  NoneAgain : LooksAgain typed []
+  OneAgain : (option : Typed) (event : Event) (log : List Event) → Contains typed option → IsLook (path_of typed option) event
+      → LooksAgain typed log → LooksAgain typed (event ∷ log)

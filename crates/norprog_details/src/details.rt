@@ -6,7 +6,7 @@ ghost use Rattle.norprog_files.specs.Files.{Did};
 
 use crate::passage::{passage_of, shown_line};
 use crate::seems::add_advice;
-use crate::subject::{option_of, region_of};
+use crate::subject::{is_about, region_of};
 use crate::text::add;
 use crate::typed::{CommandLine, Typed, is_typed};
 use crate::usage::add_usage;
@@ -17,8 +17,8 @@ use norprog_files::{Files, Trail};
 use std::alloc::{AllocError, Global};
 
 /// Writes what more there is to say of a refusal's line, without its LF (docs/FORMATS.md, section
-/// 9). It asks only about the file of the option that the line is about, and reads it once, if it's
-/// regular.
+/// 9). It asks only about the files of the options that the line is about, and reads each once, if
+/// it's regular.
 ///
 /// Where `err` fails, or memory runs out, the rest is left out; so is a line that can't be read
 /// again.
@@ -66,14 +66,35 @@ fn said_of<F: Files>(
     ensures { Did (F.Trail.did trail.old) (F.Trail.did trail.new)
         (LooksAgain line.entry.typed.now) }
 {
-    match option_of(line.typed, refusal) {
-        Some(option) => {
-            let file = file_of(line.typed, option);
-            let seen = look_at(alloc, files, trail, file, refusal);
-            said_of_option(alloc, option, seen, line.regions, refusal)
-        }
-        None => said_of_none(alloc, line, refusal),
+    let mut said = Vec::new(alloc);
+    for option in line.typed {
+        add_told(alloc, files, trail, line, *option, refusal, &mut said)?;
     }
+    if said.is_empty() {
+        add_rest(line, refusal, &mut said)?;
+    }
+    Ok(said)
+}
+
+/// Adds what is said of an option, if the line of a refusal is about it.
+fn add_told<F: Files>(
+    alloc: Global,
+    files: &F,
+    trail: &mut F::Trail,
+    line: CommandLine<'_>,
+    option: Typed<'_>,
+    refusal: &[u8],
+    said: &mut Vec<u8>,
+) -> Result<(), AllocError>
+    ensures { Did (F.Trail.did trail.old) (F.Trail.did trail.new)
+        (AreLooks (path_of line.entry.typed.now option.entry)) }
+{
+    if !is_about(refusal, option.name) {
+        return Ok(());
+    }
+    let file = file_of(line.typed, option);
+    let seen = look_at(alloc, files, trail, file, refusal);
+    add_seen(option, seen, line.regions, refusal, said)
 }
 
 /// An option with the path of its file: a job's `--bin`, which has no `--at`, without PLACE=.
@@ -92,36 +113,33 @@ fn file_of<'a>(typed: &[Typed<'_>], option: Typed<'a>) -> Typed<'a>
     }
 }
 
-/// What is said of a refusal that is about an option, by what is seen of its file.
-fn said_of_option(
-    alloc: Global,
+/// Adds an option with what is seen of its file. The region that the line of a refusal counts comes
+/// after the first one.
+fn add_seen(
     option: Typed<'_>,
     seen: Seen,
     regions: &[&str],
     refusal: &[u8],
-) -> Result<Vec<u8>, AllocError> {
-    let mut said = Vec::new(alloc);
+    said: &mut Vec<u8>,
+) -> Result<(), AllocError> {
     let Seen { trouble, text } = seen;
-    add_option(option, trouble, &mut said)?;
-    add_region(regions, refusal, &mut said)?;
-    add_line(refusal, text.as_slice(), &mut said)?;
-    add_advice(option.name, option.value, text.as_slice(), &mut said)?;
-    Ok(said)
+    let first = said.is_empty();
+    add_option(option, trouble, said)?;
+    if first {
+        add_region(regions, refusal, said)?;
+    }
+    add_line(refusal, text.as_slice(), said)?;
+    add_advice(option.name, option.value, text.as_slice(), said)
 }
 
-/// What is said of one that is about no option: of usage, which values aren't of their forms.
-fn said_of_none(
-    alloc: Global,
-    line: CommandLine<'_>,
-    refusal: &[u8],
-) -> Result<Vec<u8>, AllocError> {
-    let mut said = Vec::new(alloc);
+/// Adds what is said of a refusal that is about no option: of usage, which values aren't of their
+/// forms.
+fn add_rest(line: CommandLine<'_>, refusal: &[u8], said: &mut Vec<u8>) -> Result<(), AllocError> {
     if refusal == b"norprog: usage".as_slice() {
-        add_usage(line, &mut said)?;
+        add_usage(line, said)
     } else {
-        add_region(line.regions, refusal, &mut said)?;
+        add_region(line.regions, refusal, said)
     }
-    Ok(said)
 }
 
 /// What is seen of a file.

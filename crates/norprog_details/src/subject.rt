@@ -1,33 +1,29 @@
-//! Which option, and which region, a refusal is about.
+//! Which options, and which region, a refusal is about.
 
-ghost use Rattle.std.specs.List.{Contains};
-ghost use Rattle.std.specs.Prelude.{IfSome};
-
-use crate::typed::Typed;
 use itoa::Buffer;
 
 /// What comes before an option's name where its file can't be used.
 const FILE: &[u8] = b"norprog: file ";
 
+/// What comes before the address that two files of the image give different bytes.
+const CONFLICT: &[u8] = b"norprog: conflict at ";
+
+/// What comes before the number of steps of a script that hasn't the one asked for.
+const STEPS: &[u8] = b"norprog: script steps ";
+
 /// What comes before the number of a region that is given only in part.
 const PARTIAL: &[u8] = b"norprog: partial ";
 
-/// The option that the line of a refusal is about, with its value, if it is given.
-pub(crate) fn option_of<'a>(typed: &[Typed<'a>], refusal: &[u8]) -> Option<Typed<'a>>
-    ensures { IfSome result (Contains typed.now) }
-{
-    for option in typed {
-        if is_about(refusal, option.name) {
-            return Some(*option);
-        }
-    }
-    None
-}
-
-/// Whether the line of a refusal is about the option of this name.
-fn is_about(refusal: &[u8], name: &str) -> bool {
+/// Whether the line of a refusal is about the options of this name.
+pub(crate) fn is_about(refusal: &[u8], name: &str) -> bool {
     if refusal.starts_with(FILE) {
         return &refusal[FILE.len()..] == name.as_bytes();
+    }
+    if refusal.starts_with(CONFLICT) {
+        return name == "hex" || name == "bin";
+    }
+    if refusal.starts_with(STEPS) {
+        return name == "from";
     }
     match words_for(name) {
         Some(words) => refusal.starts_with(words.as_bytes()),
@@ -35,7 +31,8 @@ fn is_about(refusal: &[u8], name: &str) -> bool {
     }
 }
 
-/// What the lines of refusals begin with that are about the option of this name, if there are any.
+/// What the other lines of refusals begin with that are about the options of this name, if there
+/// are any.
 fn words_for(name: &str) -> Option<&'static str> {
     match name {
         "hex" => Some("norprog: hex "),
@@ -49,7 +46,6 @@ fn words_for(name: &str) -> Option<&'static str> {
         "status" => Some("norprog: status "),
         "page" => Some("norprog: page"),
         "device" => Some("norprog: device "),
-        "from" => Some("norprog: script steps "),
         _ => None,
     }
 }

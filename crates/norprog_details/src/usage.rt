@@ -5,8 +5,6 @@ use crate::text::add;
 use crate::typed::{CommandLine, Typed, is_typed, value_of};
 use std::alloc::AllocError;
 
-const IMAGES: &[u8] = b"--hex and --bin don't go together\n";
-
 const NO_IMAGE: &[u8] = b"--hex or --bin is missing: the image\n";
 
 const NO_SCOPE: &[u8] = b"either --all or the names of regions: what is erased\n";
@@ -41,7 +39,6 @@ pub(crate) fn add_usage(line: CommandLine<'_>, said: &mut Vec<u8>) -> Result<(),
     add(
         said,
         &[
-            pair_line(typed, "hex", "bin", IMAGES),
             image_line(line),
             scope_line(line.command),
             pair_line(typed, "sfdp", "uniform", CHIPS),

@@ -1,7 +1,7 @@
 -- What the values of a command line of `flash` ask for (this project's).
-use Rattle.std.specs.Prelude.{◌≡◌, ℕ, Bool, ◌&&◌, not, true, false, if◌then◌else◌, Option, Some, None, option_map, unwrap_or, is_some, List, [], codes}
+use Rattle.std.specs.Prelude.{◌≡◌, ℕ, Bool, ◌&&◌, not, true, false, if◌then◌else◌, Option, Some, None, option_map, unwrap_or, is_some, List, [], slice_get, codes}
 use Rattle.nor_base.specs.Array.{is_filled}
-use Rattle.norprog_common.specs.Image.{Image, chosen_image, fills_chip, image_in}
+use Rattle.norprog_common.specs.Image.{Image, fills_chip, image_in, images_in}
 use Rattle.norprog_common.specs.Values.{base_of}
 use Rattle.norprog_common.specs.declared.given.Aim.{Aim}
 use Rattle.norprog_common.specs.declared.given.Aim.TheVariants.{Work, Plan, Compare}
@@ -29,9 +29,9 @@ read_args given = record {
 
 -- what the image has to give: as many bytes as the chip has, where that is asked for; all of each named region and nothing off the chip,
 -- except where the values allow that, or it is blank
-abbrev pub rules_of : FlashArgs → Bool → ImageRules
-rules_of given exact = record {
-  exact = exact;
+abbrev pub rules_of : FlashArgs → ImageRules
+rules_of given = record {
+  exact = fills_chip given.image;
   strict = given.strict;
   full = not given.partial && not given.blank;
   inside = not given.beyond && not given.blank;
@@ -43,18 +43,13 @@ abbrev pub is_said : Bool → List (List ℕ) → Bool
 is_said true regions = not (is_filled regions)
 is_said false regions = is_filled regions
 
--- the file of the image that they name; none where each byte is to be FFh
+-- the first file of the image that they name; none where each byte is to be FFh
 abbrev pub asked_by : Bool → FlashArgs → Option (Option Image)
 asked_by true given = if is_said given.all given.regions.items then Some None else None
-asked_by false given = option_map (λ image. Some image) (chosen_image (option_map (λ t. t.now) given.hex) (option_map (λ t. t.now) given.bin))
+asked_by false given = option_map (λ image. Some image) (slice_get (images_in given.image) 0)
 
 abbrev pub asked_image : FlashArgs → Option (Option Image)
 asked_image given = asked_by given.blank given
-
--- it has to have as many bytes as the chip
-abbrev pub is_exact : Option Image → Bool
-is_exact (Some image) = fills_chip image
-is_exact None = false
 
 -- the base's digits, `0` where none are given
 abbrev pub asked_base : FlashArgs → List ℕ
@@ -78,12 +73,13 @@ is_well_formed given =
 pub record AsksFor (given : FlashArgs) (request : FlashRequest) : Type 0 where
   pub read : read.AsksFor (read_args given) request.read
   pub image : asked_image given ≡ Some (option_map image_in request.image)
+  pub images : request.images.now ≡ given.image
   pub layout : request.layout ≡ given.layout
   pub base : base_of (asked_base given) ≡ Some request.base
   pub before : asked_before given ≡ Some request.before.now
   pub resume : request.resume ≡ given.resume
   pub erased_only : request.erased_only ≡ given.erased_only
-  pub rules : request.rules ≡ rules_of given (is_exact (option_map image_in request.image))
+  pub rules : request.rules ≡ rules_of given
   pub aim : request.aim ≡ given.aim
   pub regions : request.regions.now ≡ given.regions.items
   pub texts : request.texts.now ≡ given

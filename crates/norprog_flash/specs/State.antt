@@ -7,7 +7,7 @@ use Rattle.norprog_device.specs.Shell.{shell_word}
 use Rattle.norprog_flash.specs.declared.options.Name.{Name}
 use Rattle.norprog_flash.specs.declared.options.Name.TheVariants as name
 use Rattle.norprog_flash.specs.declared.options.Given.{Given}
-use Rattle.norprog_flash.specs.declared.options.Given.TheVariants.{Text, Flag, Next}
+use Rattle.norprog_flash.specs.declared.options.Given.TheVariants.{Text, Each, Flag, Next}
 
 -- an option's name
 abbrev pub name_text : Name → List ℕ
@@ -50,6 +50,7 @@ flagged name false = []
 
 abbrev pub given_text : Given → List ℕ
 given_text (Text name value) = valued name (option_map (λ t. t.now) value) []
+given_text (Each name values) = flat_map (λ value. valued name (Some value.now) []) values.now
 given_text (Flag name is) = flagged name is
 given_text (Next name value) = valued name (option_map (λ t. t.now) value) (codes ".2")
 
@@ -69,8 +70,8 @@ next_options given = concat (
     ∷ flagged name.Mode4 given.mode4
     ∷ valued name.Device (option_map (λ t. t.now) given.device) []
     ∷ valued name.Limit (option_map (λ t. t.now) given.limit) []
-    ∷ valued name.Hex (option_map (λ t. t.now) given.hex) []
-    ∷ valued name.Bin (option_map (λ t. t.now) given.bin) []
+    ∷ flat_map (λ value. valued name.Hex (Some value.now) []) given.image.hex.items
+    ∷ flat_map (λ value. valued name.Bin (Some value.now) []) given.image.bin.items
     ∷ valued name.Layout (option_map (λ t. t.now) given.layout) []
     ∷ valued name.Base (option_map (λ t. t.now) given.base) []
     ∷ flagged name.All given.all

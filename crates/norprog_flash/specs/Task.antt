@@ -16,11 +16,16 @@ abbrev pub blank_image : Bool → ℕ → Option Pairs
 blank_image true size = Some (enumerate_from 0 (replicate size 0xFF))
 blank_image false size = None
 
--- the task of a job with this image, on a chip that gave these tables
+-- the first image that there is
+abbrev pub first_image : Option Pairs → Option Pairs → Option Pairs
+first_image (Some image) other = Some image
+first_image None other = other
+
+-- the task of a job, with this image in place of its own, if there is one, on a chip that gave these tables
 abbrev pub imaged_task : Job → List ℕ → Option Pairs → Task
 imaged_task job tables image = record {
   hex = job.hex.now;
-  image = image;
+  image = first_image image (option_map (λ own. own.now) job.image);
   layout = option_map (λ text. text.now) job.layout;
   regions = job.regions.now;
   chip = task_chip job.ask.known job.ask.bits.now tables;

@@ -18,7 +18,9 @@ pub struct Job<'a> {
     pub ask: Ask<'a>,
     /// The image, as Intel HEX text.
     pub hex: &'a [u8],
-    /// In its place each byte of the chip is to be FFh.
+    /// In place of that text the image of several files.
+    pub image: Option<&'a Image>,
+    /// In place of either each byte of the chip is to be FFh.
     pub blank: bool,
     /// The layout's text, if there is one.
     pub layout: Option<&'a [u8]>,
@@ -43,7 +45,8 @@ pub(crate) fn works(aim: Aim) -> bool
     matches!(aim, Aim::Work)
 }
 
-/// The inputs of the job's build with this image, of a chip that gave these tables.
+/// The inputs of the job's build, of a chip that gave these tables, with this image in place of the
+/// job's, if there is one.
 pub(crate) fn inputs_for<'a>(
     job: &'a Job<'_>,
     tables: &'a [u8],
@@ -53,7 +56,10 @@ pub(crate) fn inputs_for<'a>(
 {
     Inputs {
         hex: job.hex,
-        image: image.as_ref(),
+        image: match image {
+            Some(image) => Some(image),
+            None => job.image,
+        },
         layout: job.layout,
         regions: job.regions,
         chip: source_for(job, tables),

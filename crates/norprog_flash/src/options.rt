@@ -1,6 +1,6 @@
 //! The command that goes on with work that stopped, as a shell reads it.
 
-ghost use Rattle.std.specs.Prelude.{◌≡◌, ◌++◌, codes, flat_map, option_map};
+ghost use Rattle.std.specs.Prelude.{◌≡◌, ◌++◌, [], Some, codes, flat_map, option_map};
 ghost use Rattle.nor_base.specs.Device.{Counts, Writes};
 ghost use Rattle.norprog_device.specs.Setting.{stty_command};
 ghost use Rattle.norprog_device.specs.Shell.{shell_word};
@@ -47,6 +47,8 @@ pub(crate) enum Name {
 pub(crate) enum Given<'a> {
     /// Its value, if it is there.
     Text(Name, Option<&'a str>),
+    /// Its values, each with the name before it.
+    Each(Name, &'a [&'a str]),
     /// Whether it is there.
     Flag(Name, bool),
     /// The value after which the next one is named.
@@ -119,8 +121,8 @@ fn options<'a>(given: &'a FlashArgs<'a>) -> [Given<'a>; 24]
         Given::Flag(Name::Mode4, given.mode4),
         Given::Text(Name::Device, given.device),
         Given::Text(Name::Limit, given.limit),
-        Given::Text(Name::Hex, given.hex),
-        Given::Text(Name::Bin, given.bin),
+        Given::Each(Name::Hex, given.image.hex.as_slice()),
+        Given::Each(Name::Bin, given.image.bin.as_slice()),
         Given::Text(Name::Layout, given.layout),
         Given::Text(Name::Base, given.base),
         Given::Flag(Name::All, given.all),
@@ -168,9 +170,22 @@ fn write_given<W: ByteOut>(option: Given<'_>, writer: &mut W) -> Result<(), Fail
 {
     match option {
         Given::Text(name, value) => write_valued(name, value, b"", writer),
+        Given::Each(name, values) => write_each(name, values, writer),
         Given::Flag(name, is) => write_flagged(name, is, writer),
         Given::Next(name, value) => write_valued(name, value, b".2", writer),
     }
+}
+
+/// Writes an option with each of its values.
+fn write_each<W: ByteOut>(name: Name, values: &[&str], writer: &mut W) -> Result<(), Failed>
+    ensures bytes { Writes (W.held writer.old) (W.held writer.new) result
+        (flat_map (λ value. valued name (Some value.now) []) values.now) }
+    ensures count { Counts (W.count writer.old) (W.count writer.new) result }
+{
+    for value in values {
+        write_value(name, *value, b"", writer)?;
+    }
+    Ok(())
 }
 
 /// Writes a flag, where it is given.

@@ -1,13 +1,15 @@
 //! What the values of a command line of `flash` ask for.
 
 ghost use Rattle.std.specs.Prelude.{◌≡◌, is_some, option_map, IfSome};
-ghost use Rattle.norprog_flash.specs.Request.{asked_before, asked_image, is_exact, is_well_formed};
+ghost use Rattle.norprog_flash.specs.Request.{asked_before, asked_image, is_well_formed};
 ghost use Rattle.norprog_flash.specs.Request.{read_args, rules_of};
 ghost use Rattle.norprog_common.specs.Image.{image_in};
 ghost use Rattle.norprog_flash.specs.Request.{AsksFor};
 
 use nor_base::Bytes;
-use norprog_common::{Aim, FlashArgs, ImageFile, ImageRules, ReadArgs, base, fills_chip, image_of};
+use norprog_common::{
+    Aim, FlashArgs, ImageArgs, ImageFile, ImageRules, ReadArgs, base, fills_chip, first_of,
+};
 use norprog_read::ReadRequest;
 
 /// What `flash` is asked for: each value is of its form.
@@ -15,8 +17,10 @@ use norprog_read::ReadRequest;
 pub struct FlashRequest<'a> {
     /// How the chip is read.
     pub read: ReadRequest<'a>,
-    /// None where each byte is to be FFh.
+    /// The first file of the image; none where each byte is to be FFh.
     pub image: Option<ImageFile<'a>>,
+    /// All of its files.
+    pub images: &'a ImageArgs<'a>,
     pub layout: Option<&'a str>,
     pub base: u32,
     /// The name of the file that the content is saved in; empty where it is only compared.
@@ -39,16 +43,16 @@ pub fn request_of<'a>(given: &'a FlashArgs<'a>) -> Option<FlashRequest<'a>>
     ensures forms { is_some result ≡ is_well_formed given.now }
     ensures values { IfSome result (λ request. AsksFor given.now request) }
 {
-    let image = file_of(given)?;
     Some(FlashRequest {
         read: norprog_read::request_of(read_args(given))?,
-        image,
+        image: file_of(given)?,
+        images: &given.image,
         layout: given.layout,
         base: base(given.base.unwrap_or("0"))?,
         before: before_of(given)?,
         resume: given.resume,
         erased_only: given.erased_only,
-        rules: rules_of(given, is_exact(image)),
+        rules: rules_of(given),
         aim: given.aim,
         regions: given.regions.as_slice(),
         texts: given,
@@ -65,13 +69,13 @@ fn before_of<'a>(given: &FlashArgs<'a>) -> Option<&'a str>
     }
 }
 
-/// The image's file; none where each byte is to be FFh, and either regions are named or all of the
-/// chip is.
+/// The image's first file; none where each byte is to be FFh, and either regions are named or all
+/// of the chip is.
 fn file_of<'a>(given: &FlashArgs<'a>) -> Option<Option<ImageFile<'a>>>
     ensures { option_map (λ file. option_map image_in file) result ≡ asked_image given.now }
 {
     if !given.blank {
-        return Some(Some(image_of(given.hex, given.bin)?));
+        return Some(Some(first_of(&given.image)?));
     }
     if given.all == given.regions.is_empty() {
         Some(None)
@@ -80,23 +84,13 @@ fn file_of<'a>(given: &FlashArgs<'a>) -> Option<Option<ImageFile<'a>>>
     }
 }
 
-/// Whether the image has to have as many bytes as the chip.
-fn is_exact(image: Option<ImageFile<'_>>) -> bool
-    ensures { result ≡ is_exact (option_map image_in image.entry) }
-{
-    match image {
-        Some(image) => fills_chip(image),
-        None => false,
-    }
-}
-
 /// What the image has to give: as many bytes as the chip has, where that is asked for; all of each
 /// named region and nothing off the chip, except where the values allow that, or it is blank.
-fn rules_of(given: &FlashArgs<'_>, exact: bool) -> ImageRules
-    ensures { result ≡ rules_of given.now exact }
+fn rules_of(given: &FlashArgs<'_>) -> ImageRules
+    ensures { result ≡ rules_of given.now }
 {
     ImageRules {
-        exact,
+        exact: fills_chip(&given.image),
         strict: given.strict,
         full: !given.partial && !given.blank,
         inside: !given.beyond && !given.blank,

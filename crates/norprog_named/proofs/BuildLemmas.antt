@@ -12,7 +12,7 @@ use Rattle.norprog_common.specs.declared.faults.Refusal.TheVariants.{Build}
 use Rattle.norprog_common.specs.declared.request.Request.{Request}
 use Rattle.norprog_common.specs.declared.rules.ImageRules.{ImageRules}
 use Rattle.norprog_files.specs.Files.{Event}
-use Rattle.norprog_named.specs.Job.{IsJobOf}
+use Rattle.norprog_named.specs.Opening.{IsJobOf}
 use Rattle.norprog_named.specs.Build.{Breaking, Refused, Stopped, Undone, Work}
 
 -- a failure that is reported was counted

@@ -10,7 +10,8 @@ use Rattle.norprog_common.specs.declared.faults.FileName.TheVariants as file
 use Rattle.norprog_common.specs.declared.faults.Refusal.{Refusal}
 use Rattle.norprog_common.specs.declared.request.Request.{Request}
 use Rattle.norprog_files.specs.Files.{AreUsed, Denied, Denies, Event, Given, Here, IsGiven, NoneUsed, OneUsed, Opened, StopsOpening, came}
-use Rattle.norprog_named.specs.Job.{Named, NoChip, NoTables, OfChip, Opening, OpensJob, Opens_files, Read_image, Reading, Reads, ReadsImage, ReadsNamed, ReadsTables, StopsJob, Tables, Text, Unnamed, chip_files, image_file, named_by, origin_files}
+use Rattle.norprog_named.specs.Opening.{Opening, StopsJob}
+use Rattle.norprog_named.specs.Job.{Named, NoChip, NoTables, OfChip, OpensJob, Opens_files, Read_image, Reading, Reads, ReadsImage, ReadsNamed, ReadsTables, Tables, Text, Unnamed, chip_files, image_file, named_by, origin_files}
 
 pub image_used : (image : Image) {bytes : List ℕ} {log : List Event} → ReadsImage image bytes log → AreUsed (image_file image ∷ []) log
 image_used (Hex path) {bytes} Read_image = OneUsed file.Hex path _ (Given path bytes) _ (IsGiven bytes) NoneUsed

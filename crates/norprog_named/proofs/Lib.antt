@@ -1,4 +1,5 @@
 mod JobLemmas
+mod GatherLemmas
 mod HexLemmas
 mod BuildLemmas
 mod CheckLemmas

@@ -9,7 +9,7 @@ use Rattle.nor_job.specs.Task.{Task}
 use Rattle.norprog_common.specs.Rules.{MeetsRules}
 use Rattle.norprog_common.specs.declared.given.OutFile.{OutFile}
 use Rattle.norprog_files.specs.Files.{Event, IsClosed, Leaves_it, Lost, Sends_all, closing}
-use Rattle.norprog_named.specs.Job.{IsJobOf}
+use Rattle.norprog_named.specs.Opening.{IsJobOf}
 use Rattle.norprog_named.specs.Plan.{LeavesMap, LosesMap, MakesMap, MapLost, MapMade, MapNamed, NoneMade, NoneNamed, SendsMap, TellsJob, shows_of}
 use Rattle.norprog_named.specs.declared.plan_files.MapFile.{MapFile}
 use Rattle.norprog_named.specs.declared.plan_files.PlanRequest.{PlanRequest}

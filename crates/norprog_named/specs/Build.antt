@@ -17,7 +17,7 @@ use Rattle.norprog_common.specs.declared.request.Request.{Request}
 use Rattle.norprog_common.specs.declared.rules.ImageRules.{ImageRules}
 use Rattle.norprog_files.specs.Files.{Event, Denied, Denies, IsClosed, Lost, Made, Sent}
 use Rattle.norprog_files.specs.declared.replaced.OutKind.TheVariants as kind
-use Rattle.norprog_named.specs.Job.{IsJobOf, StopsJob}
+use Rattle.norprog_named.specs.Opening.{IsJobOf, StopsJob}
 
 -- the work of a build: its task, the content's length, what the content's reader had ahead and what it has, what the output held and what
 -- it holds

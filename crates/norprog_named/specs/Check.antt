@@ -16,7 +16,7 @@ use Rattle.norprog_common.specs.declared.faults.Refusal.{Refusal}
 use Rattle.norprog_common.specs.declared.faults.Refusal.TheVariants.{Build, File}
 use Rattle.norprog_common.specs.declared.request.Request.{Request}
 use Rattle.norprog_files.specs.Files.{Denied, Denies, Event, Opened}
-use Rattle.norprog_named.specs.Job.{IsJobOf, StopsJob}
+use Rattle.norprog_named.specs.Opening.{IsJobOf, StopsJob}
 
 -- the files of the job were opened, then the script: the work is of their job, and of this script
 pub data Opens (r : Request) (script : List ℕ) (w : Work) : List Event → Type 0 where

@@ -1,10 +1,10 @@
 -- How `flash` ends (this project's).
-use Rattle.std.specs.Prelude.{◌≡◌, ⊤, ℕ, ◌&&◌, not, is_some, List, [], ◌∷◌, ◌++◌, if◌then◌else◌, Option, Some, None, option_map, Result, Ok, Err}
+use Rattle.std.specs.Prelude.{◌≡◌, ⊤, ℕ, ◌&&◌, not, is_some, List, [], ◌∷◌, ◌++◌, drop, if◌then◌else◌, Option, Some, None, option_map, Result, Ok, Err}
 use Rattle.nor_serprog.specs.Greeting.{Greeted}
 use Rattle.nor_serprog.specs.declared.fault.GreetFault.{GreetFault}
 use Rattle.nor_serprog.specs.declared.limits.Limits.{Limits}
 use Rattle.norprog_common.specs.Chip.{origin_of}
-use Rattle.norprog_common.specs.Image.{Image, IsTextOf, RefusesText, image_in, path_of}
+use Rattle.norprog_common.specs.Image.{Image, IsTextOf, RefusesText, image_in, images_in, path_of}
 use Rattle.norprog_common.specs.declared.faults.FileName.{FileName}
 use Rattle.norprog_common.specs.declared.faults.FileName.TheVariants as file
 use Rattle.norprog_common.specs.declared.faults.Refusal.{Refusal}
@@ -24,6 +24,7 @@ use Rattle.norprog_flash.specs.declared.ending.Unflashed.{Unflashed}
 use Rattle.norprog_flash.specs.declared.ending.Unflashed.TheVariants.{Device, Refused}
 use Rattle.norprog_flash.specs.declared.job.Job.{Job}
 use Rattle.norprog_flash.specs.declared.request.FlashRequest.{FlashRequest}
+use Rattle.norprog_named.specs.Gathered.{Gathers}
 use Rattle.norprog_named.specs.Job.{Reads, ReadsNamed, chip_files, image_file, named_by}
 use Rattle.norprog_named.specs.Saved.{SavesIf}
 use Rattle.norprog_named.specs.declared.flash_files.FlashTexts.{FlashTexts}
@@ -68,14 +69,20 @@ pub data ReadsFlash (r : FlashRequest) (held : FlashTexts) : List Event → Type
       → Reads (option_map (λ t. t.now) r.resume) (option_map (λ bytes. bytes.items) held.old) old
       → ReadsFlash r held (image ++ (layout ++ (tables ++ old)))
 
--- they were, and these are the texts of the job: that of the image is made of its file's bytes; or one can't be read, or the image has none
+-- they were, and then the image's further files, and these are the texts of the job: that of the image is made of its first file's bytes; or one
+-- can't be read, the first has no text, or they give no image
 pub data EndsReading (r : FlashRequest) : Result FlashTexts Refusal → List Event → Type 0 where
-  HasTexts : (read texts : FlashTexts) (log : List Event) → ReadsFlash r read log
+  HasTexts : (read texts : FlashTexts) (log more : List Event) → ReadsFlash r read log
       → IsAskedText r.base (option_map (λ bytes. bytes.items) read.layout) read.hex.items (asked_in r) texts.hex.items
-      → texts ≡ record read { hex = texts.hex } → EndsReading r (Ok texts) log
+      → Gathers r.base (option_map (λ bytes. bytes.items) read.layout) texts.hex.items (drop 1 (images_in r.images.now)) (Ok texts.image) more
+      → texts ≡ record read { hex = texts.hex; image = texts.image } → EndsReading r (Ok texts) (log ++ more)
   NoFile : (log : List Event) (why : Refusal) → StopsOpening (flash_files r) log why → EndsReading r (Err why) log
   NoText : (read : FlashTexts) (log : List Event) (why : Refusal) → ReadsFlash r read log
       → RefusesAsked r.base (option_map (λ bytes. bytes.items) read.layout) read.hex.items (asked_in r) why → EndsReading r (Err why) log
+  NoWhole : (read : FlashTexts) (text : List ℕ) (log more : List Event) (why : Refusal) → ReadsFlash r read log
+      → IsAskedText r.base (option_map (λ bytes. bytes.items) read.layout) read.hex.items (asked_in r) text
+      → Gathers r.base (option_map (λ bytes. bytes.items) read.layout) text (drop 1 (images_in r.images.now)) (Err why) more
+      → EndsReading r (Err why) (log ++ more)
 
 -- standard output failed only where work was refused
 abbrev pub StillWorks : Result Ending Unflashed → ℕ → ℕ → Type 0
@@ -105,6 +112,7 @@ pub record IsJobOf (r : FlashRequest) (held : FlashTexts) (job : Job) : Type 0 w
   pub ask : IsAskOf (reading_of r) held.sfdp.items job.ask
   pub erased_only : job.ask.erased_only ≡ r.erased_only
   pub hex : job.hex.now ≡ held.hex.items
+  pub image : option_map (λ image. image.now) job.image ≡ held.image
   pub blank : job.blank ≡ not (is_some r.image)
   pub layout : option_map (λ t. t.now) job.layout ≡ option_map (λ bytes. bytes.items) held.layout
   pub regions : job.regions.now ≡ r.regions.now

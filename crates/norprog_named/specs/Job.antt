@@ -1,10 +1,9 @@
 -- The files of a job, opened one after another (this project's).
-use Rattle.std.specs.Prelude.{◌≡◌, ℕ, List, [], ◌∷◌, ◌++◌, Option, Some, None, Result, Ok, Err, option_map}
+use Rattle.std.specs.Prelude.{ℕ, List, [], ◌∷◌, ◌++◌, Option, Some, None, Result, Ok, Err, option_map}
 use Rattle.nor_base.specs.Device.{Ahead}
-use Rattle.nor_job.specs.Task.{Task}
 use Rattle.norprog_common.specs.Chip.{Origin, Sfdp, Uniform, Sheet, origin_of}
-use Rattle.norprog_common.specs.Held.{Held, task_by}
-use Rattle.norprog_common.specs.Image.{Bin, Hex, Image, IsTextOf, RefusesText, image_in, path_of}
+use Rattle.norprog_common.specs.Held.{Held}
+use Rattle.norprog_common.specs.Image.{Bin, Hex, Image, image_in, path_of}
 use Rattle.norprog_common.specs.declared.faults.FileName.{FileName}
 use Rattle.norprog_common.specs.declared.faults.FileName.TheVariants as file
 use Rattle.norprog_common.specs.declared.faults.Refusal.{Refusal}
@@ -67,19 +66,3 @@ Reading files Was (Err why) log = StopsOpening files log why
 pub data OpensJob (r : Request) (read : Held) (content : Ahead) (len : ℕ) : List Event → Type 0 where
   Opens_files : (layout tables : List Event) → Reads (option_map (λ t. t.now) r.layout) read.layout layout → ReadsTables (origin_of r.chip) read.sfdp tables
       → OpensJob r read content len (Given (path_of (image_in r.image)) read.hex ∷ (layout ++ (tables ++ (Opened r.content.now content len ∷ []))))
-
--- they were, and this is its task: its text is that of the image
-pub data IsJobOf (r : Request) (t : Task) (content : Ahead) (len : ℕ) (log : List Event) : Type 0 where
-  Opens_job : (read : Held) (text : List ℕ) → OpensJob r read content len log → IsTextOf r.base read.layout read.hex (image_in r.image) text
-      → t ≡ task_by r (record read { hex = text }) → IsJobOf r t content len log
-
--- why they give no job: one can't be opened; or the image has no text
-pub data StopsJob (r : Request) (log : List Event) : Refusal → Type 0 where
-  NoFile : (why : Refusal) → StopsOpening (job_files r) log why → StopsJob r log why
-  NoText : (read : Held) (content : Ahead) (len : ℕ) (why : Refusal) → OpensJob r read content len log
-      → RefusesText r.base read.layout read.hex (image_in r.image) why → StopsJob r log why
-
--- the job was opened, or it wasn't
-abbrev pub Opening : {A : Type 0} → Request → (A → List Event → Type 0) → Result A Refusal → List Event → Type 0
-Opening r Was (Ok x) log = Was x log
-Opening r Was (Err why) log = StopsJob r log why

@@ -1,4 +1,6 @@
 pub mod Job
+pub mod Gathered
+pub mod Opening
 pub mod HexRequest
 pub mod Hex
 pub mod Build

@@ -18,7 +18,8 @@ use Rattle.norprog_common.specs.declared.rules.ImageRules.{ImageRules}
 use Rattle.norprog_files.specs.Files.{Event, Leaves, Lost, Made, Sends, StopsOpening}
 use Rattle.norprog_files.specs.declared.replaced.OutKind.TheVariants as kind
 use Rattle.norprog_named.specs.Build.{Undone, Work, work}
-use Rattle.norprog_named.specs.Job.{IsJobOf, StopsJob, named_by}
+use Rattle.norprog_named.specs.Job.{named_by}
+use Rattle.norprog_named.specs.Opening.{IsJobOf, StopsJob}
 use Rattle.norprog_named.specs.declared.plan_files.MapFile.{MapFile}
 use Rattle.norprog_named.specs.declared.plan_files.PlanRequest.{PlanRequest}
 use Rattle.norprog_plan.specs.Outline.{IsOutline, Outline}

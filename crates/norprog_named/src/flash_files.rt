@@ -14,9 +14,10 @@ ghost use Rattle.norprog_flash.specs.Begun.{printed};
 ghost use Rattle.norprog_named.specs.Flash.{reading_of};
 ghost use Rattle.norprog_named.specs.Job.{Reading};
 
-use crate::job::{bytes_in, read_chip, read_image, read_named};
+use crate::job::{bytes_in, read_chip, read_image, read_named, whole_image};
 use crate::saved::save_if;
 use nor_base::{ByteIn, ByteOut};
+use nor_hex::Image;
 use nor_serprog::{Limits, greet};
 use norprog_common::{Aim, FileName, ImageFile, Refusal, image_text};
 use norprog_device::{DeviceFault, is_cut, let_go};
@@ -28,7 +29,10 @@ use std::alloc::Global;
 /// What the files of a request hold.
 #[derive(Drop)]
 pub(crate) struct FlashTexts {
+    /// The text of the image's first file.
     pub(crate) hex: Vec<u8>,
+    /// The image of all files, where there are several.
+    pub(crate) image: Option<Image>,
     pub(crate) layout: Option<Vec<u8>>,
     /// The tables; nothing where no file of them is named.
     pub(crate) sfdp: Vec<u8>,
@@ -65,8 +69,8 @@ pub fn flash<F: Files, O: ByteOut, P: ByteOut>(
     )
 }
 
-/// Reads the files of a request whole, in the order image, layout, tables, older content. Of a raw
-/// image the text is made.
+/// Reads the files of a request whole, in the order image, layout, tables, older content, further
+/// files of the image. Of a raw image the text is made.
 fn read_texts<F: Files>(
     alloc: Global,
     files: &F,
@@ -77,7 +81,17 @@ fn read_texts<F: Files>(
         (EndsReading request.now result) }
 {
     let read = read_files(alloc, files, trail, request)?;
-    let texts = texts_of(alloc, request, read)?;
+    let mut texts = texts_of(alloc, request, read)?;
+    let image = whole_image(
+        alloc,
+        files,
+        trail,
+        request.images,
+        request.base,
+        bytes_in(&texts.layout),
+        texts.hex.as_slice(),
+    )?;
+    texts.image = image;
     Ok(texts)
 }
 
@@ -97,6 +111,7 @@ fn texts_of(
 {
     let FlashTexts {
         hex: bytes,
+        image,
         layout,
         sfdp,
         old,
@@ -104,6 +119,7 @@ fn texts_of(
     let hex = asked_text(alloc, request, bytes_in(&layout), bytes)?;
     Ok(FlashTexts {
         hex,
+        image,
         layout,
         sfdp,
         old,
@@ -161,6 +177,7 @@ fn read_files<F: Files>(
     let old = read_named(alloc, files, trail, request.resume, FileName::Resume)?;
     Ok(FlashTexts {
         hex,
+        image: None,
         layout,
         sfdp,
         old,
@@ -188,6 +205,7 @@ fn job_for<'a>(request: &'a FlashRequest<'_>, texts: &'a FlashTexts) -> Job<'a>
             expect_id: asked.expect_id,
         },
         hex: texts.hex.as_slice(),
+        image: texts.image.as_ref(),
         blank: request.image.is_none(),
         layout: bytes_in(&texts.layout),
         regions: request.regions,

@@ -1,20 +1,27 @@
 //! The files of a job.
 
-ghost use Rattle.std.specs.Prelude.{◌≡◌, ◌∷◌, [], ℕ, IfErr, IfOk, List, option_map};
+ghost use Rattle.std.specs.Prelude.{◌≡◌, ◌∷◌, [], ℕ, IfErr, IfOk, List, drop, map, option_map};
 ghost use Rattle.norprog_common.specs.Chip.{origin_of};
 ghost use Rattle.norprog_common.specs.Held.{held_in, task_by};
-ghost use Rattle.norprog_common.specs.Image.{IsTextOf, RefusesText, image_in};
+ghost use Rattle.norprog_common.specs.Image.{IsTextOf, RefusesText, image_in, images_in};
 ghost use Rattle.norprog_files.specs.Files.{Did};
-ghost use Rattle.norprog_named.specs.Job.{IsJobOf, Opening, OpensJob, Reading, Reads};
+ghost use Rattle.norprog_named.specs.Gathered.{Gathers, Joins, JoinsAll};
+ghost use Rattle.norprog_named.specs.Job.{OpensJob, Reading, Reads};
+ghost use Rattle.norprog_named.specs.Opening.{IsJobOf, Opening};
 ghost use Rattle.norprog_named.specs.Job.{ReadsImage, ReadsNamed, ReadsTables, chip_files};
 ghost use Rattle.norprog_named.specs.Job.{image_file, job_files, named_by, origin_files};
 
-use norprog_common::{Chip, FileName, ImageFile, Refusal, Request, Texts, image_text};
+use nor_hex::Image;
+use norprog_common::{
+    Chip, FileName, ImageArgs, ImageFile, Refusal, Request, Texts, hex_image, image_text,
+    images_of, joined,
+};
 use norprog_files::{Files, Trail};
 use std::alloc::Global;
 
 /// Opens the files that a job reads, in their order: what those hold that are read whole, the
-/// content, and how many bytes that has. Of a raw image the text is made.
+/// content, and how many bytes that has. Of a raw image the text is made; the image's further files
+/// come last.
 pub(crate) fn open_job<F: Files>(
     alloc: Global,
     files: &F,
@@ -26,7 +33,17 @@ pub(crate) fn open_job<F: Files>(
         (F.Input.ahead job.1) job.2) result) }
 {
     let (read, content, len) = open_files(alloc, files, trail, request)?;
-    let texts = texts_of(alloc, request, read)?;
+    let mut texts = texts_of(alloc, request, read)?;
+    let image = whole_image(
+        alloc,
+        files,
+        trail,
+        &request.images,
+        request.base,
+        bytes_in(&texts.layout),
+        texts.hex.as_slice(),
+    )?;
+    texts.image = image;
     Ok((texts, content, len))
 }
 
@@ -45,7 +62,13 @@ fn open_files<F: Files>(
     let layout = read_named(alloc, files, trail, request.layout, FileName::Layout)?;
     let sfdp = read_tables(alloc, files, trail, request.chip)?;
     let (content, len) = files.open(trail, request.content, FileName::Content)?;
-    Ok((Texts { hex, layout, sfdp }, content, len))
+    let read = Texts {
+        hex,
+        image: None,
+        layout,
+        sfdp,
+    };
+    Ok((read, content, len))
 }
 
 /// Puts the image's text in place of the bytes of its file.
@@ -59,11 +82,17 @@ fn texts_of(alloc: Global, request: &Request<'_>, read: Texts) -> Result<Texts, 
 {
     let Texts {
         hex: bytes,
+        image,
         layout,
         sfdp,
     } = read;
     let hex = image_text(alloc, request.image, request.base, bytes_in(&layout), bytes)?;
-    Ok(Texts { hex, layout, sfdp })
+    Ok(Texts {
+        hex,
+        image,
+        layout,
+        sfdp,
+    })
 }
 
 /// Reads the file of an image whole.
@@ -81,6 +110,94 @@ pub(crate) fn read_image<F: Files>(
         ImageFile::Hex(path) => files.read(trail, alloc, path, FileName::Hex),
         ImageFile::Bin { place: _, path } => files.read(trail, alloc, path, FileName::Bin),
     }
+}
+
+/// The image that all files give together, of which the first has this text; none where there is no
+/// other.
+pub(crate) fn whole_image<F: Files>(
+    alloc: Global,
+    files: &F,
+    trail: &mut F::Trail,
+    given: &ImageArgs<'_>,
+    base: u32,
+    layout: Option<&[u8]>,
+    text: &[u8],
+) -> Result<Option<Image>, Refusal>
+    ensures { Did (F.Trail.did trail.old) (F.Trail.did trail.new)
+        (Gathers base (option_map (λ t. t.now) layout.entry) text.now
+        (drop 1 (images_in given.now)) result) }
+{
+    let Ok(images) = images_of(alloc, given) else {
+        return Err(Refusal::MEMORY);
+    };
+    match images.as_slice().split_first() {
+        None => Ok(None),
+        Some((_, more)) => gather(alloc, files, trail, more, base, layout, text),
+    }
+}
+
+/// The image of a text and these files, if there are some.
+fn gather<F: Files>(
+    alloc: Global,
+    files: &F,
+    trail: &mut F::Trail,
+    more: &[ImageFile<'_>],
+    base: u32,
+    layout: Option<&[u8]>,
+    text: &[u8],
+) -> Result<Option<Image>, Refusal>
+    ensures { Did (F.Trail.did trail.old) (F.Trail.did trail.new)
+        (Gathers base (option_map (λ t. t.now) layout.entry) text.now (map image_in more.now)
+        result) }
+{
+    if more.is_empty() {
+        return Ok(None);
+    }
+    let first = hex_image(alloc, text)?;
+    let all = join_all(alloc, files, trail, more, base, layout, first)?;
+    Ok(Some(all))
+}
+
+/// The image that this one and all of these files give together.
+fn join_all<F: Files>(
+    alloc: Global,
+    files: &F,
+    trail: &mut F::Trail,
+    more: &[ImageFile<'_>],
+    base: u32,
+    layout: Option<&[u8]>,
+    image: Image,
+) -> Result<Image, Refusal>
+    ensures { Did (F.Trail.did trail.old) (F.Trail.did trail.new)
+        (JoinsAll base (option_map (λ t. t.now) layout.entry) (map image_in more.now) image
+        result) }
+{
+    match more.split_first() {
+        None => Ok(image),
+        Some((file, rest)) => {
+            let both = join_file(alloc, files, trail, *file, base, layout, &image)?;
+            join_all(alloc, files, trail, rest, base, layout, both)
+        }
+    }
+}
+
+/// The image that this one and a file give together.
+fn join_file<F: Files>(
+    alloc: Global,
+    files: &F,
+    trail: &mut F::Trail,
+    file: ImageFile<'_>,
+    base: u32,
+    layout: Option<&[u8]>,
+    image: &Image,
+) -> Result<Image, Refusal>
+    ensures { Did (F.Trail.did trail.old) (F.Trail.did trail.new)
+        (Joins base (option_map (λ t. t.now) layout.entry) (image_in file.entry) image.now
+        result) }
+{
+    let bytes = read_image(alloc, files, trail, file)?;
+    let text = image_text(alloc, file, base, layout, bytes)?;
+    joined(alloc, image, text.as_slice())
 }
 
 pub(crate) fn bytes_in(bytes: &Option<Vec<u8>>) -> Option<&[u8]>

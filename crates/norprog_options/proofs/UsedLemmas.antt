@@ -1,15 +1,15 @@
 -- The command that was used, and its options by what the library found.
-use Rattle.std.proofs.Common.{◌≡◌, ◌∙◌, ◌∷◌, ◌++◌, List, [], Option, Some, None, ap, ap₂, refl, sym, subst, Bool}
+use Rattle.std.proofs.Common.{◌≡◌, ◌∙◌, ◌∷◌, ◌++◌, List, [], Option, Some, None, ap, ap₂, map, refl, sym, subst, Bool}
 use Rattle.std.specs.Prelude.{option_map, unwrap_or, codes, is_some, IfSome}
-use Rattle.clap.specs.Words.{Row, Text, all_of, first_value, first_of, one_text, one_of, rows_of}
+use Rattle.clap.specs.Words.{Row, Text, all_of, rows_of}
 use Rattle.clap.specs.Words.{subcommand_name_of, subcommand_rows_of}
-use Rattle.clap.proofs.WalkLemmas.{first_value-rows, one_text-rows, raw_values-rows}
+use Rattle.clap.proofs.WalkLemmas.{raw_values-rows}
 use Rattle.clap.specs.declared.parser.matches.ArgMatches.{ArgMatches}
 use Rattle.clap.specs.declared.parser.matches.ArgMatches.TheViews.{out-ArgMatches}
 use Rattle.clap.specs.declared.parser.matches.Found.{Found}
 use Rattle.norprog_options.specs.declared.typed.TypedLine.{TypedLine}
-use Rattle.norprog_options.specs.Options.{Sets, texts_of}
-use Rattle.norprog_options.specs.Typed.{IsDetailed, IsDetailedBy, IsLineIn, option_names, typed_in, with_value}
+use Rattle.norprog_options.specs.Options.{texts_of}
+use Rattle.norprog_options.specs.Typed.{IsDetailed, IsDetailedBy, IsLineIn, option_names, typed_in}
 
 -- a name and what belongs to it
 paired : {S : Type 0} (name : S → Text) (rows : S → List Row) (o : Option S) (n : Text) (r : List Row)
@@ -29,9 +29,6 @@ used_as o rows name other used same = used ∙ ap (λ (n : Text). Some (n, rows)
 
 -- ---- the same rows have the same values
 
-first_same : (one other : Found) (name : Text) → rows_of one ≡ rows_of other → first_value one name ≡ first_value other name
-first_same one other name e = first_value-rows one name ∙ ap (first_of name) e ∙ sym (first_value-rows other name)
-
 texts_same : (one other : Found) (name : Text) → rows_of one ≡ rows_of other → texts_of one name ≡ texts_of other name
 texts_same one other name e =
     ap (λ o. unwrap_or o []) (raw_values-rows one name ∙ ap (all_of name) e ∙ sym (raw_values-rows other name))
@@ -39,7 +36,7 @@ texts_same one other name e =
 typed_same : (names : List Text) (one other : Found) → rows_of one ≡ rows_of other → typed_in names one ≡ typed_in names other
 typed_same [] one other e = refl
 typed_same (name ∷ names) one other e =
-    ap₂ (λ o rest. with_value name o ++ rest) (first_same one other name e) (typed_same names one other e)
+    ap₂ (λ values rest. map (λ (value : Text). (name, value)) values ++ rest) (texts_same one other name e) (typed_same names one other e)
 
 line_same : (command : Text) (one other : Found) (details : Option TypedLine) → rows_of one ≡ rows_of other
     → IfSome details (IsLineIn command one) → IfSome details (IsLineIn command other)

@@ -1,5 +1,5 @@
 -- Which option's text goes to which value (this project's).
-use Rattle.std.specs.Prelude.{◌≡◌, ⊤, ℕ, Bool, true, false, List, [], ◌∷◌, Option, Some, None, IfSome, option_map, unwrap_or, codes}
+use Rattle.std.specs.Prelude.{◌≡◌, ⊤, ℕ, Bool, true, false, List, [], ◌∷◌, Option, Some, None, IfSome, map, option_map, unwrap_or, codes}
 use Rattle.std.specs.Str.{bytes_eq}
 use Rattle.clap.specs.Words.{first_value, matched_of, one_text, raw_values, rows_of, subcommand_rows_of}
 use Rattle.clap.specs.declared.parser.matches.ArgMatches.{ArgMatches}
@@ -13,6 +13,7 @@ use Rattle.norprog_common.specs.declared.given.ChipArgs.{ChipArgs}
 use Rattle.norprog_common.specs.declared.given.DrawArgs.{DrawArgs}
 use Rattle.norprog_common.specs.declared.given.FlashArgs.{FlashArgs}
 use Rattle.norprog_common.specs.declared.given.HexArgs.{HexArgs}
+use Rattle.norprog_common.specs.declared.given.ImageArgs.{ImageArgs}
 use Rattle.norprog_common.specs.declared.given.ListArgs.{ListArgs}
 use Rattle.norprog_common.specs.declared.given.OutFile.{OutFile}
 use Rattle.norprog_common.specs.declared.given.PlanArgs.{PlanArgs}
@@ -55,9 +56,13 @@ pub record IsChipIn (found : Found) (given : ChipArgs) : Type 0 where
   pub bits : Has found (codes "bits") (option_map (λ t. t.now) given.bits)
   pub part : Has found (codes "part") (option_map (λ t. t.now) given.part)
 
+-- these files are named, each kind in its order
+pub record IsImageIn (found : Found) (given : ImageArgs) : Type 0 where
+  pub hex : map (λ t. t.now) given.hex.items ≡ texts_of found (codes "hex")
+  pub bin : map (λ t. t.now) given.bin.items ≡ texts_of found (codes "bin")
+
 pub record IsJobIn (found : Found) (given : Given) : Type 0 where
-  pub hex : Has found (codes "hex") (option_map (λ t. t.now) given.hex)
-  pub bin : Has found (codes "bin") (option_map (λ t. t.now) given.bin)
+  pub image : IsImageIn found given.image
   pub layout : Has found (codes "layout") (option_map (λ t. t.now) given.layout)
   pub sfdp : Has found (codes "sfdp") (option_map (λ t. t.now) given.sfdp)
   pub uniform : Has found (codes "uniform") (option_map (λ t. t.now) given.uniform)
@@ -146,8 +151,7 @@ pub record IsFlashIn (found : Found) (given : FlashArgs) : Type 0 where
   pub mode4 : Sets found (codes "mode4") given.mode4
   pub device : Has found (codes "device") (option_map (λ t. t.now) given.device)
   pub limit : Has found (codes "limit") (option_map (λ t. t.now) given.limit)
-  pub hex : Has found (codes "hex") (option_map (λ t. t.now) given.hex)
-  pub bin : Has found (codes "bin") (option_map (λ t. t.now) given.bin)
+  pub image : IsImageIn found given.image
   pub layout : Has found (codes "layout") (option_map (λ t. t.now) given.layout)
   pub base : Has found (codes "base") (option_map (λ t. t.now) given.base)
   pub before : Has found (codes "before") (option_map (λ t. t.now) given.before)

@@ -21,6 +21,10 @@ optional name = valued false name
 abbrev pub needed : Text → Rule
 needed name = valued true name
 
+-- an option with a value that may be there any number of times
+abbrev pub repeated : Bool → Text → Rule
+repeated required name = record (new_rule name) { long = Some name; value_names = 1; action = Some Append; required = required }
+
 -- any number of words that belong to no option
 abbrev pub words : Text → Rule
 words name = record (new_rule name) {
@@ -29,9 +33,9 @@ words name = record (new_rule name) {
   action = Some Append;
 }
 
--- the options of the image: its HEX file or the raw one, the layout, the address that goes to chip address 0, and the names of the chosen regions
+-- the options of the image: its HEX files and raw ones, the layout, the address that goes to chip address 0, and the names of the chosen regions
 abbrev pub image : List Rule
-image = optional (codes "hex") ∷ optional (codes "bin") ∷ optional (codes "layout") ∷ optional (codes "base") ∷ words (codes "names") ∷ []
+image = repeated false (codes "hex") ∷ repeated false (codes "bin") ∷ optional (codes "layout") ∷ optional (codes "base") ∷ words (codes "names") ∷ []
 
 -- those that choose what is erased
 abbrev pub erased : List Rule
@@ -79,7 +83,7 @@ script = needed (codes "script") ∷ []
 
 -- whether a refusal has more lines
 abbrev pub details : List Rule
-details = flag (codes "details") ∷ flag (codes "plain") ∷ []
+details = flag (codes "json") ∷ flag (codes "details") ∷ flag (codes "plain") ∷ []
 
 -- the commands, each by its name with its options
 abbrev pub commands : List (Text × List Rule)

@@ -8,12 +8,13 @@ use Rattle.norprog_options.specs.declared.arguments.Group.{Group}
 use Rattle.norprog_options.specs.declared.arguments.Group.TheVariants as group
 use Rattle.norprog_options.specs.declared.arguments.Choice.{Choice}
 use Rattle.norprog_options.specs.declared.arguments.Form.{Form}
-use Rattle.norprog_options.specs.Program.{flag, valued, words, image, erased, image_rules, device, work, chip, content, start, behaviour, verify, script, details, command}
+use Rattle.norprog_options.specs.Program.{flag, valued, repeated, words, image, erased, image_rules, device, work, chip, content, start, behaviour, verify, script, details, command}
 
 -- what the library reads for an option, by what is written after it
 abbrev pub rule_for : Takes → Bool → Text → Rule
 rule_for takes.Nothing required name = flag name
 rule_for takes.File required name = valued required name
+rule_for takes.Files required name = repeated required name
 rule_for (takes.Value shown) required name = valued required name
 rule_for (takes.Words shown) required name = words name
 

@@ -1,35 +1,35 @@
 -- The options with values as they stand on a command line (this project's).
-use Rattle.std.specs.Prelude.{◌≡◌, ℕ, List, [], ◌∷◌, flat_map, map, codes, Option, Some, None, IfSome}
-use Rattle.clap.specs.Words.{first_value, rows_of, subcommand_rows_of}
+use Rattle.std.specs.Prelude.{◌≡◌, ℕ, List, flat_map, map, codes, Option, Some, IfSome}
+use Rattle.clap.specs.Words.{rows_of, subcommand_rows_of}
 use Rattle.clap.specs.declared.parser.matches.ArgMatches.{ArgMatches}
 use Rattle.clap.specs.declared.parser.matches.Found.{Found}
 use Rattle.norprog_details.specs.declared.typed.CommandLine.{CommandLine}
+use Rattle.norprog_details.specs.declared.typed.Typed.{Typed}
 use Rattle.norprog_options.specs.declared.typed.TypedLine.{TypedLine}
 use Rattle.norprog_options.specs.declared.typed.TheConstants.{NAMES}
 use Rattle.norprog_options.specs.Options.{texts_of}
 
--- an option by its name with its value, if it has one
-abbrev pub with_value : List ℕ → Option (List ℕ) → List (List ℕ × List ℕ)
-with_value name (Some value) = (name, value) ∷ []
-with_value name None = []
+-- an option with its value
+abbrev pub pair_of : Typed → List ℕ × List ℕ
+pair_of option = (option.name.now, option.value.now)
 
--- each option of these names that has a value
+-- the option of this name with each of its values, of all its uses
+abbrev pub valued_by : Found → List ℕ → List (List ℕ × List ℕ)
+valued_by found name = map (λ value. (name, value)) (texts_of found name)
+
+-- each option of these names
 abbrev pub typed_in : List (List ℕ) → Found → List (List ℕ × List ℕ)
-typed_in names found = flat_map (λ name. with_value name (first_value found name)) names
+typed_in names found = flat_map (valued_by found) names
 
 -- the options that have values
 abbrev pub option_names : List (List ℕ)
 option_names = map {B = List ℕ} (λ name. name.now) NAMES.now
 
--- the names of the chosen regions
-abbrev pub texts_in : Found → List (List ℕ)
-texts_in found = texts_of found (codes "names")
-
 -- what stands behind the name of a command, except flags
 pub record IsLineIn (command : List ℕ) (found : Found) (line : TypedLine) : Type 0 where
   pub named : line.command.now ≡ command
-  pub typed : map (λ o. (o.name.now, o.value.now)) line.typed.items ≡ typed_in option_names found
-  pub regions : map (λ name. name.now) line.regions.items ≡ texts_in found
+  pub typed : map pair_of line.typed.items ≡ typed_in option_names found
+  pub regions : map (λ name. name.now) line.regions.items ≡ texts_of found (codes "names")
 
 -- the same as slices
 pub record IsLineOf (line : TypedLine) (handed : CommandLine) : Type 0 where

@@ -21,6 +21,8 @@ enum Takes {
     Nothing,
     /// A file's name.
     File,
+    /// A file's name, of each use of the option.
+    Files,
     /// Another value.
     Value(&'static str),
     /// No option, but any number of words.
@@ -75,16 +77,16 @@ struct Form {
 
 const HEX: Choice = Choice {
     name: "hex",
-    takes: Takes::File,
+    takes: Takes::Files,
     required: false,
-    help: "The image, an Intel HEX file; this or --bin",
+    help: "The image, an Intel HEX file; any number of these and of --bin give one image",
 };
 
 const IMAGE_BIN: Choice = Choice {
     name: "bin",
-    takes: Takes::File,
+    takes: Takes::Files,
     required: false,
-    help: "The raw image, [PLACE=]FILE: at an address of five to eight hexadecimal digits, or all \
+    help: "A raw image, [PLACE=]FILE: at an address of five to eight hexadecimal digits, or all \
         of the layout's region of that name; without PLACE= all of the chip",
 };
 
@@ -135,7 +137,8 @@ const SHEET: Choice = Choice {
     name: "sheet",
     takes: Takes::File,
     required: false,
-    help: "A sheet: what the chip is, in the lines that `norprog sfdp` prints, a text file",
+    help: "A sheet: what the chip is, in the lines that `norprog sfdp` prints: a text file, or the \
+        name of an installed one",
 };
 
 const BITS: Choice = Choice {
@@ -505,6 +508,13 @@ const PLAIN: Choice = Choice {
     help: "Say no more than the line of a refusal, also at a terminal [default: no]",
 };
 
+const JSON: Choice = Choice {
+    name: "json",
+    takes: Takes::Nothing,
+    required: false,
+    help: "Print last how the command ended, a JSON object in one line [default: no]",
+};
+
 const FORCE: Choice = Choice {
     name: "force",
     takes: Takes::Nothing,
@@ -513,7 +523,7 @@ const FORCE: Choice = Choice {
 };
 
 /// The options of every command but explain, which takes words only.
-const EACH: &[Choice] = &[DETAILS, PLAIN];
+const EACH: &[Choice] = &[JSON, DETAILS, PLAIN];
 
 const IMAGE: &[Choice] = &[HEX, IMAGE_BIN, LAYOUT, BASE, REGIONS];
 
@@ -775,8 +785,9 @@ fn argument_of<'a>(alloc: Global, choice: &Choice) -> Arg<'a>
     let argument = Arg::new(alloc, choice.name).help(choice.help);
     match choice.takes {
         Takes::Nothing => argument.long(choice.name).action(ArgAction::SetTrue),
-        Takes::File => value(argument, choice, "F"),
-        Takes::Value(name) => value(argument, choice, name),
+        Takes::File => value(argument, choice, "F", ArgAction::Set),
+        Takes::Files => value(argument, choice, "F", ArgAction::Append),
+        Takes::Value(name) => value(argument, choice, name, ArgAction::Set),
         Takes::Words(name) => argument
             .value_name(name)
             .num_args(0..)
@@ -785,11 +796,11 @@ fn argument_of<'a>(alloc: Global, choice: &Choice) -> Arg<'a>
 }
 
 /// An option with a value, which is shown by this name.
-fn value<'a>(argument: Arg<'a>, choice: &Choice, name: &'static str) -> Arg<'a>
+fn value<'a>(argument: Arg<'a>, choice: &Choice, name: &'static str, action: ArgAction) -> Arg<'a>
     ensures rule { rule_of result ≡ record (rule_of argument.entry) {
       long = Some choice.now.name.now;
       value_names = 1;
-      action = Some ArgAction.Set;
+      action = Some action;
       required = choice.now.required;
     } }
     ensures local { result.global ≡ argument.entry.global }
@@ -797,6 +808,6 @@ fn value<'a>(argument: Arg<'a>, choice: &Choice, name: &'static str) -> Arg<'a>
     argument
         .long(choice.name)
         .value_name(name)
-        .action(ArgAction::Set)
+        .action(action)
         .required(choice.required)
 }

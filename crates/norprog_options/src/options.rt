@@ -6,7 +6,8 @@ ghost use Rattle.clap.specs.Words.{found_of, kind_of};
 ghost use Rattle.norprog_options.specs.Options.{texts_of, IsBuildIn, IsCheckIn, IsJobIn, IsChipIn};
 ghost use Rattle.norprog_options.specs.Options.{IsDrawIn, IsFlashIn, IsHexIn, IsListIn, IsPlanIn};
 ghost use Rattle.norprog_options.specs.Options.{IsPlayIn, IsReadIn, IsRunIn, IsSetupIn, IsAsked};
-ghost use Rattle.norprog_options.specs.Options.{AimsIn, IsOutIn, IsScriptIn, asks_help, flash_name};
+ghost use Rattle.norprog_options.specs.Options.{AimsIn, IsImageIn, IsOutIn, IsScriptIn};
+ghost use Rattle.norprog_options.specs.Options.{asks_help, flash_name};
 ghost use Rattle.norprog_options.specs.Spelled.{IsRefusalOf, IsUnasked, Refuses, Spells};
 ghost use Rattle.norprog_options.specs.Spelled.{command_names, memory};
 ghost use Rattle.norprog_options.specs.Typed.{IsDetailed, IsDetailedBy};
@@ -17,8 +18,8 @@ use clap::error::ErrorKind;
 use clap::{ArgMatches, Error};
 use nor_base::Bytes;
 use norprog_common::{
-    Aim, BuildArgs, CheckArgs, ChipArgs, DrawArgs, FlashArgs, Given, HexArgs, ListArgs, OutFile,
-    PlanArgs, PlayArgs, ReadArgs, Refusal, RunArgs, ScriptArgs, SetupArgs,
+    Aim, BuildArgs, CheckArgs, ChipArgs, DrawArgs, FlashArgs, Given, HexArgs, ImageArgs, ListArgs,
+    OutFile, PlanArgs, PlayArgs, ReadArgs, Refusal, RunArgs, ScriptArgs, SetupArgs,
 };
 use std::alloc::Global;
 
@@ -53,11 +54,11 @@ pub struct Line<'a> {
 }
 
 /// Reads the words after the program's name: a command and its options, by the rules of the command
-/// line library. More is to be said of a refusal with `--details` or at a terminal, unless with
-/// `--plain`.
+/// line library. Without `--plain` more is to be said of a refusal with `--details`, and at a
+/// terminal without `--json`.
 ///
 /// Words with a fault and requests for help are refused with that library's `Text`; else only
-/// `Memory` is, where a growth is refused.
+/// `Memory` is.
 pub fn asked_by<'a>(alloc: Global, words: &'a [String], terminal: bool) -> Result<Line<'a>, Refusal>
     ensures line { IfOk result (Spells (map string_bytes words.entry.now)) }
     ensures refused { IfErr result (Refuses (map string_bytes words.entry.now)) }
@@ -97,11 +98,16 @@ fn details_of<'a>(
     ensures done { IfOk result (IsDetailedBy command.entry.now (found_of used.now)) }
     ensures memory { IfErr result (λ why. why ≡ memory) }
 {
-    if (terminal || used.get_flag("details")) && !used.get_flag("plain") {
+    if is_asked(used, terminal) && !used.get_flag("plain") {
         Ok(Some(line_in(alloc, command, used)?))
     } else {
         Ok(None)
     }
+}
+
+/// Whether more is asked for of a refusal: at a terminal unless an object comes last.
+fn is_asked(used: &ArgMatches<'_>, terminal: bool) -> bool {
+    used.get_flag("details") || (terminal && !used.get_flag("json"))
 }
 
 /// What the matches of a command line ask for.
@@ -240,8 +246,7 @@ fn given_in<'a>(alloc: Global, job: &ArgMatches<'a>) -> Result<Given<'a>, Refusa
     ensures memory { IfErr result (λ why. why ≡ memory) }
 {
     Ok(Given {
-        hex: job.get_str("hex"),
-        bin: job.get_str("bin"),
+        image: image_in(alloc, job)?,
         layout: job.get_str("layout"),
         sfdp: job.get_str("sfdp"),
         uniform: job.get_str("uniform"),
@@ -258,6 +263,17 @@ fn given_in<'a>(alloc: Global, job: &ArgMatches<'a>) -> Result<Given<'a>, Refusa
         strict: job.get_flag("strict"),
         whole: job.get_flag("whole"),
         regions: texts_in(alloc, job, "names")?,
+    })
+}
+
+/// The files of the image.
+fn image_in<'a>(alloc: Global, matches: &ArgMatches<'a>) -> Result<ImageArgs<'a>, Refusal>
+    ensures done { IfOk result (IsImageIn (found_of matches.now)) }
+    ensures memory { IfErr result (λ why. why ≡ memory) }
+{
+    Ok(ImageArgs {
+        hex: strs_in(alloc, matches, "hex")?,
+        bin: strs_in(alloc, matches, "bin")?,
     })
 }
 
@@ -444,8 +460,7 @@ fn flash_in<'a>(
         mode4: flash.get_flag("mode4"),
         device: flash.get_str("device"),
         limit: flash.get_str("limit"),
-        hex: flash.get_str("hex"),
-        bin: flash.get_str("bin"),
+        image: image_in(alloc, flash)?,
         layout: flash.get_str("layout"),
         base: flash.get_str("base"),
         before: flash.get_str("before"),
@@ -482,6 +497,22 @@ fn play_in<'a>(play: &ArgMatches<'a>) -> PlayArgs<'a>
 }
 
 /// The values of an argument that may have several, in their order.
+pub(crate) fn strs_in<'a>(
+    alloc: Global,
+    matches: &ArgMatches<'a>,
+    name: &str,
+) -> Result<Vec<&'a str>, Refusal>
+    ensures done { IfOk result (λ texts. map (λ text. text.now) texts.items
+        ≡ texts_of (found_of matches.now) name.now) }
+    ensures memory { IfErr result (λ why. why ≡ memory) }
+{
+    match matches.get_strs(name) {
+        Some(texts) => Ok(Vec::from_slice(alloc, texts)?),
+        None => Ok(Vec::new(alloc)),
+    }
+}
+
+/// The same as bytes.
 fn texts_in(alloc: Global, matches: &ArgMatches<'_>, name: &str) -> Result<Vec<Bytes>, Refusal>
     ensures done { IfOk result (λ texts. texts.items ≡ texts_of (found_of matches.now) name.now) }
     ensures memory { IfErr result (λ why. why ≡ memory) }

@@ -1,10 +1,12 @@
 //! The options with values as they stand on a command line.
 
-ghost use Rattle.std.specs.Prelude.{◌≡◌, map, IfErr, IfOk};
+ghost use Rattle.std.specs.Prelude.{◌≡◌, ◌++◌, map, IfErr, IfOk};
 ghost use Rattle.clap.specs.Words.{found_of};
 ghost use Rattle.norprog_options.specs.Spelled.{memory};
-ghost use Rattle.norprog_options.specs.Typed.{IsLineIn, IsLineOf, option_names, texts_in, typed_in};
+ghost use Rattle.norprog_options.specs.Typed.{IsLineIn, IsLineOf, option_names, pair_of, typed_in};
+ghost use Rattle.norprog_options.specs.Typed.{valued_by};
 
+use crate::options::strs_in;
 use clap::ArgMatches;
 use norprog_common::Refusal;
 use norprog_details::{CommandLine, Typed};
@@ -75,7 +77,7 @@ pub(crate) fn line_in<'a>(
     Ok(TypedLine {
         command,
         typed: typed_in(alloc, used, option_names())?,
-        regions: names_in(alloc, used)?,
+        regions: strs_in(alloc, used, "names")?,
     })
 }
 
@@ -86,33 +88,54 @@ fn option_names() -> &'static [&'static str]
     NAMES
 }
 
-/// The options of these names that have values.
+/// The options of these names that have values, with each of them.
 fn typed_in<'a>(
     alloc: Global,
     used: &ArgMatches<'a>,
     names: &[&'static str],
 ) -> Result<Vec<Typed<'a>>, Refusal>
-    ensures done { IfOk result (λ typed. map (λ o. (o.name.now, o.value.now)) typed.items
+    ensures done { IfOk result (λ typed. map pair_of typed.items
         ≡ typed_in (map (λ name. name.now) names.now) (found_of used.now)) }
     ensures memory { IfErr result (λ why. why ≡ memory) }
 {
     let mut typed = Vec::new(alloc);
     for name in names {
-        if let Some(value) = used.get_str(name) {
-            typed.push(Typed { name: *name, value })?;
-        }
+        add_typed(used, *name, &mut typed)?;
     }
     Ok(typed)
 }
 
-/// The names of the chosen regions.
-fn names_in<'a>(alloc: Global, used: &ArgMatches<'a>) -> Result<Vec<&'a str>, Refusal>
-    ensures done { IfOk result (λ names. map (λ name. name.now) names.items
-        ≡ texts_in (found_of used.now)) }
+/// Adds an option with each of its values.
+fn add_typed<'a>(
+    used: &ArgMatches<'a>,
+    name: &'static str,
+    typed: &mut Vec<Typed<'a>>,
+) -> Result<(), Refusal>
+    ensures done { IfOk result (λ _. map pair_of typed.new.items
+        ≡ map pair_of typed.old.items ++ valued_by (found_of used.now) name.now) }
     ensures memory { IfErr result (λ why. why ≡ memory) }
 {
-    match used.get_strs("names") {
-        Some(names) => Ok(Vec::from_slice(alloc, names)?),
-        None => Ok(Vec::new(alloc)),
+    match used.get_strs(name) {
+        Some(values) => add_values(values, name, typed),
+        None => Ok(()),
     }
+}
+
+/// The same of these values.
+fn add_values<'a>(
+    values: &[&'a str],
+    name: &'static str,
+    typed: &mut Vec<Typed<'a>>,
+) -> Result<(), Refusal>
+    ensures done { IfOk result (λ _. map pair_of typed.new.items ≡ map pair_of typed.old.items
+        ++ map (λ text. (name.now, text)) (map (λ value. value.now) values.now)) }
+    ensures memory { IfErr result (λ why. why ≡ memory) }
+{
+    for value in values {
+        typed.push(Typed {
+            name,
+            value: *value,
+        })?;
+    }
+    Ok(())
 }

@@ -32,6 +32,7 @@ unread t len (refusal.Script why) r = absurd r
 unread t len refusal.BinSize r = absurd r
 unread t len (refusal.BinLength length) r = absurd r
 unread t len refusal.BinRegion r = absurd r
+unread t len (refusal.Conflict at) r = absurd r
 unread t len (refusal.Steps number) r = absurd r
 unread t len (refusal.EmptyRegion index) r = absurd r
 unread t len (refusal.Partial gap) r = absurd r

@@ -9,9 +9,9 @@ use crate::scripts::{
     AT_END, BUT_ONE, CELL, DONE, GREETED, GREETING, MANY, PAST, REST, STATUS, STEPS,
 };
 use crate::store::{Store, Untold};
-use nor_base::{IntoWrite, Part, put_parts};
+use nor_base::{ByteOut, IntoWrite, Part, put_parts};
 use nor_script::hex_pair;
-use norprog_common::{Aim, Chip, ChipArgs, ImageFile, job_rules, refuse};
+use norprog_common::{Aim, Chip, ChipArgs, ImageArgs, ImageFile, job_rules, refuse};
 use norprog_device::refuse_device;
 use norprog_flash::{Ending, FlashArgs, FlashRequest, Unflashed, write_ending};
 use norprog_named::flash;
@@ -265,8 +265,10 @@ fn no_texts(alloc: Global) -> FlashArgs<'static> {
         mode4: false,
         device: None,
         limit: None,
-        hex: None,
-        bin: None,
+        image: ImageArgs {
+            hex: Vec::new(alloc),
+            bin: Vec::new(alloc),
+        },
         layout: None,
         base: None,
         before: None,
@@ -309,6 +311,7 @@ fn request_of<'a>(row: &Row, texts: &'a FlashArgs<'a>) -> FlashRequest<'a> {
     FlashRequest {
         read,
         image: Some(ImageFile::Hex("script")),
+        images: &texts.image,
         layout: None,
         base: 0,
         before: "before",
@@ -321,13 +324,25 @@ fn request_of<'a>(row: &Row, texts: &'a FlashArgs<'a>) -> FlashRequest<'a> {
     }
 }
 
+/// Does the work of a row.
+fn ended_by<O: ByteOut, P: ByteOut>(
+    alloc: Global,
+    store: &Store<'_>,
+    row: &Row,
+    texts: &FlashArgs<'_>,
+    out: &mut O,
+    progress: &mut P,
+) -> Result<Ending, Unflashed> {
+    let request = request_of(row, texts);
+    flash(alloc, store, &mut Untold, &request, out, progress)
+}
+
 /// Does the work of a row, and compares what is printed.
 fn works(rt: &impl Abort, alloc: Global, store: &Store<'_>, row: &Row) -> Result<(), AllocError> {
     let mut out = IntoWrite::new(Held::new(alloc, 1000));
     let mut progress = IntoWrite::new(Held::new(alloc, 1000));
     let texts = no_texts(alloc);
-    let request = request_of(row, &texts);
-    let ended = flash(alloc, store, &mut Untold, &request, &mut out, &mut progress);
+    let ended = ended_by(alloc, store, row, &texts, &mut out, &mut progress);
     let line = line_of(alloc, ended);
     holds(rt, "the line", line.as_slice() == row.line);
     let plan = out.into_inner().bytes;

@@ -1,13 +1,12 @@
 -- What has gone out by then.
-use Rattle.std.proofs.Common.{◌≡◌, ◌≤◌, ◌≢◌, [], List, ℕ, arith, refl, rules, string_bytes}
-use Rattle.std.specs.Prelude.{codes}
+use Rattle.std.proofs.Common.{◌≡◌, ◌≤◌, [], List, ℕ, arith, refl, rules, string_bytes}
 use Rattle.std.proofs.lemmas.List.Elements.{All-map}
-use Rattle.norprog_cli.specs.Ends.{AllOut, Lost, Unprinted}
+use Rattle.norprog_cli.specs.Ends.{AllOut, Lost, Unprinted, changes_none}
 use Rattle.norprog_cli.proofs.EndsLemmas.{all_gone, at_zero, is_left, keeps_all, told_from}
 use Rattle.norprog_cli.proofs.answer.Goals as goal
 
-pub returns-then-is_flash_among : goal.returns-then-is_flash_among
-returns-then-is_flash_among g c =
+pub returns-then-changes_chip-clause-ends : goal.returns-then-changes_chip-clause-ends
+returns-then-changes_chip-clause-ends g c =
     let did = c.command.ensures.answer in (
       did.0,
       did.1,
@@ -15,31 +14,31 @@ returns-then-is_flash_among g c =
     )
 
 -- all that was gathered has gone out
-pub returns-in_default-2 : goal.returns-in_default-2
-returns-in_default-2 g c =
+pub returns-in_default-2-clause-ends : goal.returns-in_default-2-clause-ends
+returns-in_default-2-clause-ends g c =
     let did = c.command-status.ensures.answer in (
       did.0,
       did.1,
       AllOut _ _ did.0 (all_gone (search rules) (is_left _ _ _ _ _ _ _ _ c.requires.left c.send.ensures.kept)) (search rules) did.2,
     )
 
-pub returns-in_default : goal.returns-in_default
-returns-in_default g c =
+pub returns-in_default-clause-ends : goal.returns-in_default-clause-ends
+returns-in_default-clause-ends g c =
     let did = c.command-status.ensures.answer in (
       did.0,
       did.1,
       Lost _ c.send.new.self.left.items _ did.0
-          (All-map (λ word. word ≢ codes "flash") string_bytes _ (rw c.as_slice.ensures.value at (c.is_flash_among.ensures (search rules))))
+          (All-map changes_none string_bytes _ (rw c.as_slice.ensures.value at (c.changes_chip.ensures (search rules))))
           (is_left _ _ _ _ _ _ _ _ c.requires.left c.send.ensures.kept) (search rules) (search rules) did.2,
     )
 
-pub returns-in-Err : goal.returns-in-Err
-returns-in-Err g c =
+pub returns-in-Err-clause-ends : goal.returns-in-Err-clause-ends
+returns-in-Err-clause-ends g c =
     let did = c.command-status.ensures.answer in (
       did.0,
       did.1,
       Unprinted _ c.send.new.self.left.items _ did.0
-          (All-map (λ word. word ≢ codes "flash") string_bytes _ (rw c.as_slice.ensures.value at (c.is_flash_among.ensures (search rules))))
+          (All-map changes_none string_bytes _ (rw c.as_slice.ensures.value at (c.changes_chip.ensures (search rules))))
           (is_left _ _ _ _ _ _ _ _ c.requires.left c.send.ensures.kept) (search rules)
           (at_zero (λ s. g.E.ByteOut.held s.out) (λ s. g.E.ByteOut.count s.out) c.command-status.ensures.quiet (search rules) did.2)
           (c.refuse.ensures.status, told_from (λ s. g.E.ByteOut.held s.out) (λ s. g.E.ByteOut.count s.out) c.refuse.new.err _ (c.command-status.ensures.quiet (search rules)) c.refuse.ensures.told),

@@ -9,11 +9,11 @@ pub(crate) const TOPICS: &[Topic] = &[
     (
         "usage",
         "A value isn't of its form, or options don't go together. Give exactly one of\n\
-         --sfdp, --uniform and --sheet, and --bits only with --sfdp; of a job exactly\n\
-         one of --hex and --bin, of `erase` either --all or names of regions. Write\n\
-         numbers only in digits, and --status as six hexadecimal digits. The command's\n\
-         --help has each form. Of explain: it has nothing on these words; without words\n\
-         it lists what you can ask.",
+         --sfdp, --uniform and --sheet, and --bits only with --sfdp; of a job one --hex\n\
+         or --bin at least, of `erase` either --all or names of regions. Write numbers\n\
+         only in digits, and --status as six hexadecimal digits. The command's --help has\n\
+         each form. Of explain: it has nothing on these words; without words it lists\n\
+         what you can ask.",
     ),
     (
         "file hex",
@@ -188,8 +188,9 @@ pub(crate) const TOPICS: &[Topic] = &[
         "The raw image hasn't as many bytes as the chip or, where a name stands before\n\
          the `=` of --bin, as that region: first comes how many it has. It was cut on\n\
          its way, or it is another file. If it is only a part, name the address of its\n\
-         first byte, five to eight hexadecimal digits: --bin ADDRESS=FILE. If it is\n\
-         Intel HEX, give it as --hex. The output is as it was, and so is the chip.",
+         first byte, five to eight hexadecimal digits: --bin ADDRESS=FILE. Where a --bin\n\
+         of several files has no `=`, these are the bytes of all of them. If it is Intel\n\
+         HEX, give it as --hex. The output is as it was, and so is the chip.",
     ),
     (
         "bin size",
@@ -203,6 +204,14 @@ pub(crate) const TOPICS: &[Topic] = &[
          is no layout: give it by --layout. Spell the name as the layout does. An\n\
          address there has five to eight hexadecimal digits, without 0x. The output is\n\
          as it was, and so is the chip.",
+    ),
+    (
+        "conflict at",
+        "Two files of the image give this address of it different bytes; higher ones may\n\
+         differ too. Is one of the files an older version? Is its address wrong: --base,\n\
+         or what is before the `=` of --bin? Does it fill the place of the other file, as\n\
+         with FF? Then leave these bytes out of it. The output is as it was, and so is\n\
+         the chip.",
     ),
     (
         "empty region",
@@ -219,7 +228,8 @@ pub(crate) const TOPICS: &[Topic] = &[
          in the order of the names. Was the file cut on its way, or made for another\n\
          address or region? Correct the image, --base or the names; or say that a part\n\
          is meant: with --partial of `flash` and `compare`, without --whole of the\n\
-         others. The chip is as it was.",
+         others. Of `erase`: the region has to be all on the chip; correct the layout or\n\
+         the names. The chip is as it was.",
     ),
     (
         "beyond",

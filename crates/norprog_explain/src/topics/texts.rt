@@ -47,7 +47,7 @@ pub(crate) const TOPICS: &[Topic] = &[
     (
         "hex 8",
         "This line of the HEX file comes after the end record. Two files were joined, or\n\
-         text was added. Make one image of them, with one end record.",
+         text was added. Give each file by a --hex of its own, or take the text out.",
     ),
     (
         "hex",

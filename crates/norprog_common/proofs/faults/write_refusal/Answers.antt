@@ -59,3 +59,8 @@ pub returns-in-BinRegion-clause-bytes : goal.returns-in-BinRegion-clause-bytes
 returns-in-BinRegion-clause-bytes g c =
     subst (λ (refusal : Refusal). Writes (g.E.ByteOut.held c.args.err.now) (g.E.ByteOut.held c.put_line-in-BinRegion.new.err) c.put_line-in-BinRegion.result (printed refusal))
     (sym c.in-BinRegion.is) c.put_line-in-BinRegion.ensures.bytes
+
+pub returns-in-Conflict-clause-bytes : goal.returns-in-Conflict-clause-bytes
+returns-in-Conflict-clause-bytes g c =
+    subst (λ (refusal : Refusal). Writes (g.E.ByteOut.held c.args.err.now) (g.E.ByteOut.held c.put_line-in-Conflict.new.err) c.put_line-in-Conflict.result (printed refusal))
+    (sym c.in-Conflict.is) c.put_line-in-Conflict.ensures.bytes
