@@ -10,7 +10,7 @@ const FOLDERS: [&str; 2] = ["../share/norprog/sheets", "sheets"];
 
 /// Puts the path of an installed sheet in place of its name, where a value of `--sheet` is one: the
 /// name of its file without `.sheet`, in letters of either case, digits and `-`. A value that names
-/// none stays.
+/// none stays, and so does one that is a file's name too: that file may be a sheet of another chip.
 pub(crate) fn name_sheet(rt: &HostRuntime, words: &mut Vec<String>)
     ensures { NamesSheet words.old.items words.new.items }
 {
@@ -46,7 +46,7 @@ fn named_at(rt: &HostRuntime, words: &[String], index: usize) -> Option<String> 
 
 /// The path of the installed sheet of this name behind a text, if there is one.
 fn installed(rt: &HostRuntime, front: &str, name: &str) -> Option<String> {
-    if !is_name(name) {
+    if !is_name(name) || fs::exists(rt, name).unwrap_or(true) {
         return None;
     }
     let name = name.to_ascii_lowercase(rt.alloc()).ok()?;
