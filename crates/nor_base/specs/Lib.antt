@@ -2,6 +2,7 @@ pub mod Sample
 pub mod Step
 pub mod Script
 pub mod Device
+pub mod Wire
 pub mod Parameters
 pub mod Instructions
 pub mod Accepted

@@ -24,7 +24,7 @@ use Rattle.nor_check.specs.declared.verdict.Why.{Why}
 use Rattle.nor_check.specs.declared.verdict.Why.TheVariants as why
 use Rattle.nor_check.specs.Order.{is_before}
 use Rattle.nor_check.specs.Outcome.{first_difference, at_difference, outcome_from}
-use Rattle.nor_check.specs.Witness.{is_status_read, in_a_row, reads_from, reads_before, Witnesses, EachNoIsShown, FewReads}
+use Rattle.nor_check.specs.Witness.{is_status_read, in_a_row, reads_from, reads_before, Witnesses, EachNoIsShown, FewReads, even}
 use Rattle.nor_check.specs.Chips.{Kind, Chips, one_like, latch_of, MayBeLeft, one_of, some_left, least_able, all_ready, begun}
 use Rattle.nor_check.specs.Judged.{later, all_taken, all_effect, all_done, all_matched, all_step, judge_on, judged, judged_with, is_other_page}
 use Rattle.nor_check.specs.Pages.{begun_each, judged_each, others, with_page}
@@ -281,7 +281,7 @@ module _ (m : Parameters) (start : Start) (content target : List ℕ) (steps : L
       ]
 
   pub on_page : PollEnds → VerifyKeeps → (n : ℕ) (f : Found m start content target steps j cause) → reads_before j steps < n
-      → Witnesses m start content target steps j cause n (j == length steps) f.page
+      → Witnesses m start content target steps j cause (even n (j == length steps) f.page)
   on_page ends quiet n f low =
       let k : Kind = record { meaning = m; start = start; page = f.page } in
       let w = all_ready k content in

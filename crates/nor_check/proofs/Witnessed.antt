@@ -21,7 +21,7 @@ use Rattle.nor_check.specs.Chips.{Kind, Chips, Together, one_like, last_settled,
 use Rattle.nor_check.specs.Judged.{later, StepsAll, all_step, judge_on, judged, is_other_page}
 use Rattle.nor_check.specs.Pages.{IsOneOf, IsRefusedBy, IsToldBy, IsJudgedBy, StepsEach, begun_each, each_step, first_of, is_sooner, joined, judged_each, others, page_by_page, with_page}
 use Rattle.nor_check.specs.Fed.{Fed, IsShown, IsShownBy, after_steps, reads_after, reached, to_come, verdict_at}
-use Rattle.nor_check.specs.Witness.{in_a_row, is_status_read, reads_from, reads_before, Witnesses}
+use Rattle.nor_check.specs.Witness.{in_a_row, is_status_read, reads_from, reads_before, Witnesses, even}
 use Rattle.nor_check.proofs.Shows.{on_page}
 
 -- one of the rest of some is one of them
@@ -150,14 +150,14 @@ module _ (m : Parameters) (start : Start) (content target : List ℕ) (steps : L
 pub begins_shown : (m : Parameters) (start : Start) (content target : List ℕ) (steps : List Step) (step : ℕ) (cause : Why) (own page reads n : ℕ) → PollEnds → VerifyKeeps
     → (ts : List Together) → ts ≡ begun_each m start content
     → IsShown (record { target = target; number = 0; chips = ts; stopped = None; page = own; reads = 0 }) steps step cause page reads → reads < n
-    → Witnesses m start content target steps step cause n (step == length steps) page
+    → Witnesses m start content target steps step cause (even n (step == length steps) page)
 unfolding IsShown Shows
 begins_shown m start content target steps step cause own page reads n ends quiet ts is h low =
     let same : h.0 ≡ step = omega (arith, h.1) in
     let of = h.2 in
     let shows = among_all m start content target steps h.0 cause page of.these (subst (IsOneOf of.these) is of.among) of.its_page of.so in
     let few : reads_before h.0 steps < n = omega (arith, h.3, low) in
-    subst (λ j. Witnesses m start content target steps j cause n (j == length steps) page) same
+    subst (λ j. Witnesses m start content target steps j cause (even n (j == length steps) page)) same
     (on_page m start content target steps h.0 cause ends quiet n (record { page = page; may = shows.0; so = shows.1 }) few)
 
 -- the number of status reads is that of those right before

@@ -15,11 +15,19 @@ use Rattle.nor_check.specs.Worst.{IsWorst}
 abbrev pub even_chip : Parameters → Start → ℕ → ℕ → Bool → ℕ → Setting
 even_chip m start many n keeps page = record { meaning = m; start = start; page = page; busy = replicate many n; keeps = keeps }
 
+-- how such a chip is: how often each busy time says busy, whether a poll leaves it, and its page
+pub record Even : Type 0 where
+  pub each_busy : ℕ
+  pub keeps : Bool
+  pub page : ℕ
+
+abbrev pub even : ℕ → Bool → ℕ → Even
+even n keeps page = record { each_busy = n; keeps = keeps; page = page }
+
 -- on the chip of these numbers the steps go wrong at this step, so; as many busy times as steps are enough
-pub record Witnesses (m : Parameters) (start : Start) (have want : List ℕ) (steps : List Step) (step : ℕ) (why : Why)
-    (n : ℕ) (keeps : Bool) (page : ℕ) : Type 0 where
-  pub may : may_page m page ≡ true
-  pub shows : (many : ℕ) → length steps ≤ many → outcome (even_chip m start many n keeps page) have want steps ≡ No step why
+pub record Witnesses (m : Parameters) (start : Start) (have want : List ℕ) (steps : List Step) (step : ℕ) (why : Why) (e : Even) : Type 0 where
+  pub may : may_page m e.page ≡ true
+  pub shows : (many : ℕ) → length steps ≤ many → outcome (even_chip m start many e.each_busy e.keeps e.page) have want steps ≡ No step why
 
 -- a status read that is sent, and not polled
 abbrev pub is_status_read : Step → Bool
@@ -45,7 +53,7 @@ reads_before n steps = reads_from 0 n steps
 abbrev pub EachNoIsShown : Type 0
 EachNoIsShown = (m : Parameters) (start : Start) (have want : List ℕ) (steps : List Step) (step : ℕ) (why : Why)
     → IsWorst m start have want steps (No step why)
-    → (page : ℕ) × ((n : ℕ) → reads_before step steps < n → Witnesses m start have want steps step why n (step == length steps) page)
+    → (page : ℕ) × ((n : ℕ) → reads_before step steps < n → Witnesses m start have want steps step why (even n (step == length steps) page))
 
 -- they are no more than the steps before
 abbrev pub FewReads : Type 0

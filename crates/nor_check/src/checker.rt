@@ -10,7 +10,7 @@ ghost use Rattle.nor_check.specs.declared.verdict.Verdict.TheVariants.{Yes, No};
 ghost use Rattle.nor_check.specs.declared.verdict.Why.{Why};
 ghost use Rattle.nor_check.specs.Fed.{IsShown, reads_after, to_come, verdict_at};
 ghost use Rattle.nor_check.specs.View.{step_of};
-ghost use Rattle.nor_check.specs.Witness.{Witnesses, reads_before};
+ghost use Rattle.nor_check.specs.Witness.{Witnesses, reads_before, even};
 ghost use Rattle.nor_check.specs.Worst.{IsWorst};
 
 use crate::pages::AllPages;
@@ -79,8 +79,8 @@ impl<'a> StepChecker<'a> {
             ↔ DoesTaskOnEvery meaning.now start have.items want.now steps }
         ensures shown { (steps : List Step) (step : ℕ) (why : Why) (page reads : ℕ)
             → IsShown result steps step why page reads
-            → (n : ℕ) → reads < n → Witnesses meaning.now start have.items want.now steps step why n
-            (step == length steps) page }
+            → (n : ℕ) → reads < n → Witnesses meaning.now start have.items want.now steps step why
+            (even n (step == length steps) page) }
         ensures counted { (steps : List Step) (step : ℕ) (why : Why) (page reads : ℕ)
             → IsShown result steps step why page reads
             → reads ≡ reads_before step steps }
@@ -286,8 +286,8 @@ pub fn check_shown(
         (λ answer. IsWorst meaning.now start.now have.now want.now steps.now answer.0) }
     ensures shown { IfOk result (λ answer. (step : ℕ) (why : Why) → answer.0 ≡ No step why → (n : ℕ)
         → answer.1.reads < n
-        → Witnesses meaning.now start.now have.now want.now steps.now step why n
-        (step == length steps.now) answer.1.page) }
+        → Witnesses meaning.now start.now have.now want.now steps.now step why
+        (even n (step == length steps.now) answer.1.page)) }
 {
     let array = Vec::from_slice(alloc, have)?;
     let mut checker = StepChecker::new(alloc, meaning, *start, array, want);

@@ -3,4 +3,3 @@ mod DoableLemmas
 mod LengthLemmas
 mod BegunLemmas
 mod StepsLemmas
-mod ShownLemmas

@@ -6,6 +6,7 @@ use Rattle.nor_base.specs.Device.{Ahead}
 use Rattle.nor_base.specs.Parameters.{Parameters}
 use Rattle.nor_base.specs.Planned.{ArePlanned, IsWorkable}
 use Rattle.nor_base.specs.Step.{step_clocks}
+use Rattle.nor_base.specs.Wire.{wire}
 use Rattle.nor_serprog.specs.declared.halt.Halt.{Halt}
 use Rattle.nor_serprog.specs.declared.limits.Limits.{Limits}
 use Rattle.nor_serprog.specs.Done.{IsDoable, HasDoneAll}
@@ -13,23 +14,23 @@ use Rattle.nor_serprog.specs.Carried.{operation_clocks}
 use Rattle.nor_serprog.specs.Row.{HasHalted}
 use Rattle.nor_serprog.specs.Steps.{IsFirstNotCarried}
 use Rattle.nor_loop.specs.Laws.{ReadTwice}
-use Rattle.nor_flasher.specs.Apart.{ClosesApart, BreaksApart}
+use Rattle.nor_flasher.specs.Apart.{ClosesApart, BreaksApart, chip_read}
 
 -- a device read a content twice, and later did planned work on it
 abbrev pub Closes : Type 0
 Closes = (h0 h1 h2 h3 : Option (List ℕ)) (a0 a1 a2 a3 : Ahead) (limits : Limits) (turns : ℕ) (m : Parameters) (start : Start) (verify : Bool)
     (content : List ℕ) (goal : List ℕ → List ℕ) (steps : List Step)
     → IsWorkable m start content (goal content) → ArePlanned m start verify content (goal content) steps
-    → ReadTwice h0 h1 a0 a1 m start content → HasDoneAll h2 h3 a2 a3 limits turns steps
-    → ClosesApart h0 h1 a0 a1 h2 h3 a2 a3 m start content goal steps
+    → ReadTwice (wire h0 a0) (wire h1 a1) m start content → HasDoneAll (wire h2 a2) (wire h3 a3) limits turns steps
+    → ClosesApart (wire h0 a0) (wire h1 a1) (wire h2 a2) (wire h3 a3) (chip_read m start content) goal steps
 
 -- or it halted in that work, which was planned for one lane
 abbrev pub Breaks : Type 0
 Breaks = (h0 h1 h2 h3 : Option (List ℕ)) (a0 a1 a2 a3 : Ahead) (limits : Limits) (turns : ℕ) (m : Parameters) (start : Start) (verify : Bool)
     (content goal : List ℕ) (steps : List Step) (halt : Halt)
     → start.quad ≡ false → IsWorkable m start content goal → ArePlanned m start verify content goal steps
-    → ReadTwice h0 h1 a0 a1 m start content → (halted : HasHalted h2 h3 a2 a3 limits turns steps halt)
-    → BreaksApart h0 h1 a0 a1 h2 a2 m start content goal steps halt.step (halted.at ∷ halted.beyond)
+    → ReadTwice (wire h0 a0) (wire h1 a1) m start content → (halted : HasHalted (wire h2 a2) (wire h3 a3) limits turns steps halt)
+    → BreaksApart (wire h0 a0) (wire h1 a1) (wire h2 a2) (chip_read m start content) goal steps halt.step (halted.at ∷ halted.beyond)
 
 -- each step of planned work can be handed to a device
 abbrev pub PlannedIsDoable : Type 0

@@ -1,14 +1,14 @@
 //! Steps done by a device.
 
-ghost use Rattle.std.specs.Prelude.{◌↔◌, length, All, IsTrue};
+ghost use Rattle.std.specs.Prelude.{◌↔◌, All, IsTrue};
 ghost use Rattle.std.specs.Prelude.{MatchResult};
 ghost use Rattle.nor_serprog.specs.declared.fault.Fault.TheVariants.{Read, Write};
 ghost use Rattle.nor_serprog.specs.Done.{IsDoable, HasDoneAll};
-ghost use Rattle.nor_progress.specs.Text.{Reports};
 ghost use Rattle.nor_serprog.specs.Row.{HasHalted, CountsHalt};
+ghost use Rattle.nor_base.specs.Wire.{wire};
 
+use crate::progress::Progress;
 use nor_base::{ByteIn, ByteOut, Step};
-use nor_progress::Progress;
 use nor_serprog::{Halt, Limits, do_row, is_doable, row_length, rows};
 
 /// Whether [`do_steps`] takes these steps: each is one that [`do_step`](nor_serprog::do_step)
@@ -34,18 +34,13 @@ pub fn do_steps<R: ByteIn, W: ByteOut, P: ByteOut>(
 ) -> Result<(), Halt>
     requires form { All IsDoable steps.now }
     ensures done { MatchResult result
-        (λ _. HasDoneAll (W.held to.old) (W.held to.new) (R.ahead from.old) (R.ahead from.new)
+        (λ _. HasDoneAll (wire (W.held to.old) (R.ahead from.old))
+        (wire (W.held to.new) (R.ahead from.new))
         limits.now turns steps.now)
-        (λ halt. HasHalted (W.held to.old) (W.held to.new) (R.ahead from.old) (R.ahead from.new)
+        (λ halt. HasHalted (wire (W.held to.old) (R.ahead from.old))
+        (wire (W.held to.new) (R.ahead from.new))
         limits.now turns steps.now
         halt) }
-    ensures shown { MatchResult result
-        (λ _. Reports steps.now (length steps.now) (P.held progress.old) (P.held progress.new)
-        (P.count progress.old)
-        (P.count progress.new))
-        (λ halt. Reports steps.now halt.step (P.held progress.old) (P.held progress.new)
-        (P.count progress.old)
-        (P.count progress.new)) }
     ensures counts { CountsHalt Read (R.count from.old) (R.count from.new) result
         × CountsHalt Write (W.count to.old) (W.count to.new) result }
 {

@@ -12,3 +12,13 @@ mod FaultLemmas
 mod AcceptLemmas
 mod LawLemmas
 mod UnionLemmas
+mod WrittenSegmentLemmas
+mod RowLemmas
+mod DigitLemmas
+mod LineLemmas
+mod WrittenRecordLemmas
+mod GiveLemmas
+mod GoodLemmas
+mod ReadLemmas
+mod WriteLemmas
+mod ConvertLemmas

@@ -6,3 +6,7 @@ pub mod Pieces
 pub mod Segments
 pub mod Steps
 pub mod Union
+pub mod WrittenRecords
+pub mod WrittenSegments
+pub mod Laws
+pub mod Converted

@@ -22,6 +22,7 @@ use Rattle.nor_script.proofs.TextLaws.{begins_with, refused_text, refused_header
 use Rattle.nor_listing.specs.declared.stream.Stop.{Stop}
 use Rattle.nor_listing.specs.declared.stream.Stop.TheVariants.{Script, Out}
 use Rattle.nor_listing.specs.Stream.{AreFirst, PutsLine, ListsOf, Lists}
+use Rattle.nor_base.specs.Wire.{wire}
 
 -- the address mode after some steps
 abbrev pub mode_upto : Parameters → Bool → List Step → Bool
@@ -99,7 +100,7 @@ first_less text above step (inr begins) = inr (record {
 -- why it stopped, and what was put of which text
 module _ (m : Parameters) (first : Bool) (before : Ahead) where
   -- the first line is cut
-  pub lists_none : (a w : Option (List ℕ)) (failed : Failed) → Cuts a w (chip_line m first) → Lists m first before before a w (Err (Out failed))
+  pub lists_none : (a w : Option (List ℕ)) (failed : Failed) → Cuts a w (chip_line m first) → Lists m first (wire a before) (wire w before) (Err (Out failed))
   lists_none a w failed cut =
       let any = any_text before (reading before []) [] (reads_none (reading before [])) in (
         any.0,
@@ -130,7 +131,7 @@ module _ (m : Parameters) (first : Bool) (before : Ahead) where
 
   -- the header couldn't be read
   pub lists_header : (after : Ahead) (a w : Option (List ℕ)) (fault : ReadFault) → Begins before after (Err fault) → Appends a w (chip_line m first)
-      → Lists m first before after a w (Err (Script fault))
+      → Lists m first (wire a before) (wire w after) (Err (Script fault))
   lists_header after a w (read.Device failed) p put =
       let any = any_text before (reading after p.0) [] p.1 in
       (any.0, any.1, record { bytes = unended_listing m first []; are = record { steps = []; are = inl refl; lines = refl }; put = subst (Appends a w) (unended_none m first) put })
@@ -148,7 +149,7 @@ module _ (m : Parameters) (first : Bool) (before : Ahead) where
 
   -- the next step couldn't be read
   pub lists_fault : (b c : Reading) (above : List Step) (steps : ℕ) (step : Step) (a w : Option (List ℕ)) (fault : ReadFault) → HasRead (reading before []) b above
-      → steps ≡ length above → Advances b c steps step (Err fault) → Appends a w (unended_listing m first above) → Lists m first before c.ahead a w (Err (Script fault))
+      → steps ≡ length above → Advances b c steps step (Err fault) → Appends a w (unended_listing m first above) → Lists m first (wire a before) (wire w c.ahead) (Err (Script fault))
   lists_fault b c above steps step a w (read.Device failed) p number q put =
       let of = begins_with before c above (has_still (reading before []) b c above p q) in
       (of.0, of.1, record { bytes = unended_listing m first above; are = record { steps = above; are = inr of.2; lines = refl }; put = put })
@@ -158,14 +159,14 @@ module _ (m : Parameters) (first : Bool) (before : Ahead) where
 
   -- no memory for a step
   pub lists_memory : (c : Reading) (above : List Step) (step : Step) (a w : Option (List ℕ)) → HasRead (reading before []) c (above ++ step ∷ [])
-      → Appends a w (unended_listing m first above) → Lists m first before c.ahead a w (Err (Script (read.Script Memory)))
+      → Appends a w (unended_listing m first above) → Lists m first (wire a before) (wire w c.ahead) (Err (Script (read.Script Memory)))
   lists_memory c above step a w p put =
       let of = begins_with before c (above ++ step ∷ []) p in
       (of.0, of.1, record { bytes = unended_listing m first above; are = record { steps = above; are = first_less of.0 above step (inr of.2); lines = refl }; put = put })
 
   -- a step's line is cut
   pub lists_cut : (c : Reading) (above : List Step) (a w : Option (List ℕ)) (failed : Failed) → HasRead (reading before []) c above → Cuts a w (unended_listing m first above)
-      → Lists m first before c.ahead a w (Err (Out failed))
+      → Lists m first (wire a before) (wire w c.ahead) (Err (Out failed))
   lists_cut c above a w failed p put =
       let of = begins_with before c above p in
       (of.0, of.1, record { bytes = unended_listing m first above; are = inr (record { steps = above; are = inr of.2; lines = refl }); put = put })
@@ -173,7 +174,7 @@ module _ (m : Parameters) (first : Bool) (before : Ahead) where
   -- the end
   pub lists_all : (b c : Reading) (above : List Step) (steps number : ℕ) (step : Step) (a w v : Option (List ℕ)) → HasRead (reading before []) b above
       → steps ≡ length above → number ≡ length above → Advances b c steps step (Ok false) → Appends a w (unended_listing m first above) → Appends w v (end_line number)
-      → Lists m first before c.ahead a v (Ok tt)
+      → Lists m first (wire a before) (wire v c.ahead) (Ok tt)
   lists_all b c above steps number step a w v p is counted q put end =
       let of = script_of before b c above steps step p is q in (
         of.0,
@@ -187,7 +188,7 @@ module _ (m : Parameters) (first : Bool) (before : Ahead) where
 
   pub lists_end_cut : (b c : Reading) (above : List Step) (steps number : ℕ) (step : Step) (a w v : Option (List ℕ)) (failed : Failed) → HasRead (reading before []) b above
       → steps ≡ length above → number ≡ length above → Advances b c steps step (Ok false) → Appends a w (unended_listing m first above) → Cuts w v (end_line number)
-      → Lists m first before c.ahead a v (Err (Out failed))
+      → Lists m first (wire a before) (wire v c.ahead) (Err (Out failed))
   lists_end_cut b c above steps number step a w v failed p is counted q put end =
       let of = script_of before b c above steps step p is q in (
         of.0,
@@ -202,12 +203,12 @@ module _ (m : Parameters) (first : Bool) (before : Ahead) where
   -- a step's line isn't put
   pub lists_step : (b c : Reading) (above : List Step) (step shown : Step) (n : ℕ) (mode4 : Bool) (a w v : Option (List ℕ)) (stop : Stop)
       → HasRead (reading before []) b above → Reads b c (closed (step_line step)) × IsStep step → shown ≡ step → n ≡ length above → mode4 ≡ mode_upto m first above
-      → Appends a w (unended_listing m first above) → PutsLine {T = Bool} w v (Err stop) (line m n mode4 shown) → Lists m first before c.ahead a v (Err stop)
+      → Appends a w (unended_listing m first above) → PutsLine {T = Bool} w v (Err stop) (line m n mode4 shown) → Lists m first (wire a before) (wire v c.ahead) (Err stop)
   lists_step b c above step shown n mode4 a w v (Out failed) p q is number mode put cut =
       lists_cut c (above ++ step ∷ []) a v failed (has_more (reading before []) b c above step p q.0 q.1)
       (line_cut m first above step shown n mode4 a w v is number mode put cut)
   lists_step b c above step shown n mode4 a w v (Script why) p q is number mode put none =
-      subst (λ (f : ReadFault). Lists m first before c.ahead a v (Err (Script f))) (sym none.0)
+      subst (λ (f : ReadFault). Lists m first (wire a before) (wire v c.ahead) (Err (Script f))) (sym none.0)
       (lists_memory c above step a v (has_more (reading before []) b c above step p q.0 q.1)
       (subst (λ o. Appends a o (unended_listing m first above)) (sym none.1) put))
 

@@ -13,6 +13,7 @@ use Rattle.nor_script.specs.declared.fault.ScriptFault.{ScriptFault}
 use Rattle.nor_script.specs.declared.fault.ScriptFault.TheVariants as script
 use Rattle.nor_listing.specs.declared.stream.Stop.{Stop}
 use Rattle.nor_listing.specs.declared.stream.Stop.TheVariants as stop
+use Rattle.nor_base.specs.Wire.{Wire}
 
 -- the first steps of a text: none, or those whose lines stand behind its header, from the first on
 abbrev pub AreFirst : List ℕ → List Step → Type 0
@@ -61,8 +62,8 @@ ListsOf m first text before after (Err (stop.Script (read.Device failed))) = Put
 ListsOf m first text before after (Err (stop.Script (read.Script script.Memory))) = PutsSome (AreFirstLines m first text) before after
 ListsOf m first text before after (Err (stop.Script (read.Script why))) = PutsSome (AreAboveFault m first text why) before after
 
-abbrev pub Lists : Parameters → Bool → Ahead → Ahead → Option (List ℕ) → Option (List ℕ) → Result (Unit {0}) Stop → Type 0
-Lists m first ahead rest before after result = HadText ahead rest (λ text. ListsOf m first text before after result)
+abbrev pub Lists : Parameters → Bool → Wire → Wire → Result (Unit {0}) Stop → Type 0
+Lists m first ahead rest result = HadText ahead.ahead rest.ahead (λ text. ListsOf m first text ahead.held rest.held result)
 
 -- a line was appended; or a proper prefix of it, or nothing where memory was refused
 abbrev pub PutsLine : {T : Type 0} → Option (List ℕ) → Option (List ℕ) → Result T Stop → List ℕ → Type 0

@@ -7,6 +7,7 @@ ghost use Rattle.nor_script.specs.declared.fault.ScriptFault.TheVariants.{Memory
 ghost use Rattle.nor_script.specs.declared.fault.ReadFault.TheVariants as read;
 ghost use Rattle.nor_listing.specs.Stream.{Lists, PutsLine, CountsStop, CountsOut};
 ghost use Rattle.nor_listing.specs.declared.stream.Stop.TheVariants.{Script, Out};
+ghost use Rattle.nor_base.specs.Wire.{wire};
 
 use crate::line::write_line;
 use crate::writer::{begin, finish};
@@ -52,8 +53,8 @@ pub fn list_steps<R: ByteIn, W: ByteOut>(
     script: &mut R,
     out: &mut W,
 ) -> Result<(), Stop>
-    ensures lists { Lists meaning.now first (R.ahead script.old) (R.ahead script.new)
-        (W.held out.old) (W.held out.new) result }
+    ensures lists { Lists meaning.now first (wire (W.held out.old) (R.ahead script.old))
+        (wire (W.held out.new) (R.ahead script.new)) result }
     ensures source { CountsStop (R.count script.old) (R.count script.new) result }
     ensures count { CountsOut (W.count out.old) (W.count out.new) result }
 {

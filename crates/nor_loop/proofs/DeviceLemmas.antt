@@ -10,6 +10,7 @@ use Rattle.nor_base.specs.declared.step.Step.TheVariants.{Send, Poll, Verify}
 use Rattle.nor_base.specs.Device.{Ahead, Unknown, Finite, Endless, Gives}
 use Rattle.nor_base.proofs.ListLaws.{all_append}
 use Rattle.nor_base.proofs.DeviceLaws.{Appends-none, Appends-append, Gives-append}
+use Rattle.nor_base.specs.Wire.{wire}
 use Rattle.nor_serprog.specs.declared.limits.Limits.{Limits}
 use Rattle.nor_base.specs.Run.{DoesTaskOnEvery}
 use Rattle.nor_serprog.specs.declared.halt.Halt.{Halt}
@@ -37,10 +38,10 @@ gives_none Unknown = tt
 gives_none (Finite bytes) = refl
 gives_none (Endless f) = (λ k fits. absurd (omega arith), λ k. let same : k ≡ 0 + k = omega arith in ap f same)
 
-pub logged_none : (held : Option (List ℕ)) (ahead : Ahead) → HasLogged held held ahead ahead []
+pub logged_none : (held : Option (List ℕ)) (ahead : Ahead) → HasLogged (wire held ahead) (wire held ahead) []
 logged_none held ahead = record { short = tt; talked = record { out = Appends-none held; back = gives_none ahead } }
 
-pub logged_both : (h i j : Option (List ℕ)) (a b c : Ahead) (xs ys : List Operation) → HasLogged h i a b xs → HasLogged i j b c ys → HasLogged h j a c (xs ++ ys)
+pub logged_both : (h i j : Option (List ℕ)) (a b c : Ahead) (xs ys : List Operation) → HasLogged (wire h a) (wire i b) xs → HasLogged (wire i b) (wire j c) ys → HasLogged (wire h a) (wire j c) (xs ++ ys)
 logged_both h i j a b c xs ys p q = record {
   short = all_append IsShort xs ys p.short q.short;
   talked = record {
@@ -53,14 +54,14 @@ logged_both h i j a b c xs ys p q = record {
 
 record Logged (h i : Option (List ℕ)) (a b : Ahead) (Is : List Operation → Type 0) : Type 0 where
   log : List Operation
-  wire : HasLogged h i a b log
+  wire : HasLogged (wire h a) (wire i b) log
   is : Is log
 
 statuses_short : (statuses : List ℕ) → AllByRecursion IsShort (map status_read statuses)
 statuses_short [] = tt
 statuses_short (x ∷ xs) = ((omega arith, omega arith), statuses_short xs)
 
-statuses_logged : (h i : Option (List ℕ)) (a b : Ahead) (statuses : List ℕ) → follow.HasRead h i a b statuses → HasLogged h i a b (map status_read statuses)
+statuses_logged : (h i : Option (List ℕ)) (a b : Ahead) (statuses : List ℕ) → follow.HasRead (wire h a) (wire i b) statuses → HasLogged (wire h a) (wire i b) (map status_read statuses)
 statuses_logged h i a b statuses read = record {
   short = statuses_short statuses;
   talked = record {
@@ -70,7 +71,7 @@ statuses_logged h i a b statuses read = record {
 }
 
 operated : (h i : Option (List ℕ)) (a b : Ahead) (limits : Limits) (symbols want : List ℕ) (Holds : Operation → Type 0)
-    → ((o : Operation) → o.got ≡ want → Holds o) → HasOperated h i a b limits symbols want → Logged h i a b (IsOne symbols Holds)
+    → ((o : Operation) → o.got ≡ want → Holds o) → HasOperated (wire h a) (wire i b) limits symbols want → Logged h i a b (IsOne symbols Holds)
 operated h i a b limits symbols want Holds holds did =
     let o : Operation = record { sent = did.sent; got = want } in
     let few_sent = did.spelled.few_sent in
@@ -88,7 +89,7 @@ operated h i a b limits symbols want Holds holds did =
       is = (o, sym did.spelled.spelled, holds o refl, refl);
     }
 
-done_logged : (h i : Option (List ℕ)) (a b : Ahead) (limits : Limits) (turns : ℕ) (x : Step) → HasDone h i a b limits turns x → Logged h i a b (IsLogOf x)
+done_logged : (h i : Option (List ℕ)) (a b : Ahead) (limits : Limits) (turns : ℕ) (x : Step) → HasDone (wire h a) (wire i b) limits turns x → Logged h i a b (IsLogOf x)
 done_logged h i a b limits turns (Send symbols) did = operated h i a b limits symbols [] _ (λ o is. is) did
 done_logged h i a b limits turns (Poll symbols) (same, waited) =
     let statuses = waited.busy ++ waited.idle in record {
@@ -98,11 +99,11 @@ done_logged h i a b limits turns (Poll symbols) (same, waited) =
     }
 done_logged h i a b limits turns (Verify symbols expect) did = operated h i a b limits symbols expect _ (λ o is. is) did
 
-all_logged : (h i : Option (List ℕ)) (a b : Ahead) (limits : Limits) (turns : ℕ) (steps : List Step) → HasDoneAll h i a b limits turns steps
+all_logged : (h i : Option (List ℕ)) (a b : Ahead) (limits : Limits) (turns : ℕ) (steps : List Step) → HasDoneAll (wire h a) (wire i b) limits turns steps
     → Logged h i a b (AreLogOf steps)
 all_logged h i a b limits turns [] (held, ahead) = record {
   log = [];
-  wire = subst (λ (j : Option (List ℕ)). HasLogged h j a b []) (sym held) (subst (λ (c : Ahead). HasLogged h h a c []) (sym ahead) (logged_none h a));
+  wire = subst (λ (j : Option (List ℕ)). HasLogged (wire h a) (wire j b) []) (sym held) (subst (λ (c : Ahead). HasLogged (wire h a) (wire h c) []) (sym ahead) (logged_none h a));
   is = refl;
 }
 all_logged h i a b limits turns (x ∷ xs) (j, c, did, more) =
@@ -125,7 +126,7 @@ record StoppedAt (h : Option (List ℕ)) (a : Ahead) (Is : List Operation → Ty
 at_once : (h : Option (List ℕ)) (a : Ahead) (Is : List Operation → Type 0) → Is [] → StoppedAt h a Is
 at_once h a Is is = record { held = h; ahead = a; upto = record { log = []; wire = logged_none h a; is = is } }
 
-statuses_waiting : (h i : Option (List ℕ)) (a b : Ahead) (busy idle : List ℕ) → are_busy busy ≡ true → are_idle idle ≡ true → follow.HasRead h i a b (busy ++ idle)
+statuses_waiting : (h i : Option (List ℕ)) (a b : Ahead) (busy idle : List ℕ) → are_busy busy ≡ true → are_idle idle ≡ true → follow.HasRead (wire h a) (wire i b) (busy ++ idle)
     → StoppedAt h a IsWaiting
 statuses_waiting h i a b busy idle each then_idle read = record {
   held = i;
@@ -137,11 +138,11 @@ statuses_waiting h i a b busy idle each then_idle read = record {
   };
 }
 
-waiting : (h i : Option (List ℕ)) (a b : Ahead) (limits : Limits) (turns : ℕ) (why : Reason) → follow.Waits h i a b (Err why) limits turns
+waiting : (h i : Option (List ℕ)) (a b : Ahead) (limits : Limits) (turns : ℕ) (why : Reason) → follow.Waits (wire h a) (wire i b) (Err why) limits turns
     → StoppedAt h a IsWaiting
 waiting h i a b limits turns reason.Busy (inl stays) =
     statuses_waiting h i a b stays.busy [] stays.each refl
-    (subst (follow.HasRead h i a b) (sym (append-nil stays.busy)) stays.read)
+    (subst (follow.HasRead (wire h a) (wire i b)) (sym (append-nil stays.busy)) stays.read)
 waiting h i a b limits turns reason.Busy (inr again) =
     statuses_waiting h again.held a again.ahead again.busy again.idle again.each again.then_idle again.read
 waiting h i a b limits turns (reason.Exchange fault) stops =
@@ -149,7 +150,7 @@ waiting h i a b limits turns (reason.Exchange fault) stops =
 waiting h i a b limits turns reason.Carried none = absurd none
 waiting h i a b limits turns (reason.Differs place byte) none = absurd none
 
-stopped_logged : (h i : Option (List ℕ)) (a b : Ahead) (limits : Limits) (turns : ℕ) (why : Reason) (x : Step) → HasStopped h i a b limits turns why x
+stopped_logged : (h i : Option (List ℕ)) (a b : Ahead) (limits : Limits) (turns : ℕ) (why : Reason) (x : Step) → HasStopped (wire h a) (wire i b) limits turns why x
     → StoppedAt h a (IsBegun x)
 stopped_logged h i a b limits turns why (Send symbols) did = at_once h a (IsBegun (Send symbols)) refl
 stopped_logged h i a b limits turns why (Poll symbols) (same, stops) =
@@ -171,11 +172,11 @@ record HaltedAt (h : Option (List ℕ)) (a : Ahead) (steps : List Step) (at : �
   held : Option (List ℕ)
   ahead : Ahead
   log : List Operation
-  wire : HasLogged h held a ahead log
+  wire : HasLogged (wire h a) (wire held ahead) log
   begun : AreBegun steps at row log
 
 halt_logged : (h i : Option (List ℕ)) (a b : Ahead) (limits : Limits) (turns : ℕ) (steps : List Step) (halt : Halt)
-    → (halted : HasHalted h i a b limits turns steps halt) → HaltedAt h a steps halt.step (halted.at ∷ halted.beyond)
+    → (halted : HasHalted (wire h a) (wire i b) limits turns steps halt) → HaltedAt h a steps halt.step (halted.at ∷ halted.beyond)
 halt_logged h i a b limits turns steps halt halted = by halted.stopped
   where
     before : Logged h halted.held a halted.ahead (AreLogOf halted.done)
@@ -201,8 +202,8 @@ halt_logged h i a b limits turns steps halt halted = by halted.stopped
       };
     }
 
-    by : StopsWithin halted.held i halted.ahead b limits turns halt.why halted.at halted.beyond
-        ⊎ CutsRow halted.held i halted.ahead b limits turns halt.why (halted.at ∷ halted.beyond)
+    by : StopsWithin (wire halted.held halted.ahead) (wire i b) limits turns halt.why halted.at halted.beyond
+        ⊎ CutsRow (wire halted.held halted.ahead) (wire i b) limits turns halt.why (halted.at ∷ halted.beyond)
         → HaltedAt h a steps halt.step (halted.at ∷ halted.beyond)
     by (inl within) = on (stopped_logged halted.held within.held halted.ahead b limits turns halt.why halted.at within.stopped)
     by (inr cut) =
@@ -220,7 +221,7 @@ device_closes does closes shown h i j a b c limits turns m start verify content 
     let joined = append_assoc twice.first twice.again all.log in
     let task : DoesTaskOnEvery m start content (goal content) steps = does m start verify content (goal content) steps able planned in record {
       log = twice.first ++ (twice.again ++ all.log);
-      wire = subst (HasLogged h j a c) joined (logged_both h i j a b c (twice.first ++ twice.again) all.log twice.wire all.wire);
+      wire = subst (HasLogged (wire h a) (wire j c)) joined (logged_both h i j a b c (twice.first ++ twice.again) all.log twice.wire all.wire);
       every = closes m start content goal steps twice.first twice.again all.log twice.reads.tells twice.rereads.tells task all.is;
       some =
           let one = shown m start verify content (goal content) steps twice.first twice.again all.log able planned twice.reads twice.rereads all.is in
@@ -234,7 +235,7 @@ device_breaks breaks h i j a b c limits turns m start verify content goal steps 
       held = at.held;
       ahead = at.ahead;
       log = twice.first ++ (twice.again ++ at.log);
-      wire = subst (HasLogged h at.held a at.ahead) joined (logged_both h i at.held a b at.ahead (twice.first ++ twice.again) at.log twice.wire at.wire);
+      wire = subst (HasLogged (wire h a) (wire at.held at.ahead)) joined (logged_both h i at.held a b at.ahead (twice.first ++ twice.again) at.log twice.wire at.wire);
       every = λ reads. breaks m start verify content goal steps twice.first twice.again at.log halt.step (halted.at ∷ halted.beyond) reads able planned twice.reads
           twice.rereads at.begun;
     }

@@ -9,6 +9,7 @@ use Rattle.nor_base.specs.Instructions.{is_there}
 use Rattle.nor_base.specs.Planned.{ArePlanned, IsWorkable}
 use Rattle.nor_base.specs.Run.{DoesTaskOnEvery}
 use Rattle.nor_base.specs.Device.{Ahead, Finite}
+use Rattle.nor_base.specs.Wire.{Wire, wire}
 use Rattle.nor_serprog.specs.declared.halt.Halt.{Halt}
 use Rattle.nor_serprog.specs.declared.limits.Limits.{Limits}
 use Rattle.nor_serprog.specs.Done.{HasDoneAll}
@@ -111,51 +112,51 @@ LoopMends = (m : Parameters) (start : Start) (dump : List ℕ) (goal : List ℕ 
 -- where writer and reader tell their bytes, they have one log
 abbrev pub OneLog : Type 0
 OneLog = (held_before held_after ahead_before ahead_after : List ℕ) (xs ys : List Operation)
-    → HasLogged (Some held_before) (Some held_after) (Finite ahead_before) (Finite ahead_after) xs
-    → HasLogged (Some held_before) (Some held_after) (Finite ahead_before) (Finite ahead_after) ys → xs ≡ ys
+    → HasLogged (wire (Some held_before) (Finite ahead_before)) (wire (Some held_after) (Finite ahead_after)) xs
+    → HasLogged (wire (Some held_before) (Finite ahead_before)) (wire (Some held_after) (Finite ahead_after)) ys → xs ≡ ys
 
 -- logs of two stretches, one after the other, are one log
 abbrev pub LogsJoin : Type 0
 LogsJoin = (held_before held held_after : Option (List ℕ)) (ahead_before ahead ahead_after : Ahead) (xs ys : List Operation)
-    → HasLogged held_before held ahead_before ahead xs → HasLogged held held_after ahead ahead_after ys
-    → HasLogged held_before held_after ahead_before ahead_after (xs ++ ys)
+    → HasLogged (wire held_before ahead_before) (wire held ahead) xs → HasLogged (wire held ahead) (wire held_after ahead_after) ys
+    → HasLogged (wire held_before ahead_before) (wire held_after ahead_after) (xs ++ ys)
 
 -- what a device did for steps is a log of them, over its wire
 abbrev pub DoneIsLogged : Type 0
 DoneIsLogged = (held_before held_after : Option (List ℕ)) (ahead_before ahead_after : Ahead) (limits : Limits) (turns : ℕ) (steps : List Step)
-    → HasDoneAll held_before held_after ahead_before ahead_after limits turns steps
-    → (log : List Operation) × HasLogged held_before held_after ahead_before ahead_after log × AreLogOf steps log
+    → HasDoneAll (wire held_before ahead_before) (wire held_after ahead_after) limits turns steps
+    → (log : List Operation) × HasLogged (wire held_before ahead_before) (wire held_after ahead_after) log × AreLogOf steps log
 
 -- where it halted, a log of the steps before, and of the reads of a poll that were answered; what went out beyond is no part of it
 abbrev pub HaltIsLogged : Type 0
 HaltIsLogged = (held_before held_after : Option (List ℕ)) (ahead_before ahead_after : Ahead) (limits : Limits) (turns : ℕ) (steps : List Step)
-    (halt : Halt) → (halted : HasHalted held_before held_after ahead_before ahead_after limits turns steps halt)
-    → (held : Option (List ℕ)) × (ahead : Ahead) × (log : List Operation) × HasLogged held_before held ahead_before ahead log
+    (halt : Halt) → (halted : HasHalted (wire held_before ahead_before) (wire held_after ahead_after) limits turns steps halt)
+    → (held : Option (List ℕ)) × (ahead : Ahead) × (log : List Operation) × HasLogged (wire held_before ahead_before) (wire held ahead) log
     × AreBegun steps halt.step (halted.at ∷ halted.beyond) log
 
 -- a device read a content twice
-pub record ReadTwice (held_before held_after : Option (List ℕ)) (ahead_before ahead_after : Ahead) (m : Parameters) (start : Start) (content : List ℕ)
+pub record ReadTwice (before after : Wire) (m : Parameters) (start : Start) (content : List ℕ)
     : Type 0 where
   pub first : List Operation
   pub again : List Operation
   pub reads : IsReading m start content first
   pub rereads : IsReading m start content again
-  pub wire : HasLogged held_before held_after ahead_before ahead_after (first ++ again)
+  pub wire : HasLogged before after (first ++ again)
 
 -- a device read a content twice, and then did planned work on it: the loop is closed
 abbrev pub DeviceCloses : Type 0
 DeviceCloses = (held_before held held_after : Option (List ℕ)) (ahead_before ahead ahead_after : Ahead) (limits : Limits) (turns : ℕ)
     (m : Parameters) (start : Start) (verify : Bool) (content : List ℕ) (goal : List ℕ → List ℕ) (steps : List Step)
     → IsWorkable m start content (goal content) → ArePlanned m start verify content (goal content) steps
-    → ReadTwice held_before held ahead_before ahead m start content
-    → HasDoneAll held held_after ahead ahead_after limits turns steps
-    → ClosesLoop held_before held_after ahead_before ahead_after m start goal
+    → ReadTwice (wire held_before ahead_before) (wire held ahead) m start content
+    → HasDoneAll (wire held ahead) (wire held_after ahead_after) limits turns steps
+    → ClosesLoop (wire held_before ahead_before) (wire held_after ahead_after) m start goal
 
 -- or it halted in that work: the loop is broken off
 abbrev pub DeviceBreaks : Type 0
 DeviceBreaks = (held_before held held_after : Option (List ℕ)) (ahead_before ahead ahead_after : Ahead) (limits : Limits) (turns : ℕ)
     (m : Parameters) (start : Start) (verify : Bool) (content goal : List ℕ) (steps : List Step) (halt : Halt)
     → IsWorkable m start content goal → ArePlanned m start verify content goal steps
-    → ReadTwice held_before held ahead_before ahead m start content
-    → (halted : HasHalted held held_after ahead ahead_after limits turns steps halt)
-    → BreaksLoop held_before ahead_before m start content goal (halted.at ∷ halted.beyond)
+    → ReadTwice (wire held_before ahead_before) (wire held ahead) m start content
+    → (halted : HasHalted (wire held ahead) (wire held_after ahead_after) limits turns steps halt)
+    → BreaksLoop (wire held_before ahead_before) m start content goal (halted.at ∷ halted.beyond)

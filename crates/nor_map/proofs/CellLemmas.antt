@@ -7,7 +7,7 @@ use Rattle.std.proofs.lemmas.Bool.{cases_lt, lt-leb}
 use Rattle.std.specs.Option.{option_map_or}
 use Rattle.std.proofs.lemmas.List.Folds.{list_any_more}
 use Rattle.nor_base.proofs.StretchLaws.{any_at, none_over}
-use Rattle.nor_plan_read.specs.declared.line.PlanLine.{PlanLine}
+use Rattle.nor_outline.specs.declared.line.PlanLine.{PlanLine}
 use Rattle.nor_map.specs.declared.cells.Work.{Work}
 use Rattle.nor_map.specs.Cells.{lies_in, run_of, works, is_worked, some_byte, doubled}
 use Rattle.nor_map.specs.Marks.{touches, MarkedBy}

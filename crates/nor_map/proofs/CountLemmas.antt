@@ -8,7 +8,7 @@ use Rattle.std.proofs.lemmas.Bool.{cases_eq, cases_lt, eq-eqb, lt-leb, ne_eqb, t
 use Rattle.std.proofs.lemmas.Grind.{get_or-set_at}
 use Rattle.std.proofs.lemmas.List.{get_or-set_other, length-set}
 use Rattle.std.proofs.lemmas.List.Sums.{sum_by-cons, fold_more}
-use Rattle.nor_plan_read.specs.declared.line.PlanLine.{PlanLine}
+use Rattle.nor_outline.specs.declared.line.PlanLine.{PlanLine}
 use Rattle.nor_map.specs.declared.cells.Work.TheVariants as work
 use Rattle.nor_map.specs.Cells.{Wanted, bytes_so, is_new, lies_in, new_bytes, run_of, works}
 use Rattle.nor_map.specs.Marks.{CountedBy}

@@ -9,7 +9,7 @@ use Rattle.std.proofs.lemmas.List.Folds.{list_any-append}
 use Rattle.std.proofs.lemmas.List.Sums.{sum_by-append}
 use Rattle.std.proofs.lemmas.List.FromFn.{length-map-range_with_len, get_or-map-range_with_len}
 use Rattle.nor_base.proofs.StretchLaws.{none_over}
-use Rattle.nor_plan_read.specs.declared.line.PlanLine.{PlanLine}
+use Rattle.nor_outline.specs.declared.line.PlanLine.{PlanLine}
 use Rattle.nor_map.specs.declared.cells.Work.{Work}
 use Rattle.nor_map.specs.declared.cells.Work.TheVariants as work
 use Rattle.nor_map.specs.Cells.{Wanted, bytes_so, cell_size, is_new, is_worked, new_bytes, new_in, some_byte, some_bytes, works}

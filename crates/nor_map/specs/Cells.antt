@@ -5,8 +5,8 @@ use Rattle.std.specs.Option.{option_map_or}
 use Rattle.nor_hex.specs.Image.{Pairs, byte_at}
 use Rattle.nor_layout.specs.Chosen.{has}
 use Rattle.nor_layout.specs.declared.chosen.Interval.{Interval}
-use Rattle.nor_plan_read.specs.declared.line.PlanLine.{PlanLine}
-use Rattle.nor_plan_read.specs.declared.line.PlanLine.TheVariants.{Erase, Because, Program}
+use Rattle.nor_outline.specs.declared.line.PlanLine.{PlanLine}
+use Rattle.nor_outline.specs.declared.line.PlanLine.TheVariants.{Erase, Because, Program}
 use Rattle.nor_map.specs.declared.cells.Work.{Work}
 use Rattle.nor_map.specs.declared.cells.Work.TheVariants.{Erased, Programmed}
 

@@ -1,7 +1,7 @@
 -- Values of the marks and the rows, worked out by hand.
 use Rattle.std.specs.Prelude.{◌≡◌, ℕ, Bool, ◌==◌, Some, List, [], ◌∷◌, ◌++◌, map, codes}
 use Rattle.std.specs.List.{range_with_len}
-use Rattle.nor_plan_read.specs.declared.line.PlanLine.TheVariants.{Erase, Because, Program}
+use Rattle.nor_outline.specs.declared.line.PlanLine.TheVariants.{Erase, Because, Program}
 use Rattle.nor_map.specs.declared.state.State.{State}
 use Rattle.nor_map.specs.declared.state.State.TheVariants.{Kept, Erased, Restored, Changed}
 use Rattle.nor_map.specs.Cells.{Wanted, cell_size}

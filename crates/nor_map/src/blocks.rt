@@ -2,7 +2,7 @@
 
 use crate::part::Part;
 use crate::part::Part::{Address, Own, Size};
-use nor_plan_read::PlanLine;
+use nor_outline::PlanLine;
 use std::alloc::AllocError;
 
 /// A block that is erased.

@@ -8,7 +8,7 @@ ghost use Rattle.nor_map.specs.Marks.{CountedBy, MarkedBy};
 ghost use Rattle.nor_map.specs.declared.cells.Work.TheVariants as work;
 
 use crate::wanted::Wanted;
-use nor_plan_read::PlanLine;
+use nor_outline::PlanLine;
 use std::alloc::{AllocError, Global};
 
 /// What a line of a plan does to the bytes that it names.

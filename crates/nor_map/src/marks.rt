@@ -3,7 +3,7 @@
 ghost use Rattle.std.specs.Prelude.{◌≡◌, ℕ, List, ◌<◌, ◌+◌, ◌++◌, ◌^◌, [], count_by};
 ghost use Rattle.std.specs.Prelude.{IfErr, IfOk};
 ghost use Rattle.std.specs.Int.{div_ceil};
-ghost use Rattle.nor_plan_read.specs.declared.line.PlanLine.{PlanLine};
+ghost use Rattle.nor_outline.specs.declared.line.PlanLine.{PlanLine};
 ghost use Rattle.nor_map.specs.Cells.{Wanted as Holds};
 ghost use Rattle.nor_map.specs.Marks.{erases, marks_of, programs, state_at};
 
@@ -12,7 +12,7 @@ use crate::cells::{Work, count_lines, mark_lines, uncounted, unmarked};
 use crate::sizes::cell_size;
 use crate::state::State;
 use crate::wanted::Wanted;
-use nor_plan_read::PlanLine;
+use nor_outline::PlanLine;
 use std::alloc::{AllocError, Global};
 use std::marker::Model;
 

@@ -21,7 +21,7 @@ use Rattle.nor_erase.proofs.Runs.{same_smallest, at_address}
 use Rattle.nor_erase.proofs.Tiling.{IsSame, smallest_same}
 use Rattle.nor_outline.specs.Outline.{reason, reason_at}
 use Rattle.nor_outline.specs.Parts.{MayErase}
-use Rattle.nor_plan_read.specs.declared.line.PlanLine.{PlanLine}
+use Rattle.nor_outline.specs.declared.line.PlanLine.{PlanLine}
 use Rattle.nor_outline.proofs.RangeLemmas.{flat_none}
 
 -- no smallest block lies across an address

@@ -15,7 +15,8 @@ use Rattle.nor_geometry.specs.Plan.{HasPart, Refuses, plan_unit}
 use Rattle.nor_outline.specs.Outline.{unit_plan, IsStretchPlan, RefusesLines}
 use Rattle.nor_outline.specs.Parts.{AreUnitLines, IsPlanned, IsWindowPlan}
 use Rattle.nor_pages.specs.Runs.{IsUnit, unit_start}
-use Rattle.nor_plan_read.specs.declared.line.PlanLine.{PlanLine}
+use Rattle.nor_outline.specs.declared.line.PlanLine.{PlanLine}
+use Rattle.nor_steps.specs.Stretch.{stretch}
 use Rattle.nor_steps.specs.Faults.{lifted_plan}
 use Rattle.nor_steps.specs.Units.{unit_size, work_unit, HasBytes}
 use Rattle.nor_steps.specs.Work.{stretch_units}
@@ -32,7 +33,7 @@ pub record LiesHere (m : Parameters) (by : Strategy) (at count : ℕ) (u : PlanU
   pub high : unit_start u + unit_size m.page u ≤ at + count
   pub fits : at + count ≤ 2 ^ 28
 
-pub lies_here : (m : Parameters) (by : Strategy) (at : ℕ) (have want : List ℕ) (units : List PlanUnit) (k : ℕ) (u : PlanUnit) → IsWindowPlan m by at have want units
+pub lies_here : (m : Parameters) (by : Strategy) (at : ℕ) (have want : List ℕ) (units : List PlanUnit) (k : ℕ) (u : PlanUnit) → IsWindowPlan m by (stretch at have want) units
     → u ≡ get_or units k u → k < length units → LiesHere m by at (length have) u
 lies_here m by at have want units k u p there inside =
     subst (LiesHere m by at (length have)) (sym there)
@@ -56,7 +57,7 @@ abbrev part_from : Parameters → ℕ → List ℕ → PlanUnit → List ℕ
 part_from m at bytes x = slice_range bytes (unit_start x - at) (unit_start x - at + unit_size m.page x)
 
 here_at : (m : Parameters) (by : Strategy) (at : ℕ) (have want : List ℕ) (units : List PlanUnit) (k : ℕ) (d : PlanUnit) (content target : List ℕ)
-    → IsWindowPlan m by at have want units → k < length units → HasPart content have at → HasPart target want at
+    → IsWindowPlan m by (stretch at have want) units → k < length units → HasPart content have at → HasPart target want at
     → (k < length (stretch_units m by at (length have) content target))
     × IsHere m (level_of m by content target) content target (part_from m at have (get_or units k d)) (part_from m at want (get_or units k d)) (get_or units k d)
     (get_or (stretch_units m by at (length have) content target) k some_unit)
@@ -91,7 +92,7 @@ sofar_none m by at have want = record { are = λ content target first second. re
 
 -- one unit more
 sofar_next : (m : Parameters) (by : Strategy) (at : ℕ) (have want : List ℕ) (units : List PlanUnit) (k : ℕ) (d : PlanUnit) (lines more : List PlanLine)
-    → IsWindowPlan m by at have want units → AreSofar m by at have want k lines → k < length units
+    → IsWindowPlan m by (stretch at have want) units → AreSofar m by at have want k lines → k < length units
     → AreUnitLines m by (get_or units k d) (part_from m at have (get_or units k d)) (part_from m at want (get_or units k d)) more
     → AreSofar m by at have want (k + 1) (lines ++ more)
 sofar_next m by at have want units k d lines more p s inside are = record {
@@ -106,7 +107,7 @@ sofar_next m by at have want units k d lines more p s inside are = record {
 }
 
 pub next_here : (m : Parameters) (by : Strategy) (at : ℕ) (have want : List ℕ) (units : List PlanUnit) (k : ℕ) (x : PlanUnit) (low high : ℕ) (lines more new : List PlanLine)
-    → IsWindowPlan m by at have want units → AreSofar m by at have want k lines → x ≡ get_or units k x → k < length units → low ≡ unit_start x - at
+    → IsWindowPlan m by (stretch at have want) units → AreSofar m by at have want k lines → x ≡ get_or units k x → k < length units → low ≡ unit_start x - at
     → high ≡ unit_start x - at + unit_size m.page x → AreUnitLines m by x (slice_range have low high) (slice_range want low high) more → new ≡ lines ++ more
     → AreSofar m by at have want (k + 1) new
 next_here m by at have want units k x low high lines more new p s there inside low_is high_is are put =
@@ -118,7 +119,7 @@ next_here m by at have want units k x low high lines more new p s there inside l
 
 -- the lines of all units
 pub all_lines : (m : Parameters) (by : Strategy) (at : ℕ) (have want : List ℕ) (units : List PlanUnit) (k : ℕ) (lines : List PlanLine)
-    → IsWindowPlan m by at have want units → AreSofar m by at have want k lines → length units ≤ k → IsStretchPlan m by at have want lines
+    → IsWindowPlan m by (stretch at have want) units → AreSofar m by at have want k lines → length units ≤ k → IsStretchPlan m by (stretch at have want) lines
 all_lines m by at have want units k lines p s past content target have_part want_part =
     let us = stretch_units m by at (length have) content target in
     let is = p.plan content target have_part want_part in
@@ -130,7 +131,7 @@ all_lines m by at have want units k lines p s past content target have_part want
 
 -- no plan
 pub no_plan : (m : Parameters) (by : Strategy) (at : ℕ) (have want : List ℕ) (why : PlanFault) → Refuses m by at have want why
-    → RefusesLines m by at have want (lifted_plan why)
+    → RefusesLines m by (stretch at have want) (lifted_plan why)
 no_plan m by at have want plan.Memory is = tt
 no_plan m by at have want (plan.NoErase x) is = is
 no_plan m by at have want (plan.Unreachable x) is = is

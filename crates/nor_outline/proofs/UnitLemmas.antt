@@ -18,7 +18,7 @@ use Rattle.nor_erase.proofs.Runs.{at_address}
 use Rattle.nor_pages.specs.declared.run.Run.{Run}
 use Rattle.nor_pages.specs.Runs.{run_program, unit_start, LiesBetween, AreBetween, IsSplit}
 use Rattle.nor_outline.specs.Outline.{program_line, because, reason, reason_at, reasons, erase_lines}
-use Rattle.nor_plan_read.specs.declared.line.PlanLine.TheVariants.{Erase, Program}
+use Rattle.nor_outline.specs.declared.line.PlanLine.TheVariants.{Erase, Program}
 use Rattle.nor_outline.specs.Parts.{due_in, run_line, part_lines, AreUnitLines, IsPlanned}
 use Rattle.nor_outline.proofs.RangeLemmas.{find_same, flat_same}
 

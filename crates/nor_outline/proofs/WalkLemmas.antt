@@ -7,7 +7,7 @@ use Rattle.nor_base.specs.Parameters.{Parameters}
 use Rattle.nor_base.specs.Blocks.{Block}
 use Rattle.nor_plan_laws.proofs.Units.Ranges.{length-range}
 use Rattle.nor_outline.specs.Outline.{reason, reason_at}
-use Rattle.nor_plan_read.specs.declared.line.PlanLine.{PlanLine}
+use Rattle.nor_outline.specs.declared.line.PlanLine.{PlanLine}
 use Rattle.nor_outline.specs.Parts.{due_in}
 use Rattle.nor_outline.proofs.RangeLemmas.{range_split}
 use Rattle.nor_outline.proofs.ReasonLemmas.{IsNextIn}

@@ -1,3 +1,4 @@
+pub mod Lines
 pub mod Outline
 pub mod Parts
 pub mod Told

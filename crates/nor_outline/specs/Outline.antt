@@ -13,9 +13,10 @@ use Rattle.nor_base.specs.Programs.{Program}
 use Rattle.nor_base.specs.Strategies.{strategy}
 use Rattle.nor_base.specs.Units.{WorkUnit}
 use Rattle.nor_geometry.specs.Plan.{HasPart, IsFault}
-use Rattle.nor_plan_read.specs.declared.line.PlanLine.{PlanLine}
-use Rattle.nor_plan_read.specs.declared.line.PlanLine.TheVariants as line
-use Rattle.nor_plan_read.specs.Lines.{lines_text}
+use Rattle.nor_outline.specs.declared.line.PlanLine.{PlanLine}
+use Rattle.nor_outline.specs.declared.line.PlanLine.TheVariants as line
+use Rattle.nor_outline.specs.Lines.{lines_text}
+use Rattle.nor_steps.specs.Stretch.{Stretch}
 use Rattle.nor_steps.specs.declared.fault.StepsFault.{StepsFault}
 use Rattle.nor_steps.specs.declared.fault.StepsFault.TheVariants as fault
 use Rattle.nor_steps.specs.Work.{stretch_units}
@@ -72,11 +73,11 @@ pub record IsStretchPlanOf (m : Parameters) (by : Strategy) (at count : ℕ) (co
   pub sound : IsFaultless m by at count content target
 
 -- so it is whatever the rest of the chip holds and must hold
-abbrev pub IsStretchPlan : Parameters → Strategy → ℕ → List ℕ → List ℕ → List PlanLine → Type 0
-IsStretchPlan m by at have want lines = (content target : List ℕ) → HasPart content have at → HasPart target want at → IsStretchPlanOf m by at (length have) content target lines
+abbrev pub IsStretchPlan : Parameters → Strategy → Stretch → List PlanLine → Type 0
+IsStretchPlan m by p lines = (content target : List ℕ) → HasPart content p.have p.at → HasPart target p.want p.at → IsStretchPlanOf m by p.at (length p.have) content target lines
 
 -- why there are none: an address is at fault, the lowest is named; or a growth was refused
-abbrev pub RefusesLines : Parameters → Strategy → ℕ → List ℕ → List ℕ → StepsFault → Type 0
-RefusesLines m by at have want (fault.Plan why) = IsFault m by at have want why
-RefusesLines m by at have want fault.Memory = ⊤
-RefusesLines m by at have want fault.Write = ⊥
+abbrev pub RefusesLines : Parameters → Strategy → Stretch → StepsFault → Type 0
+RefusesLines m by p (fault.Plan why) = IsFault m by p.at p.have p.want why
+RefusesLines m by p fault.Memory = ⊤
+RefusesLines m by p fault.Write = ⊥

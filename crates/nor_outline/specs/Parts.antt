@@ -14,8 +14,9 @@ use Rattle.nor_outline.specs.Outline.{erase_lines, unit_plan}
 use Rattle.nor_pages.specs.declared.run.Run.{Run}
 use Rattle.nor_pages.specs.Runs.{unit_start}
 use Rattle.nor_plan_laws.specs.Least.{ErasesBlocks}
-use Rattle.nor_plan_read.specs.declared.line.PlanLine.{PlanLine}
-use Rattle.nor_plan_read.specs.declared.line.PlanLine.TheVariants.{Program}
+use Rattle.nor_outline.specs.declared.line.PlanLine.{PlanLine}
+use Rattle.nor_outline.specs.declared.line.PlanLine.TheVariants.{Program}
+use Rattle.nor_steps.specs.Stretch.{Stretch}
 use Rattle.nor_steps.specs.Units.{work_unit, HasBytes}
 
 -- an address is due, of bytes that begin at another
@@ -51,9 +52,9 @@ IsPlanned m by (unit.Block b) count = (count ≡ b.size) × MayErase m by b
 IsPlanned m by (unit.Page start) count = Unit {0}
 
 -- what is known of a window and its plan
-pub record IsWindowPlan (m : Parameters) (by : Strategy) (at : ℕ) (have want : List ℕ) (units : List PlanUnit) : Type 0 where
+pub record IsWindowPlan (m : Parameters) (by : Strategy) (p : Stretch) (units : List PlanUnit) : Type 0 where
   pub law : ErasesBlocks
   pub accepted : IsAccepted m
-  pub window : IsWindow m by at (length have)
-  pub lengths : length have ≡ length want
-  pub plan : IsPlan m by at have want units
+  pub window : IsWindow m by p.at (length p.have)
+  pub lengths : length p.have ≡ length p.want
+  pub plan : IsPlan m by p.at p.have p.want units

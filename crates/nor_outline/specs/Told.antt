@@ -4,6 +4,7 @@ use Rattle.nor_base.specs.declared.meaning.Strategy.{Strategy}
 use Rattle.nor_base.specs.Parameters.{Parameters}
 use Rattle.nor_geometry.specs.Plan.{HasPart}
 use Rattle.nor_outline.specs.Outline.{unit_lines, IsFaultless}
+use Rattle.nor_steps.specs.Stretch.{Stretch}
 use Rattle.nor_steps.specs.Texts.{UnitText}
 use Rattle.nor_steps.specs.Work.{stretch_units}
 
@@ -17,8 +18,8 @@ pub record AreLinesOf (m : Parameters) (by : Strategy) (at count : ℕ) (content
   pub sound : IsFaultless m by at count content target
 
 -- so it is whatever the rest of the chip holds and must hold
-abbrev pub AreLines : Parameters → Strategy → ℕ → List ℕ → List ℕ → List ℕ → Type 0
-AreLines m by at have want text = (content target : List ℕ) → HasPart content have at → HasPart target want at → AreLinesOf m by at (length have) content target text
+abbrev pub AreLines : Parameters → Strategy → Stretch → List ℕ → Type 0
+AreLines m by p text = (content target : List ℕ) → HasPart content p.have p.at → HasPart target p.want p.at → AreLinesOf m by p.at (length p.have) content target text
 
 -- a text with which the text of the lines of a stretch begins, and no address of the stretch is at fault
 pub record AreBegunOf (m : Parameters) (by : Strategy) (at count : ℕ) (content target front : List ℕ) : Type 0 where
@@ -26,8 +27,8 @@ pub record AreBegunOf (m : Parameters) (by : Strategy) (at count : ℕ) (content
   pub whole : stretch_lines m by at count content target ≡ front ++ rest
   pub sound : IsFaultless m by at count content target
 
-abbrev pub AreBegun : Parameters → Strategy → ℕ → List ℕ → List ℕ → List ℕ → Type 0
-AreBegun m by at have want front = (content target : List ℕ) → HasPart content have at → HasPart target want at → AreBegunOf m by at (length have) content target front
+abbrev pub AreBegun : Parameters → Strategy → Stretch → List ℕ → Type 0
+AreBegun m by p front = (content target : List ℕ) → HasPart content p.have p.at → HasPart target p.want p.at → AreBegunOf m by p.at (length p.have) content target front
 
 -- the text of the lines of a unit, as a text of the work
 abbrev pub unit_outline : UnitText

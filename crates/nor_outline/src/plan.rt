@@ -5,13 +5,15 @@ ghost use Rattle.nor_geometry.specs.Plan.{IsWindow};
 ghost use Rattle.nor_outline.specs.Outline.{IsStretchPlan, RefusesLines};
 ghost use Rattle.nor_outline.specs.Told.{unit_outline};
 ghost use Rattle.nor_select.specs.Streamed.{last};
+ghost use Rattle.nor_steps.specs.Stretch.{stretch};
 ghost use Rattle.nor_steps.specs.declared.fault.StepsFault.TheVariants.{Memory};
 ghost use Rattle.nor_steps.specs.Texts.{IsTold};
 ghost use Rattle.nor_steps.specs.Writing.{fresh};
 
+use crate::line::PlanLine;
 use crate::window::window_lines;
+use crate::writer::write_lines;
 use nor_base::{ByteOut, Meaning, Start, Strategy};
-use nor_plan_read::{PlanLine, write_lines};
 use nor_steps::{StepWriter, StepsFault, Tally, Unwritten, WorkWriter};
 use std::alloc::Global;
 use std::marker::Model;
@@ -63,12 +65,13 @@ impl<'m> PlanWriter<'m> {
         requires window { IsWindow self.old.streaming.meaning self.old.streaming.by at
             (length have.now) }
         ensures told { IfOk result
-            (λ plan. IsTold self.old self.new at have.now want.now plan.0) }
+            (λ plan. IsTold self.old self.new (stretch at have.now want.now) plan.0) }
         ensures lines { IfOk result
-            (λ plan. IsStretchPlan self.old.streaming.meaning self.old.streaming.by at have.now
-            want.now plan.1.items) }
+            (λ plan. IsStretchPlan self.old.streaming.meaning self.old.streaming.by
+            (stretch at have.now want.now) plan.1.items) }
         ensures stopped { IfErr result
-            (RefusesLines self.old.streaming.meaning self.old.streaming.by at have.now want.now) }
+            (RefusesLines self.old.streaming.meaning self.old.streaming.by
+            (stretch at have.now want.now)) }
     {
         let meaning = self.steps.meaning();
         let strategy = self.steps.strategy();

@@ -4,11 +4,11 @@ ghost use Rattle.std.specs.Prelude.{◌≡◌, ◌≤◌, ◌+◌, ◌++◌, len
 ghost use Rattle.nor_outline.specs.Outline.{reason, reasons};
 ghost use Rattle.nor_outline.specs.Parts.{MayErase, due_in};
 
+use crate::line::PlanLine;
 use nor_base::{Meaning, Strategy};
 use nor_erase::first_due;
 use nor_geometry::{Block, smallest};
 use nor_plan_laws::blocks;
-use nor_plan_read::PlanLine;
 use std::alloc::AllocError;
 
 /// Appends a line for each smallest block of a block, rising, in which a byte is due: `have` and

@@ -3,12 +3,12 @@
 ghost use Rattle.std.specs.Prelude.{◌≡◌, ◌++◌, length, map, IfOk};
 ghost use Rattle.nor_outline.specs.Parts.{IsPlanned, MayErase, run_line, block_lines, part_lines};
 
+use crate::line::PlanLine;
 use crate::opcode::erase_opcode;
 use crate::reasons::push_reasons;
 use nor_base::{Meaning, Strategy};
 use nor_geometry::{Block, PlanUnit};
 use nor_pages::Run;
-use nor_plan_read::PlanLine;
 use std::alloc::AllocError;
 
 /// Appends the lines of a unit (docs/FORMATS.md, section 9): its erase with the reasons, then its

@@ -3,18 +3,19 @@
 ghost use Rattle.std.specs.Prelude.{◌≡◌, ◌++◌, List, length, IfOk, IfErr};
 ghost use Rattle.nor_geometry.specs.Plan.{IsWindow};
 ghost use Rattle.nor_pages.specs.Runs.{IsUnit};
-ghost use Rattle.nor_plan_read.specs.declared.line.PlanLine.{PlanLine as Line};
+ghost use Rattle.nor_outline.specs.declared.line.PlanLine.{PlanLine as Line};
 ghost use Rattle.nor_outline.specs.Outline.{IsStretchPlan, RefusesLines};
 ghost use Rattle.nor_outline.specs.Parts.{IsPlanned, IsWindowPlan, AreUnitLines};
+ghost use Rattle.nor_steps.specs.Stretch.{stretch};
 ghost use Rattle.nor_steps.specs.declared.fault.StepsFault.TheVariants.{Memory};
 
+use crate::line::PlanLine;
 use crate::unit::push_unit;
 use nor_base::{Meaning, Strategy};
 use nor_erase::plan;
 use nor_geometry::PlanUnit;
 use nor_pages::split;
 use nor_plan_laws::erased_blocks;
-use nor_plan_read::PlanLine;
 use nor_steps::{StepsFault, bounds};
 use std::alloc::Global;
 
@@ -33,8 +34,9 @@ pub fn window_lines(
     requires lengths { length have.now ≡ length want.now }
     requires window { IsWindow meaning.now strategy at (length have.now) }
     ensures lines { IfOk result
-        (λ lines. IsStretchPlan meaning.now strategy at have.now want.now lines.items) }
-    ensures stopped { IfErr result (RefusesLines meaning.now strategy at have.now want.now) }
+        (λ lines. IsStretchPlan meaning.now strategy (stretch at have.now want.now) lines.items) }
+    ensures stopped { IfErr result (RefusesLines meaning.now strategy
+        (stretch at have.now want.now)) }
 {
     erased_blocks();
     meaning.acceptance();
@@ -52,9 +54,9 @@ fn units_lines(
     have: &[u8],
     want: &[u8],
 ) -> Result<Vec<PlanLine>, StepsFault>
-    requires planned { IsWindowPlan meaning.now strategy at have.now want.now units.now }
+    requires planned { IsWindowPlan meaning.now strategy (stretch at have.now want.now) units.now }
     ensures lines { IfOk result
-        (λ lines. IsStretchPlan meaning.now strategy at have.now want.now lines.items) }
+        (λ lines. IsStretchPlan meaning.now strategy (stretch at have.now want.now) lines.items) }
     ensures why { IfErr result (λ why. why ≡ Memory) }
 {
     let mut lines = Vec::new(alloc);

@@ -4,8 +4,9 @@ use Rattle.std.specs.List.{slice_range}
 use Rattle.std.proofs.Math.Seq.{take-add}
 use Rattle.std.proofs.lemmas.List.{length-take-le}
 use Rattle.nor_base.specs.Device.{Ahead}
-use Rattle.nor_probe.specs.declared.difference.Mismatch.{Mismatch}
-use Rattle.nor_probe.specs.declared.difference.Mismatch.TheVariants.{Exchange, Differs}
+use Rattle.nor_base.specs.Wire.{wire}
+use Rattle.nor_reader.specs.declared.difference.Mismatch.{Mismatch}
+use Rattle.nor_reader.specs.declared.difference.Mismatch.TheVariants.{Exchange, Differs}
 use Rattle.nor_loop.specs.Log.{HasLogged}
 use Rattle.nor_reader.specs.declared.by.ReadBy.{ReadBy}
 use Rattle.nor_reader.specs.Reads.{read_op, HasReadOn}
@@ -25,18 +26,18 @@ take_on bytes done len =
 
 -- one piece more came again
 pub again_more : (most : ℕ) (h i j : Option (List ℕ)) (a b c : Ahead) (by : ReadBy) (bytes : List ℕ) (done len : ℕ) → done + len ≤ length bytes
-    → 0 < len → len ≤ most → HasReadOn most h i a b by [] (take done bytes)
-    → HasLogged i j b c (read_op by done (slice_range bytes done (done + len)) ∷ [])
-    → HasReadOn most h j a c by [] (take (done + len) bytes)
+    → 0 < len → len ≤ most → HasReadOn most (wire h a) (wire i b) by [] (take done bytes)
+    → HasLogged (wire i b) (wire j c) (read_op by done (slice_range bytes done (done + len)) ∷ [])
+    → HasReadOn most (wire h a) (wire j c) by [] (take (done + len) bytes)
 again_more most h i j a b c by bytes done len within some few read more =
     let long = slice_long bytes done len within in
-    subst (λ n. HasReadOn most h j a c by [] (take (done + n) bytes)) long
+    subst (λ n. HasReadOn most (wire h a) (wire j c) by [] (take (done + n) bytes)) long
     (piece_more most h i j a b c by [] bytes bytes (slice_range bytes done (done + len)) done (omega arith) (omega (arith, long, some))
     (omega (arith, long, few)) (ap (λ n. take (done + n) bytes) long ∙ take_on bytes done len) read more)
 
 -- a read of so many bytes, which are no more than the most, ended so
 pub misses_within : (len most : ℕ) (h i : Option (List ℕ)) (a b : Ahead) (by : ReadBy) (at : ℕ) (want : List ℕ) (why : Mismatch) → len ≤ most
-    → MissesPiece len h i a b by at want why → MissesPiece most h i a b by at want why
+    → MissesPiece len (wire h a) (wire i b) by at want why → MissesPiece most (wire h a) (wire i b) by at want why
 misses_within len most h i a b by at want (Exchange why) few miss = (miss.0, miss.1, stops_within len most h i a b by at miss.0 why few miss.2)
 misses_within len most h i a b by at want (Differs d) few miss = record {
   short = miss.short;
@@ -50,9 +51,9 @@ misses_within len most h i a b by at want (Differs d) few miss = record {
 
 -- or it didn't
 pub again_not : (most : ℕ) (h i j : Option (List ℕ)) (a b c : Ahead) (by : ReadBy) (bytes : List ℕ) (done len : ℕ) (why : Mismatch)
-    → done + len ≤ length bytes → 0 < len → len ≤ most → HasReadOn most h i a b by [] (take done bytes)
-    → MissesPiece (length (slice_range bytes done (done + len))) i j b c by done (slice_range bytes done (done + len)) why
-    → MissesOn most h j a c by bytes why
+    → done + len ≤ length bytes → 0 < len → len ≤ most → HasReadOn most (wire h a) (wire i b) by [] (take done bytes)
+    → MissesPiece (length (slice_range bytes done (done + len))) (wire i b) (wire j c) by done (slice_range bytes done (done + len)) why
+    → MissesOn most (wire h a) (wire j c) by bytes why
 again_not most h i j a b c by bytes done len why within some few read stop =
     let piece = slice_range bytes done (done + len) in
     let long : length piece ≡ len = slice_long bytes done len within in

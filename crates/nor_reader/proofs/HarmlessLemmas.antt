@@ -12,6 +12,7 @@ use Rattle.nor_base.specs.Clocks.{address_bytes}
 use Rattle.nor_base.specs.Device.{Ahead, Cuts}
 use Rattle.nor_base.proofs.DeviceLaws.{Appends-none, Appends-append, Cuts-then}
 use Rattle.nor_base.proofs.ListLaws.{all_append}
+use Rattle.nor_base.specs.Wire.{wire}
 use Rattle.nor_serprog.specs.declared.fault.Fault.{Fault}
 use Rattle.nor_serprog.specs.declared.fault.Fault.TheVariants as fault
 use Rattle.nor_serprog.specs.declared.fault.Reason.{Reason}
@@ -19,10 +20,10 @@ use Rattle.nor_serprog.specs.declared.fault.Reason.TheVariants as reason
 use Rattle.nor_serprog.specs.Exchange.{Answers, Asks}
 use Rattle.nor_serprog.specs.Follow.{status_request, HasRead}
 use Rattle.nor_serprog.specs.Protocol.{request}
-use Rattle.nor_probe.specs.declared.difference.Difference.{Difference}
-use Rattle.nor_probe.specs.declared.difference.Mismatch.{Mismatch}
-use Rattle.nor_probe.specs.declared.difference.Mismatch.TheVariants.{Exchange, Differs}
-use Rattle.nor_probe.specs.Status.{HasReadRegister, HasSettled, Settles, ReadsStatus, StopsRegister}
+use Rattle.nor_reader.specs.declared.difference.Difference.{Difference}
+use Rattle.nor_reader.specs.declared.difference.Mismatch.{Mismatch}
+use Rattle.nor_reader.specs.declared.difference.Mismatch.TheVariants.{Exchange, Differs}
+use Rattle.nor_reader.specs.Status.{HasReadRegister, HasSettled, Settles, ReadsStatus, StopsRegister}
 use Rattle.nor_loop.specs.Log.{Operation, IsShort, HasLogged}
 use Rattle.nor_loop.specs.Reads.{switch_ops}
 use Rattle.nor_loop.specs.Steps.{status_read}
@@ -71,13 +72,13 @@ both_hold : (ops : List Operation) → AllByRecursion IsShort ops → AllByRecur
 both_hold [] short begins = tt
 both_hold (o ∷ ops) short begins = (record { short = short.0; begins = begins.0 }, both_hold ops short.1 begins.1)
 
-logged_sent : (h i : Option (List ℕ)) (a b : Ahead) (log : List Operation) → HasLogged h i a b log → AllByRecursion (λ o. is_harmless o.sent ≡ true) log
+logged_sent : (h i : Option (List ℕ)) (a b : Ahead) (log : List Operation) → HasLogged (wire h a) (wire i b) log → AllByRecursion (λ o. is_harmless o.sent ≡ true) log
     → HasSentHarmless h i
 logged_sent h i a b log wire begins = record { ops = log; each = both_hold log wire.short begins; out = wire.talked.out }
 
 -- an exchange of one ended early
 one_stops : (h i : Option (List ℕ)) (a b : Ahead) (o : Operation) (why : Fault) (Answered : Type 0) → IsHarmless o
-    → Asks h i a b (Err why) (request o.sent (length o.got)) Answered → SendsHarmless h i
+    → Asks (wire h a) (wire i b) (Err why) (request o.sent (length o.got)) Answered → SendsHarmless h i
 one_stops h i a b o fault.Write Answered is stop =
     record { ops = o ∷ []; each = (is, tt); out = inr (subst (Cuts h i) (sym (append-nil (request o.sent (length o.got)))) stop.0) }
 one_stops h i a b o fault.Read Answered is stop =
@@ -118,25 +119,25 @@ ops_harmless : (by : ReadBy) (at : ℕ) (pieces : List (List ℕ)) → AllByRecu
 ops_harmless by at [] = tt
 ops_harmless by at (piece ∷ pieces) = (read_harmless by at (length piece), ops_harmless by (at + length piece) pieces)
 
-read_sent : (most : ℕ) (h i : Option (List ℕ)) (a b : Ahead) (by : ReadBy) (front bytes : List ℕ) → HasReadOn most h i a b by front bytes
+read_sent : (most : ℕ) (h i : Option (List ℕ)) (a b : Ahead) (by : ReadBy) (front bytes : List ℕ) → HasReadOn most (wire h a) (wire i b) by front bytes
     → HasSentHarmless h i
 read_sent most h i a b by front bytes read =
     logged_sent h i a b (ops_from by (length front) read.pieces) read.wire (ops_harmless by (length front) read.pieces)
 
 piece_stops : (most : ℕ) (h i : Option (List ℕ)) (a b : Ahead) (by : ReadBy) (at : ℕ) (got : List ℕ) (why : Fault)
-    → StopsPiece most h i a b by at got why → SendsHarmless h i
+    → StopsPiece most (wire h a) (wire i b) by at got why → SendsHarmless h i
 piece_stops most h i a b by at got why stop =
     one_stops h i a b (read_op by at got) why (Answers a b (Err why) got)
     (record { short = (sent_short by at (length got), stop.0); begins = read_harmless by at (length got) }) stop.2
 
-stops_sends : (most : ℕ) (h i : Option (List ℕ)) (a b : Ahead) (by : ReadBy) (front : List ℕ) (why : Fault) → StopsOn most h i a b by front why
+stops_sends : (most : ℕ) (h i : Option (List ℕ)) (a b : Ahead) (by : ReadBy) (front : List ℕ) (why : Fault) → StopsOn most (wire h a) (wire i b) by front why
     → SendsHarmless h i
 stops_sends most h i a b by front why p =
     then_sends h p.held i (read_sent most h p.held a p.ahead by front p.so_far p.read)
     (piece_stops most p.held i p.ahead b by (length p.so_far) p.got why p.stop)
 
 piece_misses : (most : ℕ) (h i : Option (List ℕ)) (a b : Ahead) (by : ReadBy) (at : ℕ) (want : List ℕ) (why : Mismatch)
-    → MissesPiece most h i a b by at want why → SendsHarmless h i
+    → MissesPiece most (wire h a) (wire i b) by at want why → SendsHarmless h i
 piece_misses most h i a b by at want (Exchange why) p = piece_stops most h i a b by at p.0 why p.2
 piece_misses most h i a b by at want (Differs d) p = record {
   ops = read_op by at want ∷ [];
@@ -145,7 +146,7 @@ piece_misses most h i a b by at want (Differs d) p = record {
 }
 
 piece_other : (most : ℕ) (h i : Option (List ℕ)) (a b : Ahead) (by : ReadBy) (at : ℕ) (want : List ℕ) (d : Difference)
-    → MissesPiece most h i a b by at want (Differs d)
+    → MissesPiece most (wire h a) (wire i b) by at want (Differs d)
     → HasSentHarmless h i
 piece_other most h i a b by at want d p = record {
   ops = read_op by at want ∷ [];
@@ -153,14 +154,14 @@ piece_other most h i a b by at want d p = record {
   out = subst (Appends h i) (sym (append-nil (request (sent_by by at (length want)) (length want)))) p.out;
 }
 
-misses_sends : (most : ℕ) (h i : Option (List ℕ)) (a b : Ahead) (by : ReadBy) (bytes : List ℕ) (why : Mismatch) → MissesOn most h i a b by bytes why
+misses_sends : (most : ℕ) (h i : Option (List ℕ)) (a b : Ahead) (by : ReadBy) (bytes : List ℕ) (why : Mismatch) → MissesOn most (wire h a) (wire i b) by bytes why
     → SendsHarmless h i
 misses_sends most h i a b by bytes why p =
     then_sends h p.held i (read_sent most h p.held a p.ahead by [] (take p.at bytes) p.alike)
     (piece_misses most p.held i p.ahead b by p.at (slice_range bytes p.at (p.at + p.len)) why p.stop)
 
 other_sent : (most : ℕ) (h i : Option (List ℕ)) (a b : Ahead) (by : ReadBy) (bytes : List ℕ) (d : Difference)
-    → MissesOn most h i a b by bytes (Differs d) → HasSentHarmless h i
+    → MissesOn most (wire h a) (wire i b) by bytes (Differs d) → HasSentHarmless h i
 other_sent most h i a b by bytes d p =
     both_sent h p.held i (read_sent most h p.held a p.ahead by [] (take p.at bytes) p.alike)
     (piece_other most p.held i p.ahead b by p.at (slice_range bytes p.at (p.at + p.len)) d p.stop)
@@ -186,22 +187,22 @@ back_of : (xs ys : List Operation) → AllByRecursion IsHarmless (xs ++ ys) → 
 back_of [] ys all = all
 back_of (x ∷ xs) ys all = back_of xs ys all.1
 
-done_sent : (h i : Option (List ℕ)) (a b : Ahead) (ops : List Operation) → AllByRecursion IsHarmless ops → HasLogged h i a b ops → HasSentHarmless h i
+done_sent : (h i : Option (List ℕ)) (a b : Ahead) (ops : List Operation) → AllByRecursion IsHarmless ops → HasLogged (wire h a) (wire i b) ops → HasSentHarmless h i
 done_sent h i a b ops all wire = logged_sent h i a b ops wire (begins_of ops all)
 
-among_sends : (h i : Option (List ℕ)) (a b : Ahead) (ops : List Operation) (why : Fault) → AllByRecursion IsHarmless ops → StopsAmong h i a b ops why
+among_sends : (h i : Option (List ℕ)) (a b : Ahead) (ops : List Operation) (why : Fault) → AllByRecursion IsHarmless ops → StopsAmong (wire h a) (wire i b) ops why
     → SendsHarmless h i
 among_sends h i a b ops why all p =
     let parts = subst (AllByRecursion IsHarmless) p.those all in
     then_sends h p.held i (done_sent h p.held a p.ahead p.front (front_of p.front (p.last ∷ p.rest) parts) p.done)
     (one_stops p.held i p.ahead b p.last why (Answers p.ahead b (Err why) p.last.got) (back_of p.front (p.last ∷ p.rest) parts).0 p.stop)
 
-pub switched_sent : (h i : Option (List ℕ)) (a b : Ahead) (w : Switch) (op : ℕ) → is_harmless (op ∷ []) ≡ true → HasLogged h i a b (switch_ops w op)
+pub switched_sent : (h i : Option (List ℕ)) (a b : Ahead) (w : Switch) (op : ℕ) → is_harmless (op ∷ []) ≡ true → HasLogged (wire h a) (wire i b) (switch_ops w op)
     → HasSentHarmless h i
 switched_sent h i a b w op is wire = done_sent h i a b (switch_ops w op) (switch_harmless w op is) wire
 
 pub switched_sends : (h i : Option (List ℕ)) (a b : Ahead) (w : Switch) (op : ℕ) (why : Fault) → is_harmless (op ∷ []) ≡ true
-    → StopsAmong h i a b (switch_ops w op) why → SendsHarmless h i
+    → StopsAmong (wire h a) (wire i b) (switch_ops w op) why → SendsHarmless h i
 switched_sends h i a b w op why is p = among_sends h i a b (switch_ops w op) why (switch_harmless w op is) p
 
 enters : (by : ReadBy) → AllByRecursion IsHarmless (enter_ops by)
@@ -211,7 +212,7 @@ leaves : (by : ReadBy) → AllByRecursion IsHarmless (leave_ops by)
 leaves by = switch_harmless (leave_of by) 0xE9 refl
 
 -- a reading
-whole_read : (most : ℕ) (h i : Option (List ℕ)) (a b : Ahead) (by : ReadBy) (bytes : List ℕ) → HasReadWhole most h i a b by bytes
+whole_read : (most : ℕ) (h i : Option (List ℕ)) (a b : Ahead) (by : ReadBy) (bytes : List ℕ) → HasReadWhole most (wire h a) (wire i b) by bytes
     → HasSentHarmless h i
 whole_read most h i a b by bytes p =
     let rest = p.rest in
@@ -219,7 +220,7 @@ whole_read most h i a b by bytes p =
     (both_sent p.held rest.held i (read_sent most p.held rest.held p.ahead rest.ahead by [] bytes rest.first)
     (done_sent rest.held i rest.ahead b (leave_ops by) (leaves by) rest.rest))
 
-first_sends : (most : ℕ) (h i : Option (List ℕ)) (a b : Ahead) (by : ReadBy) (bytes : List ℕ) (why : Fault) → StopsFirst most h i a b by bytes why
+first_sends : (most : ℕ) (h i : Option (List ℕ)) (a b : Ahead) (by : ReadBy) (bytes : List ℕ) (why : Fault) → StopsFirst most (wire h a) (wire i b) by bytes why
     → SendsHarmless h i
 first_sends most h i a b by bytes why (inl p) = among_sends h i a b (enter_ops by) why (enters by) p
 first_sends most h i a b by bytes why (inr (inl p)) =
@@ -231,7 +232,7 @@ first_sends most h i a b by bytes why (inr (inr p)) =
     (among_sends rest.held i rest.ahead b (leave_ops by) why (leaves by) rest.rest))
 
 missed_sends : (most : ℕ) (h i : Option (List ℕ)) (a b : Ahead) (by : ReadBy) (bytes : List ℕ) (why : Mismatch)
-    → MissesWhole most h i a b by bytes why → SendsHarmless h i
+    → MissesWhole most (wire h a) (wire i b) by bytes why → SendsHarmless h i
 missed_sends most h i a b by bytes (Exchange why) (inl p) = among_sends h i a b (enter_ops by) why (enters by) p
 missed_sends most h i a b by bytes (Exchange why) (inr (inl p)) =
     then_sends h p.held i (done_sent h p.held a p.ahead (enter_ops by) (enters by) p.entered)
@@ -263,7 +264,7 @@ reading_begins most by bytes log reads =
     subst (λ (l : List Operation). AllByRecursion (λ o. is_harmless o.sent ≡ true) l) (sym reads.those) (reads_begin by reads.pieces)
 
 -- bytes that came twice alike, or didn't
-pub twice_sent : (most : ℕ) (h i : Option (List ℕ)) (a b : Ahead) (by again : ReadBy) (bytes : List ℕ) → ReadTwice most h i a b by again bytes
+pub twice_sent : (most : ℕ) (h i : Option (List ℕ)) (a b : Ahead) (by again : ReadBy) (bytes : List ℕ) → ReadTwice most (wire h a) (wire i b) by again bytes
     → HasSentHarmless h i
 twice_sent most h i a b by again bytes p =
     logged_sent h i a b (p.first ++ p.second) p.wire
@@ -271,7 +272,7 @@ twice_sent most h i a b by again bytes p =
     (reading_begins most again bytes p.second p.rereads))
 
 pub twice_sends : (most : ℕ) (h i : Option (List ℕ)) (a b : Ahead) (by again : ReadBy) (bytes : List ℕ) (why : Mismatch)
-    → StopsTwice most h i a b by again bytes why → SendsHarmless h i
+    → StopsTwice most (wire h a) (wire i b) by again bytes why → SendsHarmless h i
 twice_sends most h i a b by again bytes (Exchange why) (inl p) = first_sends most h i a b by bytes why p
 twice_sends most h i a b by again bytes (Exchange why) (inr p) =
     then_sends h p.held i (whole_read most h p.held a p.ahead by bytes p.read)
@@ -280,37 +281,37 @@ twice_sends most h i a b by again bytes (Differs d) p =
     then_sends h p.held i (whole_read most h p.held a p.ahead by bytes p.read) (missed_sends most p.held i p.ahead b again bytes (Differs d) p.missed)
 
 -- bytes past the end
-pub past_sent : (most : ℕ) (h i : Option (List ℕ)) (a b : Ahead) (by : ReadBy) (content : List ℕ) → ReadsPast most h i a b (Ok tt) by content
+pub past_sent : (most : ℕ) (h i : Option (List ℕ)) (a b : Ahead) (by : ReadBy) (content : List ℕ) → ReadsPast most (wire h a) (wire i b) (Ok tt) by content
     → HasSentHarmless h i
 past_sent most h i a b by content p = read_sent most h i a b by content (with_past by content) p
 
 pub past_sends : (most : ℕ) (h i : Option (List ℕ)) (a b : Ahead) (by : ReadBy) (content : List ℕ) (why : Mismatch)
-    → ReadsPast most h i a b (Err why) by content → SendsHarmless h i
+    → ReadsPast most (wire h a) (wire i b) (Err why) by content → SendsHarmless h i
 past_sends most h i a b by content why p =
     then_sends h p.held i (read_sent most h p.held a p.ahead by content (content ++ take p.at content) p.alike)
     (piece_misses most p.held i p.ahead b by (length content + p.at) (slice_range content p.at (p.at + p.len)) why p.stop)
 
 -- tables
-pub tables_sent : (most : ℕ) (h i : Option (List ℕ)) (a b : Ahead) (bytes : List ℕ) → HasReadTables most h i a b bytes → HasSentHarmless h i
+pub tables_sent : (most : ℕ) (h i : Option (List ℕ)) (a b : Ahead) (bytes : List ℕ) → HasReadTables most (wire h a) (wire i b) bytes → HasSentHarmless h i
 tables_sent most h i a b bytes p = twice_sent most h i a b Tables Tables bytes p.twice
 
-pub tables_none : (most : ℕ) (h i : Option (List ℕ)) (a b : Ahead) → StopsTables most h i a b NoSignature → HasSentHarmless h i
+pub tables_none : (most : ℕ) (h i : Option (List ℕ)) (a b : Ahead) → StopsTables most (wire h a) (wire i b) NoSignature → HasSentHarmless h i
 tables_none most h i a b p = read_sent most h i a b Tables [] p.0 p.3
 
-pub tables_sends : (most : ℕ) (h i : Option (List ℕ)) (a b : Ahead) (why : TablesFault) → StopsTables most h i a b why → SendsHarmless h i
+pub tables_sends : (most : ℕ) (h i : Option (List ℕ)) (a b : Ahead) (why : TablesFault) → StopsTables most (wire h a) (wire i b) why → SendsHarmless h i
 tables_sends most h i a b NoSignature p = whole_sent h i (tables_none most h i a b p)
 tables_sends most h i a b (Unread why) p = twice_sends most h i a b Tables Tables p.0 why p.1
 tables_sends most h i a b Memory p = whole_sent h i (read_sent most h i a b Tables [] p.0 p.1)
 
 -- an identification
-pub id_sent : (h i : Option (List ℕ)) (a b : Ahead) (id : List ℕ) → Identifies h i a b (Ok id) → HasSentHarmless h i
+pub id_sent : (h i : Option (List ℕ)) (a b : Ahead) (id : List ℕ) → Identifies (wire h a) (wire i b) (Ok id) → HasSentHarmless h i
 id_sent h i a b id wire = logged_sent h i a b (record { sent = 0x9F ∷ []; got = id } ∷ []) wire (refl, tt)
 
-pub id_sends : (h i : Option (List ℕ)) (a b : Ahead) (why : Fault) → Identifies h i a b (Err why) → SendsHarmless h i
+pub id_sends : (h i : Option (List ℕ)) (a b : Ahead) (why : Fault) → Identifies (wire h a) (wire i b) (Err why) → SendsHarmless h i
 id_sends h i a b why (got, three, stop) =
     one_stops h i a b (record { sent = 0x9F ∷ []; got = got }) why (Answers a b (Err why) got)
     (record { short = (omega arith, omega (arith, three)); begins = refl })
-    (subst (λ n. Asks h i a b (Err why) (request (0x9F ∷ []) n) (Answers a b (Err why) got)) (sym three) stop)
+    (subst (λ n. Asks (wire h a) (wire i b) (Err why) (request (0x9F ∷ []) n) (Answers a b (Err why) got)) (sym three) stop)
 
 -- a status
 statuses_harmless : (statuses : List ℕ) → AllByRecursion IsHarmless (map status_read statuses)
@@ -321,27 +322,27 @@ statuses_asked : (statuses : List ℕ) → flat_map (λ status. status_request) 
 statuses_asked [] = refl
 statuses_asked (x ∷ xs) = ap (λ rest. status_request ++ rest) (statuses_asked xs)
 
-statuses_sent : (h i : Option (List ℕ)) (a b : Ahead) (statuses : List ℕ) → HasRead h i a b statuses → HasSentHarmless h i
+statuses_sent : (h i : Option (List ℕ)) (a b : Ahead) (statuses : List ℕ) → HasRead (wire h a) (wire i b) statuses → HasSentHarmless h i
 statuses_sent h i a b statuses read =
     record { ops = map status_read statuses; each = statuses_harmless statuses; out = subst (Appends h i) (statuses_asked statuses) read.out }
 
-settled_sent : (h i : Option (List ℕ)) (a b : Ahead) (status turns : ℕ) → HasSettled h i a b status turns → HasSentHarmless h i
+settled_sent : (h i : Option (List ℕ)) (a b : Ahead) (status turns : ℕ) → HasSettled (wire h a) (wire i b) status turns → HasSentHarmless h i
 settled_sent h i a b status turns p = statuses_sent h i a b (p.busy ++ status ∷ []) p.read
 
-pub register_sent : (h i : Option (List ℕ)) (a b : Ahead) (op byte : ℕ) → is_harmless (op ∷ []) ≡ true → HasReadRegister h i a b op byte → HasSentHarmless h i
+pub register_sent : (h i : Option (List ℕ)) (a b : Ahead) (op byte : ℕ) → is_harmless (op ∷ []) ≡ true → HasReadRegister (wire h a) (wire i b) op byte → HasSentHarmless h i
 register_sent h i a b op byte is p = record {
   ops = record { sent = op ∷ []; got = byte ∷ [] } ∷ [];
   each = (record { short = (omega arith, omega arith); begins = is }, tt);
   out = subst (Appends h i) (sym (append-nil (request (op ∷ []) 1))) p.out;
 }
 
-pub register_sends : (h i : Option (List ℕ)) (a b : Ahead) (op : ℕ) (why : Fault) → is_harmless (op ∷ []) ≡ true → StopsRegister h i a b op why → SendsHarmless h i
+pub register_sends : (h i : Option (List ℕ)) (a b : Ahead) (op : ℕ) (why : Fault) → is_harmless (op ∷ []) ≡ true → StopsRegister (wire h a) (wire i b) op why → SendsHarmless h i
 register_sends h i a b op why is p =
     one_stops h i a b (record { sent = op ∷ []; got = p.got }) why (Answers a b (Err why) p.got)
     (record { short = (omega arith, omega (arith, p.one)); begins = is })
-    (subst (λ n. Asks h i a b (Err why) (request (op ∷ []) n) (Answers a b (Err why) p.got)) (sym p.one) p.stop)
+    (subst (λ n. Asks (wire h a) (wire i b) (Err why) (request (op ∷ []) n) (Answers a b (Err why) p.got)) (sym p.one) p.stop)
 
-waits_sends : (h i : Option (List ℕ)) (a b : Ahead) (why : Reason) (turns : ℕ) → Settles h i a b (Err why) turns → SendsHarmless h i
+waits_sends : (h i : Option (List ℕ)) (a b : Ahead) (why : Reason) (turns : ℕ) → Settles (wire h a) (wire i b) (Err why) turns → SendsHarmless h i
 waits_sends h i a b reason.Busy turns p = whole_sent h i (statuses_sent h i a b p.busy p.read)
 waits_sends h i a b (reason.Exchange why) turns p =
     then_sends h p.held i (statuses_sent h p.held a p.ahead p.busy p.read)
@@ -349,14 +350,14 @@ waits_sends h i a b (reason.Exchange why) turns p =
 waits_sends h i a b reason.Carried turns p = absurd p
 waits_sends h i a b (reason.Differs place byte) turns p = absurd p
 
-pub status_sent : (part : Part) (h i : Option (List ℕ)) (a b : Ahead) (status turns : ℕ) → ReadsStatus part h i a b (Ok status) turns → HasSentHarmless h i
+pub status_sent : (part : Part) (h i : Option (List ℕ)) (a b : Ahead) (status turns : ℕ) → ReadsStatus part (wire h a) (wire i b) (Ok status) turns → HasSentHarmless h i
 status_sent Generic h i a b status turns p = settled_sent h i a b status turns p
 status_sent W25q256jv h i a b status turns p =
     both_sent h p.held_first i (settled_sent h p.held_first a p.ahead_first p.first turns p.settled)
     (both_sent p.held_first p.held_second i (register_sent p.held_first p.held_second p.ahead_first p.ahead_second 0x35 p.second refl p.middle)
     (register_sent p.held_second i p.ahead_second b 0x15 p.third refl p.high))
 
-pub status_sends : (part : Part) (h i : Option (List ℕ)) (a b : Ahead) (why : Reason) (turns : ℕ) → ReadsStatus part h i a b (Err why) turns → SendsHarmless h i
+pub status_sends : (part : Part) (h i : Option (List ℕ)) (a b : Ahead) (why : Reason) (turns : ℕ) → ReadsStatus part (wire h a) (wire i b) (Err why) turns → SendsHarmless h i
 status_sends Generic h i a b why turns p = waits_sends h i a b why turns p
 status_sends W25q256jv h i a b (reason.Exchange why) turns (inl p) = waits_sends h i a b (reason.Exchange why) turns p
 status_sends W25q256jv h i a b (reason.Exchange why) turns (inr (inl p)) =

@@ -1,3 +1,8 @@
+mod DifferenceLemmas
+mod StatusBits
+mod StatusLemmas
+pub mod KnownLemmas
+mod PieceLemmas
 mod PassLemmas
 mod SwitchLemmas
 mod AgainLemmas

@@ -3,7 +3,8 @@ use Rattle.std.proofs.Common.{◌≡◌, ℕ, ◌+◌, ◌-◌, ◌<◌, ◌≤�
 use Rattle.std.specs.List.{slice_range}
 use Rattle.std.proofs.lemmas.List.{length-take-le}
 use Rattle.nor_base.specs.Device.{Ahead}
-use Rattle.nor_probe.specs.declared.difference.Mismatch.{Mismatch}
+use Rattle.nor_base.specs.Wire.{wire}
+use Rattle.nor_reader.specs.declared.difference.Mismatch.{Mismatch}
 use Rattle.nor_loop.specs.Log.{HasLogged}
 use Rattle.nor_reader.specs.declared.by.ReadBy.{ReadBy}
 use Rattle.nor_reader.specs.Again.{MissesPiece}
@@ -17,14 +18,14 @@ pub past_few : (by : ReadBy) (size : ℕ) → past_end by size ≤ size
 past_few by size = omega arith
 
 -- none was read yet
-pub none_past : (most : ℕ) (h : Option (List ℕ)) (a : Ahead) (by : ReadBy) (content : List ℕ) → HasReadOn most h h a a by content (content ++ take 0 content)
-none_past most h a by content = subst (λ (l : List ℕ). HasReadOn most h h a a by content l) (sym (append-nil content)) (nothing_read most h a by content)
+pub none_past : (most : ℕ) (h : Option (List ℕ)) (a : Ahead) (by : ReadBy) (content : List ℕ) → HasReadOn most (wire h a) (wire h a) by content (content ++ take 0 content)
+none_past most h a by content = subst (λ (l : List ℕ). HasReadOn most (wire h a) (wire h a) by content l) (sym (append-nil content)) (nothing_read most h a by content)
 
 -- one piece more
 pub past_more : (most : ℕ) (h i j : Option (List ℕ)) (a b c : Ahead) (by : ReadBy) (content : List ℕ) (done len : ℕ) → done + len ≤ length content
-    → 0 < len → len ≤ most → HasReadOn most h i a b by content (content ++ take done content)
-    → HasLogged i j b c (read_op by (length content + done) (slice_range content done (done + len)) ∷ [])
-    → HasReadOn most h j a c by content (content ++ take (done + len) content)
+    → 0 < len → len ≤ most → HasReadOn most (wire h a) (wire i b) by content (content ++ take done content)
+    → HasLogged (wire i b) (wire j c) (read_op by (length content + done) (slice_range content done (done + len)) ∷ [])
+    → HasReadOn most (wire h a) (wire j c) by content (content ++ take (done + len) content)
 past_more most h i j a b c by content done len within some few read more =
     let piece = slice_range content done (done + len) in
     let long : length piece ≡ len = slice_long content done len within in
@@ -33,17 +34,17 @@ past_more most h i j a b c by content done len within some few read more =
     let at : length content + done ≡ length mid = omega (arith, length-append content (take done content), first) in
     let joined : mid ++ piece ≡ content ++ take (done + len) content =
     append_assoc content (take done content) piece ∙ ap (λ (l : List ℕ). content ++ l) (sym (take_on content done len)) in
-    subst (λ (l : List ℕ). HasReadOn most h j a c by content l) joined
+    subst (λ (l : List ℕ). HasReadOn most (wire h a) (wire j c) by content l) joined
     (read_both most h i j a b c by content mid (mid ++ piece) read
     (one_piece most i j b c by mid piece (omega (arith, long, some)) (omega (arith, long, few))
-    (subst (λ n. HasLogged i j b c (read_op by n piece ∷ [])) at more)))
+    (subst (λ n. HasLogged (wire i b) (wire j c) (read_op by n piece ∷ [])) at more)))
 
 -- or its read ended so
 pub past_not : (most : ℕ) (h i j : Option (List ℕ)) (a b c : Ahead) (by : ReadBy) (content : List ℕ) (done len : ℕ) (why : Mismatch)
     → done + len ≤ length content → done + len ≤ past_end by (length content) → 0 < len → len ≤ most
-    → HasReadOn most h i a b by content (content ++ take done content)
-    → MissesPiece (length (slice_range content done (done + len))) i j b c by (length content + done) (slice_range content done (done + len)) why
-    → MissesPast most h j a c by content why
+    → HasReadOn most (wire h a) (wire i b) by content (content ++ take done content)
+    → MissesPiece (length (slice_range content done (done + len))) (wire i b) (wire j c) by (length content + done) (slice_range content done (done + len)) why
+    → MissesPast most (wire h a) (wire j c) by content why
 past_not most h i j a b c by content done len why within before some few read stop =
     let piece = slice_range content done (done + len) in
     let long : length piece ≡ len = slice_long content done len within in
@@ -60,5 +61,5 @@ past_not most h i j a b c by content done len why within before some few read st
 
 -- all was read
 pub past_all : (most : ℕ) (h i : Option (List ℕ)) (a b : Ahead) (by : ReadBy) (content : List ℕ) (done : ℕ) → done ≡ past_end by (length content)
-    → HasReadOn most h i a b by content (content ++ take done content) → HasReadOn most h i a b by content (content ++ take (past_end by (length content)) content)
-past_all most h i a b by content done is read = subst (λ n. HasReadOn most h i a b by content (content ++ take n content)) is read
+    → HasReadOn most (wire h a) (wire i b) by content (content ++ take done content) → HasReadOn most (wire h a) (wire i b) by content (content ++ take (past_end by (length content)) content)
+past_all most h i a b by content done is read = subst (λ n. HasReadOn most (wire h a) (wire i b) by content (content ++ take n content)) is read

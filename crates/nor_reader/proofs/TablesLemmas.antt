@@ -5,7 +5,8 @@ use Rattle.std.proofs.Math.ListN.{get_or-append}
 use Rattle.std.proofs.Math.Seq.{take-append_seam}
 use Rattle.std.proofs.lemmas.List.{take-append-le}
 use Rattle.nor_base.specs.Device.{Ahead}
-use Rattle.nor_probe.specs.declared.difference.Mismatch.TheVariants.{Exchange, Differs}
+use Rattle.nor_base.specs.Wire.{wire}
+use Rattle.nor_reader.specs.declared.difference.Mismatch.TheVariants.{Exchange, Differs}
 use Rattle.nor_reader.specs.declared.by.ReadBy.TheVariants.{Tables}
 use Rattle.nor_reader.specs.declared.tables.TablesFault.{TablesFault}
 use Rattle.nor_reader.specs.declared.tables.TablesFault.TheVariants.{Memory, NoSignature, Unread}
@@ -16,12 +17,12 @@ use Rattle.nor_reader.proofs.TwiceLemmas.{tables_stop}
 
 -- reading on after a part of them stopped
 pub grow_stops : (most : ℕ) (h i j : Option (List ℕ)) (a b c : Ahead) (old new : List ℕ) (end : ℕ) (why : TablesFault)
-    → HasReadOn most h i a b Tables [] old
-    → Grows most i j b c (Err why) old new end → StopsTables most h j a c why
+    → HasReadOn most (wire h a) (wire i b) Tables [] old
+    → Grows most (wire i b) (wire j c) (Err why) old new end → StopsTables most (wire h a) (wire j c) why
 grow_stops most h i j a b c old new end Memory read stop = (
   old,
-  subst (λ held. HasReadOn most h held a c Tables [] old) (sym stop.0)
-      (subst (λ ahead. HasReadOn most h i a ahead Tables [] old) (sym stop.1) read),
+  subst (λ held. HasReadOn most (wire h a) (wire held c) Tables [] old) (sym stop.0)
+      (subst (λ ahead. HasReadOn most (wire h a) (wire i ahead) Tables [] old) (sym stop.1) read),
 )
 grow_stops most h i j a b c old new end NoSignature read stop = absurd stop
 grow_stops most h i j a b c old new end (Unread (Exchange why)) read stop =
@@ -30,17 +31,17 @@ grow_stops most h i j a b c old new end (Unread (Differs d)) read stop = absurd 
 
 -- a part comes first
 pub headers_kept : {most : ℕ} {h i : Option (List ℕ)} {a b : Ahead} (front bytes : List ℕ) → 8 ≤ length front
-    → HasReadOn most h i a b Tables front bytes → headers_end bytes ≡ headers_end front
+    → HasReadOn most (wire h a) (wire i b) Tables front bytes → headers_end bytes ≡ headers_end front
 headers_kept front bytes some read =
     ap headers_end (sym read.whole) ∙ ap (λ n. 8 + 8 * (n + 1)) (get_or-append front (concat read.pieces) 0 6 (omega (arith, some)))
 
-signed_on : {most : ℕ} {h i : Option (List ℕ)} {a b : Ahead} (front bytes : List ℕ) → 4 ≤ length front → HasReadOn most h i a b Tables front bytes
+signed_on : {most : ℕ} {h i : Option (List ℕ)} {a b : Ahead} (front bytes : List ℕ) → 4 ≤ length front → HasReadOn most (wire h a) (wire i b) Tables front bytes
     → HasSignature front → HasSignature bytes
 signed_on front bytes some read signed = ap (take 4) (sym read.whole) ∙ take-append-le 4 front (concat read.pieces) some ∙ signed
 
 -- the header, the parameter headers, and the tables
 pub are_tables : (most : ℕ) (h i j k : Option (List ℕ)) (a b c d : Ahead) (header headers bytes : List ℕ) → length header ≡ 8 → HasSignature header
-    → HasReadOn most h i a b Tables header headers → length headers ≡ headers_end header → HasReadOn most i j b c Tables headers bytes
+    → HasReadOn most (wire h a) (wire i b) Tables header headers → length headers ≡ headers_end header → HasReadOn most (wire i b) (wire j c) Tables headers bytes
     → length bytes ≡ tables_size headers → AreTables bytes
 are_tables most h i j k a b c d header headers bytes eight signed one upto two far =
     let some : 8 ≤ length headers = omega (arith, upto) in
@@ -52,14 +53,14 @@ are_tables most h i j k a b c d header headers bytes eight signed one upto two f
     }
 
 -- from nothing on
-pub from_none : {most : ℕ} {h i : Option (List ℕ)} {a b : Ahead} (none bytes : List ℕ) → none ≡ [] → HasReadOn most h i a b Tables none bytes
-    → HasReadOn most h i a b Tables [] bytes
-from_none {most} {h} {i} {a} {b} none bytes is read = subst (λ (front : List ℕ). HasReadOn most h i a b Tables front bytes) is read
+pub from_none : {most : ℕ} {h i : Option (List ℕ)} {a b : Ahead} (none bytes : List ℕ) → none ≡ [] → HasReadOn most (wire h a) (wire i b) Tables none bytes
+    → HasReadOn most (wire h a) (wire i b) Tables [] bytes
+from_none {most} {h} {i} {a} {b} none bytes is read = subst (λ (front : List ℕ). HasReadOn most (wire h a) (wire i b) Tables front bytes) is read
 
 -- the sizes that were found are those of what was read
 pub these_tables : (most : ℕ) (h i j k : Option (List ℕ)) (a b c d : Ahead) (header headers bytes header_seen headers_seen : List ℕ) (end size : ℕ)
-    → length header ≡ 8 → header_seen ≡ header → HasSignature header_seen → HasReadOn most h i a b Tables header headers
-    → length headers ≡ end → end ≡ headers_end header_seen → headers_seen ≡ headers → HasReadOn most i j b c Tables headers bytes
+    → length header ≡ 8 → header_seen ≡ header → HasSignature header_seen → HasReadOn most (wire h a) (wire i b) Tables header headers
+    → length headers ≡ end → end ≡ headers_end header_seen → headers_seen ≡ headers → HasReadOn most (wire i b) (wire j c) Tables headers bytes
     → length bytes ≡ size → size ≡ tables_size headers_seen → AreTables bytes
 these_tables most h i j k a b c d header headers bytes header_seen headers_seen end size eight one_is signed one upto end_is two_is two far size_is =
     are_tables most h i j k a b c d header headers bytes eight (subst HasSignature one_is signed) one (upto ∙ end_is ∙ ap headers_end one_is) two

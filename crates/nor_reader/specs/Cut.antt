@@ -2,6 +2,7 @@
 -- are the Serial Flasher Protocol's).
 use Rattle.std.specs.Prelude.{◌≡◌, ◌<◌, ℕ, min, List, [], ◌∷◌, ◌++◌, length, take, drop, Option}
 use Rattle.nor_base.specs.Device.{Ahead}
+use Rattle.nor_base.specs.Wire.{Wire, wire}
 use Rattle.nor_loop.specs.Log.{Operation, HasLogged}
 use Rattle.nor_reader.specs.declared.by.ReadBy.{ReadBy}
 use Rattle.nor_reader.specs.Reads.{ops_from}
@@ -20,16 +21,15 @@ pub record ReadsCut (first most : ℕ) (by : ReadBy) (bytes : List ℕ) (log : L
   pub those : log ≡ enter_ops by ++ (ops_from by 0 pieces ++ leave_ops by)
 
 -- bytes were read from an address on, by pieces that are cut so
-pub record HasReadCut (first most : ℕ) (held_before held_after : Option (List ℕ)) (ahead_before ahead_after : Ahead) (by : ReadBy) (at : ℕ)
-    (bytes : List ℕ) : Type 0 where
+pub record HasReadCut (first most : ℕ) (before after : Wire) (by : ReadBy) (at : ℕ) (bytes : List ℕ) : Type 0 where
   pub pieces : List (List ℕ)
   pub cut : AreCut first most bytes pieces
-  pub wire : HasLogged held_before held_after ahead_before ahead_after (ops_from by at pieces)
+  pub wire : HasLogged before after (ops_from by at pieces)
 
 -- and so they were read whole, in four-byte mode where that is the way
-abbrev pub HasReadWholeCut : ℕ → ℕ → Option (List ℕ) → Option (List ℕ) → Ahead → Ahead → ReadBy → List ℕ → Type 0
-HasReadWholeCut first most held_before held_after ahead_before ahead_after by bytes =
-    IsEntered by (IsFollowed (λ h i a b. HasReadCut first most h i a b by 0 bytes) (IsLeft by)) held_before held_after ahead_before ahead_after
+abbrev pub HasReadWholeCut : ℕ → ℕ → Wire → Wire → ReadBy → List ℕ → Type 0
+HasReadWholeCut first most before after by bytes =
+    IsEntered by (IsFollowed (λ u v. HasReadCut first most u v by 0 bytes) (IsLeft by)) before after
 
 -- by so many bytes further on a second reading is cut than the first
 abbrev pub shift : ℕ
@@ -37,10 +37,9 @@ shift = 2
 
 -- the exchanges were just two readings of the whole, and these bytes are what both gave. The pieces of the second begin two bytes further
 -- on, after the first two bytes
-pub record ReadApart (most : ℕ) (held_before held_after : Option (List ℕ)) (ahead_before ahead_after : Ahead) (by again : ReadBy)
-    (bytes : List ℕ) : Type 0 where
+pub record ReadApart (most : ℕ) (before after : Wire) (by again : ReadBy) (bytes : List ℕ) : Type 0 where
   pub first : List Operation
   pub second : List Operation
   pub reads : ReadsCut most most by bytes first
   pub rereads : ReadsCut (min shift most) most again bytes second
-  pub wire : HasLogged held_before held_after ahead_before ahead_after (first ++ second)
+  pub wire : HasLogged before after (first ++ second)

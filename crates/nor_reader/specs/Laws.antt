@@ -4,6 +4,7 @@ use Rattle.nor_base.specs.declared.meaning.Start.{Start}
 use Rattle.nor_base.specs.Chip.{begins4}
 use Rattle.nor_base.specs.Device.{Ahead}
 use Rattle.nor_base.specs.Parameters.{Parameters}
+use Rattle.nor_base.specs.Wire.{Wire, wire}
 use Rattle.nor_loop.specs.Laws.{IsReadable, ReadTwice as KnowsTwice}
 use Rattle.nor_reader.specs.declared.by.ReadBy.{ReadBy}
 use Rattle.nor_reader.specs.declared.by.ReadBy.TheVariants.{Tables, Content, FourBytes, Entered}
@@ -20,13 +21,13 @@ GivesBy m start (Entered enter leave) =
 
 -- what went over the wire is two logs, each of which reads the content: every ready chip of the meaning and the start that explains one
 -- held just these bytes, and each that has them explains it
-abbrev pub KnowsContent : Option (List ℕ) → Option (List ℕ) → Ahead → Ahead → Parameters → Start → List ℕ → Type 0
-KnowsContent held_before held_after ahead_before ahead_after m start content =
-    KnowsTwice held_before held_after ahead_before ahead_after m start content
+abbrev pub KnowsContent : Wire → Wire → Parameters → Start → List ℕ → Type 0
+KnowsContent before after m start content =
+    KnowsTwice before after m start content
 
 -- so it is where they came twice alike, however many bytes each read asked for
 abbrev pub TwiceKnows : Type 0
 TwiceKnows = (most : ℕ) (held_before held_after : Option (List ℕ)) (ahead_before ahead_after : Ahead) (m : Parameters) (start : Start)
     (by again : ReadBy) (content : List ℕ) → m.size ≤ 2 ^ 32 → length content ≡ m.size → GivesBy m start by → GivesBy m start again
-    → ReadTwice most held_before held_after ahead_before ahead_after by again content
-    → KnowsContent held_before held_after ahead_before ahead_after m start content
+    → ReadTwice most (wire held_before ahead_before) (wire held_after ahead_after) by again content
+    → KnowsContent (wire held_before ahead_before) (wire held_after ahead_after) m start content

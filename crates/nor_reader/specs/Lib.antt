@@ -1,3 +1,10 @@
+pub mod Pieces
+pub mod Compared
+pub mod Status
+pub mod Known
+pub mod Own
+pub mod OwnWorked
+pub mod AtOnce
 pub mod Switched
 pub mod Reads
 pub mod Again

@@ -3,7 +3,8 @@
 use Rattle.std.specs.Prelude.{ℕ, ◌+◌, ◌-◌, ◌%◌, ◌^◌, ◌<◌, ◌≤◌, min, max, true, List, ◌++◌, length, take, Option, Result, Ok, Err}
 use Rattle.std.specs.List.{slice_range}
 use Rattle.nor_base.specs.Device.{Ahead}
-use Rattle.nor_probe.specs.declared.difference.Mismatch.{Mismatch}
+use Rattle.nor_base.specs.Wire.{Wire, wire}
+use Rattle.nor_reader.specs.declared.difference.Mismatch.{Mismatch}
 use Rattle.nor_reader.specs.declared.by.ReadBy.{ReadBy}
 use Rattle.nor_reader.specs.declared.by.ReadBy.TheVariants.{Content, FourBytes, Entered}
 use Rattle.nor_reader.specs.Again.{MissesPiece}
@@ -30,20 +31,19 @@ abbrev pub with_past : ReadBy → List ℕ → List ℕ
 with_past by content = content ++ take (past_end by (length content)) content
 
 -- the bytes before an address past the end came, and the next read, of no more than so many bytes, ended so
-pub record MissesPast (most : ℕ) (held_before held_after : Option (List ℕ)) (ahead_before ahead_after : Ahead) (by : ReadBy)
-    (content : List ℕ) (why : Mismatch) : Type 0 where
+pub record MissesPast (most : ℕ) (before after : Wire) (by : ReadBy) (content : List ℕ) (why : Mismatch) : Type 0 where
   pub at : ℕ
   pub len : ℕ
   pub some : 0 < len
   pub within : at + len ≤ past_end by (length content)
   pub held : Option (List ℕ)
   pub ahead : Ahead
-  pub alike : HasReadOn most held_before held ahead_before ahead by content (content ++ take at content)
-  pub stop : MissesPiece most held held_after ahead ahead_after by (length content + at) (slice_range content at (at + len)) why
+  pub alike : HasReadOn most before (wire held ahead) by content (content ++ take at content)
+  pub stop : MissesPiece most (wire held ahead) after by (length content + at) (slice_range content at (at + len)) why
 
 -- what reading past the end says
-abbrev pub ReadsPast : ℕ → Option (List ℕ) → Option (List ℕ) → Ahead → Ahead → Result (Unit {0}) Mismatch → ReadBy → List ℕ → Type 0
-ReadsPast most held_before held_after ahead_before ahead_after (Ok u) by content =
-    HasReadOn most held_before held_after ahead_before ahead_after by content (with_past by content)
-ReadsPast most held_before held_after ahead_before ahead_after (Err why) by content =
-    MissesPast most held_before held_after ahead_before ahead_after by content why
+abbrev pub ReadsPast : ℕ → Wire → Wire → Result (Unit {0}) Mismatch → ReadBy → List ℕ → Type 0
+ReadsPast most before after (Ok u) by content =
+    HasReadOn most before after by content (with_past by content)
+ReadsPast most before after (Err why) by content =
+    MissesPast most before after by content why

@@ -3,6 +3,7 @@
 use Rattle.std.specs.Prelude.{◌≡◌, ◌<◌, ◌≤◌, ℕ, ◌+◌, ◌^◌, true, List, [], ◌∷◌, ◌++◌, length, Option, Err}
 use Rattle.std.specs.List.{AllByRecursion, concat}
 use Rattle.nor_base.specs.Device.{Ahead}
+use Rattle.nor_base.specs.Wire.{Wire, wire}
 use Rattle.nor_serprog.specs.declared.fault.Fault.{Fault}
 use Rattle.nor_serprog.specs.Exchange.{Answers, Asks}
 use Rattle.nor_serprog.specs.Protocol.{request}
@@ -44,26 +45,24 @@ pub record ReadsBy (most : ℕ) (by : ReadBy) (bytes : List ℕ) (log : List Ope
 
 -- bytes were read that follow those in front: just these reads went out, each of them for no more than so many bytes, and just these
 -- bytes came
-pub record HasReadOn (most : ℕ) (held_before held_after : Option (List ℕ)) (ahead_before ahead_after : Ahead) (by : ReadBy)
-    (front bytes : List ℕ) : Type 0 where
+pub record HasReadOn (most : ℕ) (before after : Wire) (by : ReadBy) (front bytes : List ℕ) : Type 0 where
   pub pieces : List (List ℕ)
   pub filled : AllByRecursion (IsPiece most) pieces
   pub whole : front ++ concat pieces ≡ bytes
-  pub wire : HasLogged held_before held_after ahead_before ahead_after (ops_from by (length front) pieces)
+  pub wire : HasLogged before after (ops_from by (length front) pieces)
 
 -- the exchange of a read of no more than so many bytes, from an address on, ended so
-abbrev pub StopsPiece : ℕ → Option (List ℕ) → Option (List ℕ) → Ahead → Ahead → ReadBy → ℕ → List ℕ → Fault → Type 0
-StopsPiece most held_before held_after ahead_before ahead_after by at got why =
+abbrev pub StopsPiece : ℕ → Wire → Wire → ReadBy → ℕ → List ℕ → Fault → Type 0
+StopsPiece most before after by at got why =
     (length got < 2 ^ 24) × (length got ≤ most)
-    × Asks held_before held_after ahead_before ahead_after (Err why) (request (sent_by by at (length got)) (length got))
-    (Answers ahead_before ahead_after (Err why) got)
+    × Asks before after (Err why) (request (sent_by by at (length got)) (length got))
+    (Answers before.ahead after.ahead (Err why) got)
 
 -- some of the bytes that follow those in front were read, and the exchange of the next read ended so
-pub record StopsOn (most : ℕ) (held_before held_after : Option (List ℕ)) (ahead_before ahead_after : Ahead) (by : ReadBy) (front : List ℕ)
-    (why : Fault) : Type 0 where
+pub record StopsOn (most : ℕ) (before after : Wire) (by : ReadBy) (front : List ℕ) (why : Fault) : Type 0 where
   pub so_far : List ℕ
   pub held : Option (List ℕ)
   pub ahead : Ahead
-  pub read : HasReadOn most held_before held ahead_before ahead by front so_far
+  pub read : HasReadOn most before (wire held ahead) by front so_far
   pub got : List ℕ
-  pub stop : StopsPiece most held held_after ahead ahead_after by (length so_far) got why
+  pub stop : StopsPiece most (wire held ahead) after by (length so_far) got why

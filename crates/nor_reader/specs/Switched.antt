@@ -4,6 +4,7 @@ use Rattle.std.specs.Prelude.{◌≡◌, ℕ, List, ◌∷◌, ◌++◌, length,
 use Rattle.nor_base.specs.declared.meaning.Switch.{Switch}
 use Rattle.nor_base.specs.declared.meaning.Switch.TheVariants.{Absent}
 use Rattle.nor_base.specs.Device.{Ahead}
+use Rattle.nor_base.specs.Wire.{Wire, wire}
 use Rattle.nor_serprog.specs.declared.fault.Fault.{Fault}
 use Rattle.nor_serprog.specs.Exchange.{Answers, Asks}
 use Rattle.nor_serprog.specs.Protocol.{request}
@@ -30,7 +31,7 @@ abbrev pub leave_ops : ReadBy → List Operation
 leave_ops by = switch_ops (leave_of by) 0xE9
 
 -- of these operations some were done, and the exchange of the next one ended so
-pub record StopsAmong (held_before held_after : Option (List ℕ)) (ahead_before ahead_after : Ahead) (ops : List Operation) (why : Fault)
+pub record StopsAmong (before after : Wire) (ops : List Operation) (why : Fault)
     : Type 0 where
   pub front : List Operation
   pub last : Operation
@@ -38,10 +39,10 @@ pub record StopsAmong (held_before held_after : Option (List ℕ)) (ahead_before
   pub those : ops ≡ front ++ last ∷ rest
   pub held : Option (List ℕ)
   pub ahead : Ahead
-  pub done : HasLogged held_before held ahead_before ahead front
-  pub stop : Asks held held_after ahead ahead_after (Err why) (request last.sent (length last.got)) (Answers ahead ahead_after (Err why) last.got)
+  pub done : HasLogged before (wire held ahead) front
+  pub stop : Asks (wire held ahead) after (Err why) (request last.sent (length last.got)) (Answers ahead after.ahead (Err why) last.got)
 
 -- what such operations say
-abbrev pub Operates : Option (List ℕ) → Option (List ℕ) → Ahead → Ahead → Result (Unit {0}) Fault → List Operation → Type 0
-Operates held_before held_after ahead_before ahead_after (Ok u) ops = HasLogged held_before held_after ahead_before ahead_after ops
-Operates held_before held_after ahead_before ahead_after (Err why) ops = StopsAmong held_before held_after ahead_before ahead_after ops why
+abbrev pub Operates : Wire → Wire → Result (Unit {0}) Fault → List Operation → Type 0
+Operates before after (Ok u) ops = HasLogged before after ops
+Operates before after (Err why) ops = StopsAmong before after ops why

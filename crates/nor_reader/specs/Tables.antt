@@ -1,13 +1,14 @@
 -- A chip's SFDP tables (JESD216B: the header with its signature, the parameter headers).
 use Rattle.std.specs.Prelude.{◌≡◌, ℕ, ◌+◌, ◌*◌, ◌^◌, min, take, List, [], length, codes, Option, Result, Ok, Err}
 use Rattle.nor_base.specs.Device.{Ahead, one_more}
-use Rattle.nor_probe.specs.Tables.{header_count, greatest, ends}
+use Rattle.nor_base.specs.Wire.{Wire}
+use Rattle.nor_reader.specs.Known.{header_count, greatest, ends}
 use Rattle.nor_reader.specs.declared.by.ReadBy.TheVariants.{Tables}
 use Rattle.nor_reader.specs.declared.tables.TablesFault.{TablesFault}
 use Rattle.nor_reader.specs.declared.tables.TablesFault.TheVariants.{Memory, NoSignature, Unread}
 use Rattle.nor_serprog.specs.declared.fault.Fault.{Fault}
 use Rattle.nor_serprog.specs.declared.fault.Fault.TheVariants as fault
-use Rattle.nor_probe.specs.declared.difference.Mismatch.TheVariants.{Exchange}
+use Rattle.nor_reader.specs.declared.difference.Mismatch.TheVariants.{Exchange}
 use Rattle.nor_reader.specs.Reads.{HasReadOn, StopsOn}
 use Rattle.nor_reader.specs.Twice.{ReadTwice, StopsTwice}
 
@@ -29,28 +30,28 @@ pub record AreTables (bytes : List ℕ) : Type 0 where
   pub far : length bytes ≡ tables_size (take (headers_end bytes) bytes)
 
 -- they came twice alike, as far as their own headers reach
-pub record HasReadTables (most : ℕ) (held_before held_after : Option (List ℕ)) (ahead_before ahead_after : Ahead) (bytes : List ℕ) : Type 0 where
+pub record HasReadTables (most : ℕ) (before after : Wire) (bytes : List ℕ) : Type 0 where
   pub are : AreTables bytes
-  pub twice : ReadTwice most held_before held_after ahead_before ahead_after Tables Tables bytes
+  pub twice : ReadTwice most before after Tables Tables bytes
 
 -- why they aren't read: there is no signature in the header, which was read once; or they didn't come twice alike; or memory ran out
 -- after a part of them
-abbrev pub StopsTables : ℕ → Option (List ℕ) → Option (List ℕ) → Ahead → Ahead → TablesFault → Type 0
-StopsTables most held_before held_after ahead_before ahead_after NoSignature =
-    (bytes : List ℕ) × (length bytes ≡ 8) × (HasSignature bytes → ⊥) × HasReadOn most held_before held_after ahead_before ahead_after Tables [] bytes
-StopsTables most held_before held_after ahead_before ahead_after (Unread why) =
-    (bytes : List ℕ) × StopsTwice most held_before held_after ahead_before ahead_after Tables Tables bytes why
-StopsTables most held_before held_after ahead_before ahead_after Memory =
-    (bytes : List ℕ) × HasReadOn most held_before held_after ahead_before ahead_after Tables [] bytes
+abbrev pub StopsTables : ℕ → Wire → Wire → TablesFault → Type 0
+StopsTables most before after NoSignature =
+    (bytes : List ℕ) × (length bytes ≡ 8) × (HasSignature bytes → ⊥) × HasReadOn most before after Tables [] bytes
+StopsTables most before after (Unread why) =
+    (bytes : List ℕ) × StopsTwice most before after Tables Tables bytes why
+StopsTables most before after Memory =
+    (bytes : List ℕ) × HasReadOn most before after Tables [] bytes
 
 -- what reading on says, until there are so many bytes
-abbrev pub Grows : ℕ → Option (List ℕ) → Option (List ℕ) → Ahead → Ahead → Result (Unit {0}) TablesFault → List ℕ → List ℕ → ℕ → Type 0
-Grows most held_before held_after ahead_before ahead_after (Ok u) old new end =
-    (length new ≡ end) × HasReadOn most held_before held_after ahead_before ahead_after Tables old new
-Grows most held_before held_after ahead_before ahead_after (Err Memory) old new end = (held_after ≡ held_before) × (ahead_after ≡ ahead_before)
-Grows most held_before held_after ahead_before ahead_after (Err (Unread (Exchange why))) old new end =
-    StopsOn most held_before held_after ahead_before ahead_after Tables old why
-Grows most held_before held_after ahead_before ahead_after (Err other) old new end = ⊥
+abbrev pub Grows : ℕ → Wire → Wire → Result (Unit {0}) TablesFault → List ℕ → List ℕ → ℕ → Type 0
+Grows most before after (Ok u) old new end =
+    (length new ≡ end) × HasReadOn most before after Tables old new
+Grows most before after (Err Memory) old new end = (after.held ≡ before.held) × (after.ahead ≡ before.ahead)
+Grows most before after (Err (Unread (Exchange why))) old new end =
+    StopsOn most before after Tables old why
+Grows most before after (Err other) old new end = ⊥
 
 -- the reader's count of failures rises by one exactly where the exchange ended in Read, the writer's where it ended in Write
 abbrev pub CountsTables : {T : Type 0} → Fault → ℕ → ℕ → Result T TablesFault → Type 0

@@ -3,6 +3,7 @@ use Rattle.std.specs.Prelude.{◌≡◌, ◌≤◌, ◌<◌, ℕ, Bool, true, fa
 use Rattle.nor_base.specs.declared.meaning.Switch.{Switch}
 use Rattle.nor_base.specs.Device.{Ahead}
 use Rattle.nor_base.specs.Instructions.{is_there}
+use Rattle.nor_base.specs.Wire.{Wire, wire}
 use Rattle.nor_loop.specs.Log.{Operation, HasLogged}
 use Rattle.nor_loop.specs.Reads.{switch_ops}
 use Rattle.nor_reader.specs.declared.by.ReadBy.{ReadBy}
@@ -76,11 +77,11 @@ GivesSaid other said = ⊥
 
 -- what went over the wire is two logs. Every chip that gives all that came back has just this content, and it was in the mode that was said,
 -- whichever its address mode was as they began; where the mode is sure it was that one
-pub record KnowsMode (held_before held_after : Option (List ℕ)) (ahead_before ahead_after : Ahead) (sure said : Bool) (content : List ℕ)
+pub record KnowsMode (before after : Wire) (sure said : Bool) (content : List ℕ)
     : Type 0 where
   pub first : List Operation
   pub again : List Operation
-  pub wire : HasLogged held_before held_after ahead_before ahead_after (first ++ again)
+  pub wire : HasLogged before after (first ++ again)
   pub known : (mode4 : Bool) (holds : ℕ → ℕ) → (sure ≡ true → mode4 ≡ said) → HasGiven holds mode4 (first ++ again)
       → (mode4 ≡ said) × Holds holds content
 
@@ -88,15 +89,15 @@ pub record KnowsMode (held_before held_after : Option (List ℕ)) (ahead_before 
 abbrev pub ApartKnows : Type 0
 ApartKnows = (most : ℕ) (held_before held_after : Option (List ℕ)) (ahead_before ahead_after : Ahead) (said : Bool) (content : List ℕ)
     → length content ≤ 2 ^ 32 → ShowsMode said most content
-    → ReadApart most held_before held_after ahead_before ahead_after (Content said) (Content said) content
-    → KnowsMode held_before held_after ahead_before ahead_after false said content
+    → ReadApart most (wire held_before ahead_before) (wire held_after ahead_after) (Content said) (Content said) content
+    → KnowsMode (wire held_before ahead_before) (wire held_after ahead_after) false said content
 
 -- and where the mode is sure, and the first reading gives the content to a chip in it
 abbrev pub SureKnows : Type 0
 SureKnows = (most : ℕ) (held_before held_after : Option (List ℕ)) (ahead_before ahead_after : Ahead) (by again : ReadBy) (said : Bool)
     (content : List ℕ) → length content ≤ 2 ^ 32 → GivesSaid by said
-    → ReadApart most held_before held_after ahead_before ahead_after by again content
-    → KnowsMode held_before held_after ahead_before ahead_after true said content
+    → ReadApart most (wire held_before ahead_before) (wire held_after ahead_after) by again content
+    → KnowsMode (wire held_before ahead_before) (wire held_after ahead_after) true said content
 
 -- the mode after operations
 abbrev pub modes_after : Bool → List Operation → Bool

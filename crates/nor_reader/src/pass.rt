@@ -2,7 +2,7 @@
 
 ghost use Rattle.std.specs.Prelude.{◌≡◌, ◌≤◌, ◌<◌, ◌^◌, min, [], length, take, drop, IfOk};
 ghost use Rattle.std.specs.Prelude.{MatchResult};
-ghost use Rattle.nor_probe.specs.Compared.{CountsMismatch};
+ghost use Rattle.nor_reader.specs.Compared.{CountsMismatch};
 ghost use Rattle.nor_serprog.specs.declared.fault.Fault.TheVariants.{Read, Write};
 ghost use Rattle.nor_serprog.specs.Exchange.{CountsReads, CountsWrites};
 ghost use Rattle.nor_reader.specs.Again.{ReadsAgain};
@@ -10,95 +10,106 @@ ghost use Rattle.nor_reader.specs.Cut.{HasReadCut, HasReadWholeCut, ReadApart, s
 ghost use Rattle.nor_reader.specs.Reads.{HasReadOn, StopsOn};
 ghost use Rattle.nor_reader.specs.Twice.{HasReadWhole, ReadTwice, ReadsWhole, StopsFirst};
 ghost use Rattle.nor_reader.specs.Twice.{StopsTwice};
+ghost use Rattle.nor_base.specs.Wire.{wire};
 
 use crate::by::{ReadBy, enter_of, leave_of};
+use crate::difference::Mismatch;
 use crate::piece::{compare_piece, read_piece};
 use crate::shows::SHIFT;
 use crate::switch::{ENTER, LEAVE, switch_mode};
+use crate::told::{Pass, Told};
 use nor_base::{ByteIn, ByteOut};
-use nor_probe::Mismatch;
 use nor_serprog::{Fault, Limits};
 
 /// Has the device read its chip from address 0 on, as many bytes at once as it can give; then
 /// again, perhaps by another instruction, in pieces that begin two bytes further on, and compares.
-/// It takes no memory.
+/// How far it is goes to `progress`; where that fails nothing changes. It takes no memory.
 ///
 /// `Differs` names the lowest address whose byte came otherwise; four-byte mode was left where it
 /// was entered. `Exchange` where an exchange ended early, after which nothing was sent.
-pub fn read_content<R: ByteIn, W: ByteOut>(
+pub fn read_content<R: ByteIn, W: ByteOut, P: ByteOut>(
     from: &mut R,
     to: &mut W,
     limits: &Limits,
     by: ReadBy,
     again: ReadBy,
     content: &mut [u8],
+    progress: &mut P,
 ) -> Result<(), Mismatch>
     requires size { length content.old ≤ 2 ^ 32 }
     ensures twice { MatchResult result
-        (λ _. ReadTwice limits.now.asked (W.held to.old) (W.held to.new) (R.ahead from.old)
-        (R.ahead from.new) by again content.new)
-        (StopsTwice limits.now.asked (W.held to.old) (W.held to.new) (R.ahead from.old)
-        (R.ahead from.new) by again content.new) }
+        (λ _. ReadTwice limits.now.asked (wire (W.held to.old) (R.ahead from.old))
+        (wire (W.held to.new) (R.ahead from.new)) by again content.new)
+        (StopsTwice limits.now.asked (wire (W.held to.old) (R.ahead from.old))
+        (wire (W.held to.new) (R.ahead from.new)) by again content.new) }
     ensures apart { IfOk result
-        (λ _. ReadApart limits.now.asked (W.held to.old) (W.held to.new) (R.ahead from.old)
-        (R.ahead from.new) by again content.new) }
+        (λ _. ReadApart limits.now.asked (wire (W.held to.old) (R.ahead from.old))
+        (wire (W.held to.new) (R.ahead from.new)) by again content.new) }
     ensures counts { CountsMismatch Read (R.count from.old) (R.count from.new) result
         × CountsMismatch Write (W.count to.old) (W.count to.new) result }
 {
-    if let Err(why) = read_first(from, to, limits, by, content) {
+    if let Err(why) = read_first(from, to, limits, by, content, progress) {
         return Err(Mismatch::Exchange(why));
     }
-    read_again(from, to, limits, again, content)
+    read_again(from, to, limits, again, content, Pass::Second, progress)
 }
 
 /// Has the device read its chip from address 0 on, as far as there is room, in four-byte mode where
 /// that is the way.
-fn read_first<R: ByteIn, W: ByteOut>(
+fn read_first<R: ByteIn, W: ByteOut, P: ByteOut>(
     from: &mut R,
     to: &mut W,
     limits: &Limits,
     by: ReadBy,
     bytes: &mut [u8],
+    progress: &mut P,
 ) -> Result<(), Fault>
     requires size { length bytes.old ≤ 2 ^ 32 }
     ensures read { MatchResult result
-        (λ _. HasReadWhole limits.now.asked (W.held to.old) (W.held to.new) (R.ahead from.old)
-        (R.ahead from.new) by bytes.new)
-        (StopsFirst limits.now.asked (W.held to.old) (W.held to.new) (R.ahead from.old)
-        (R.ahead from.new) by bytes.new) }
+        (λ _. HasReadWhole limits.now.asked (wire (W.held to.old) (R.ahead from.old))
+        (wire (W.held to.new) (R.ahead from.new)) by bytes.new)
+        (StopsFirst limits.now.asked (wire (W.held to.old) (R.ahead from.old))
+        (wire (W.held to.new) (R.ahead from.new)) by bytes.new) }
     ensures cut { IfOk result
-        (λ _. HasReadWholeCut limits.now.asked limits.now.asked (W.held to.old) (W.held to.new)
-        (R.ahead from.old) (R.ahead from.new) by bytes.new) }
+        (λ _. HasReadWholeCut limits.now.asked limits.now.asked
+        (wire (W.held to.old) (R.ahead from.old)) (wire (W.held to.new) (R.ahead from.new)) by
+        bytes.new) }
     ensures counts { CountsReads (R.count from.old) (R.count from.new) result
         × CountsWrites (W.count to.old) (W.count to.new) result }
 {
     if let Err(why) = switch_mode(from, to, enter_of(by), ENTER) {
         return Err(why);
     }
-    if let Err(why) = read_on(from, to, limits, by, bytes, 0) {
+    let mut told = Told::new(Pass::First, bytes.len(), progress);
+    let read = read_on(from, to, limits, by, bytes, 0, &mut told);
+    told.end();
+    if let Err(why) = read {
         return Err(why);
     }
     switch_mode(from, to, leave_of(by), LEAVE)
 }
 
-/// Has the device read its chip from address 0 on, and compares it with bytes, as many at once as
-/// it can give. It takes no memory.
+/// Has the device read its chip from address 0 on, and compares it with bytes, telling `progress`
+/// how far it is. It takes no memory.
 ///
 /// `Differs` names the lowest address whose byte is another; four-byte mode was left where it was
 /// entered. `Exchange` where an exchange ended early, after which nothing was sent.
-pub fn read_again<R: ByteIn, W: ByteOut>(
+pub fn read_again<R: ByteIn, W: ByteOut, P: ByteOut>(
     from: &mut R,
     to: &mut W,
     limits: &Limits,
     by: ReadBy,
     bytes: &[u8],
+    pass: Pass,
+    progress: &mut P,
 ) -> Result<(), Mismatch>
     requires size { length bytes.now ≤ 2 ^ 32 }
-    ensures again { ReadsWhole limits.now.asked (W.held to.old) (W.held to.new) (R.ahead from.old)
-        (R.ahead from.new) result by bytes.now }
+    ensures again { ReadsWhole limits.now.asked (wire (W.held to.old) (R.ahead from.old))
+        (wire (W.held to.new) (R.ahead from.new)) result by bytes.now }
     ensures cut { IfOk result
-        (λ _. HasReadWholeCut (min shift limits.now.asked) limits.now.asked (W.held to.old)
-        (W.held to.new) (R.ahead from.old) (R.ahead from.new) by bytes.now) }
+        (λ _. HasReadWholeCut (min shift limits.now.asked) limits.now.asked
+        (wire (W.held to.old) (R.ahead from.old)) (wire (W.held to.new) (R.ahead from.new)) by
+        bytes.now) }
     ensures counts { CountsMismatch Read (R.count from.old) (R.count from.new) result
         × CountsMismatch Write (W.count to.old) (W.count to.new) result }
 {
@@ -106,7 +117,10 @@ pub fn read_again<R: ByteIn, W: ByteOut>(
         return Err(Mismatch::Exchange(why));
     }
     let first = SHIFT.min(limits.asked as usize);
-    match compare_all(from, to, limits, by, bytes, first) {
+    let mut told = Told::new(pass, bytes.len(), progress);
+    let read = compare_all(from, to, limits, by, bytes, first, &mut told);
+    told.end();
+    match read {
         Ok(()) => match switch_mode(from, to, leave_of(by), LEAVE) {
             Ok(()) => Ok(()),
             Err(why) => Err(Mismatch::Exchange(why)),
@@ -121,24 +135,25 @@ pub fn read_again<R: ByteIn, W: ByteOut>(
 
 /// Has the device read its chip from an address on, as far as there is room. The bytes before that
 /// address stay.
-pub(crate) fn read_on<R: ByteIn, W: ByteOut>(
+pub(crate) fn read_on<R: ByteIn, W: ByteOut, P: ByteOut>(
     from: &mut R,
     to: &mut W,
     limits: &Limits,
     by: ReadBy,
     bytes: &mut [u8],
     start: usize,
+    told: &mut Told<'_, P>,
 ) -> Result<(), Fault>
     requires start { start ≤ length bytes.old }
     requires size { length bytes.old ≤ 2 ^ 32 }
     ensures read { MatchResult result
-        (λ _. HasReadOn limits.now.asked (W.held to.old) (W.held to.new) (R.ahead from.old)
-        (R.ahead from.new) by (take start bytes.old) bytes.new)
-        (StopsOn limits.now.asked (W.held to.old) (W.held to.new) (R.ahead from.old)
-        (R.ahead from.new) by (take start bytes.old)) }
+        (λ _. HasReadOn limits.now.asked (wire (W.held to.old) (R.ahead from.old))
+        (wire (W.held to.new) (R.ahead from.new)) by (take start bytes.old) bytes.new)
+        (StopsOn limits.now.asked (wire (W.held to.old) (R.ahead from.old))
+        (wire (W.held to.new) (R.ahead from.new)) by (take start bytes.old)) }
     ensures cut { IfOk result
-        (λ _. HasReadCut limits.now.asked limits.now.asked (W.held to.old) (W.held to.new)
-        (R.ahead from.old) (R.ahead from.new) by start (drop start bytes.new)) }
+        (λ _. HasReadCut limits.now.asked limits.now.asked (wire (W.held to.old) (R.ahead from.old))
+        (wire (W.held to.new) (R.ahead from.new)) by start (drop start bytes.new)) }
     ensures size { length bytes.new ≡ length bytes.old }
     ensures counts { CountsReads (R.count from.old) (R.count from.new) result
         × CountsWrites (W.count to.old) (W.count to.new) result }
@@ -152,28 +167,30 @@ pub(crate) fn read_on<R: ByteIn, W: ByteOut>(
             return Err(why);
         }
         done += len;
+        told.came(done);
     }
     Ok(())
 }
 
 /// Has the device read its chip from address 0 on, so many bytes first, and compares what comes
 /// with bytes.
-pub(crate) fn compare_all<R: ByteIn, W: ByteOut>(
+pub(crate) fn compare_all<R: ByteIn, W: ByteOut, P: ByteOut>(
     from: &mut R,
     to: &mut W,
     limits: &Limits,
     by: ReadBy,
     bytes: &[u8],
     first: usize,
+    told: &mut Told<'_, P>,
 ) -> Result<(), Mismatch>
     requires some { 0 < first }
     requires few { first ≤ limits.now.asked }
     requires size { length bytes.now ≤ 2 ^ 32 }
-    ensures again { ReadsAgain limits.now.asked (W.held to.old) (W.held to.new) (R.ahead from.old)
-        (R.ahead from.new) result by bytes.now }
+    ensures again { ReadsAgain limits.now.asked (wire (W.held to.old) (R.ahead from.old))
+        (wire (W.held to.new) (R.ahead from.new)) result by bytes.now }
     ensures cut { IfOk result
-        (λ _. HasReadCut first limits.now.asked (W.held to.old) (W.held to.new)
-        (R.ahead from.old) (R.ahead from.new) by 0 bytes.now) }
+        (λ _. HasReadCut first limits.now.asked (wire (W.held to.old) (R.ahead from.old))
+        (wire (W.held to.new) (R.ahead from.new)) by 0 bytes.now) }
     ensures counts { CountsMismatch Read (R.count from.old) (R.count from.new) result
         × CountsMismatch Write (W.count to.old) (W.count to.new) result }
 {
@@ -186,6 +203,7 @@ pub(crate) fn compare_all<R: ByteIn, W: ByteOut>(
             return Err(why);
         }
         done += len;
+        told.came(done);
         next = most;
     }
     Ok(())

@@ -1,15 +1,16 @@
 //! What a chip gives past its end.
 
 ghost use Rattle.std.specs.Prelude.{◌≡◌, ◌≤◌, length, MatchResult};
-ghost use Rattle.nor_probe.specs.Compared.{CountsMismatch};
+ghost use Rattle.nor_reader.specs.Compared.{CountsMismatch};
 ghost use Rattle.nor_serprog.specs.declared.fault.Fault.TheVariants.{Read, Write};
 ghost use Rattle.nor_reader.specs.Harmless.{HasSentHarmless, SendsHarmless};
 ghost use Rattle.nor_reader.specs.Past.{past_end, reach, telling_past, ReadsPast};
+ghost use Rattle.nor_base.specs.Wire.{wire};
 
 use crate::by::ReadBy;
+use crate::difference::Mismatch;
 use crate::piece::compare_piece;
 use nor_base::{ByteIn, ByteOut};
-use nor_probe::Mismatch;
 use nor_serprog::Limits;
 
 /// The largest block of an erase that is looked for.
@@ -31,8 +32,8 @@ pub fn read_past<R: ByteIn, W: ByteOut>(
     by: ReadBy,
     content: &[u8],
 ) -> Result<(), Mismatch>
-    ensures past { ReadsPast limits.now.asked (W.held to.old) (W.held to.new) (R.ahead from.old)
-        (R.ahead from.new) result by content.now }
+    ensures past { ReadsPast limits.now.asked (wire (W.held to.old) (R.ahead from.old))
+        (wire (W.held to.new) (R.ahead from.new)) result by content.now }
     ensures harmless { MatchResult result (λ _. HasSentHarmless (W.held to.old) (W.held to.new))
         (λ _. SendsHarmless (W.held to.old) (W.held to.new)) }
     ensures counts { CountsMismatch Read (R.count from.old) (R.count from.new) result

@@ -2,17 +2,18 @@
 
 ghost use Rattle.std.specs.Prelude.{◌<◌, ◌+◌, ◌^◌, [], ◌∷◌, length, MatchResult};
 ghost use Rattle.nor_loop.specs.Log.{HasLogged};
-ghost use Rattle.nor_probe.specs.Compared.{CountsMismatch};
+ghost use Rattle.nor_reader.specs.Compared.{CountsMismatch};
 ghost use Rattle.nor_serprog.specs.declared.fault.Fault.TheVariants.{Read, Write};
 ghost use Rattle.nor_serprog.specs.Exchange.{Answers, Asks, CountsReads, CountsWrites, Knows};
 ghost use Rattle.nor_serprog.specs.Follow.{CountsReason};
 ghost use Rattle.nor_serprog.specs.Protocol.{request};
 ghost use Rattle.nor_reader.specs.Again.{ReadsPiece};
 ghost use Rattle.nor_reader.specs.Reads.{sent_by, read_op, StopsPiece};
+ghost use Rattle.nor_base.specs.Wire.{wire};
 
 use crate::by::ReadBy;
+use crate::difference::{Difference, Mismatch};
 use nor_base::{ByteIn, ByteOut};
-use nor_probe::{Difference, Mismatch};
 use nor_serprog::{Fault, Limits, Reason, operate, operate_with};
 
 /// Has the device read as many bytes as a piece has room for, from an address on.
@@ -25,10 +26,11 @@ pub(crate) fn read_piece<R: ByteIn, W: ByteOut>(
 ) -> Result<(), Fault>
     requires size { length piece.old < 2 ^ 24 }
     ensures read { MatchResult result
-        (λ _. HasLogged (W.held to.old) (W.held to.new) (R.ahead from.old) (R.ahead from.new)
+        (λ _. HasLogged (wire (W.held to.old) (R.ahead from.old))
+        (wire (W.held to.new) (R.ahead from.new))
         (read_op by address piece.new ∷ []))
-        (StopsPiece (length piece.new) (W.held to.old) (W.held to.new) (R.ahead from.old)
-        (R.ahead from.new) by address piece.new) }
+        (StopsPiece (length piece.new) (wire (W.held to.old) (R.ahead from.old))
+        (wire (W.held to.new) (R.ahead from.new)) by address piece.new) }
     ensures counts { CountsReads (R.count from.old) (R.count from.new) result
         × CountsWrites (W.count to.old) (W.count to.new) result }
 {
@@ -44,7 +46,8 @@ fn ask_piece<R: ByteIn, W: ByteOut>(
     piece: &mut [u8],
 ) -> Result<(), Fault>
     requires size { length piece.old < 2 ^ 24 }
-    ensures asked { Asks (W.held to.old) (W.held to.new) (R.ahead from.old) (R.ahead from.new)
+    ensures asked { Asks (wire (W.held to.old) (R.ahead from.old))
+        (wire (W.held to.new) (R.ahead from.new))
         result
         (request (sent_by by address (length piece.new)) (length piece.new))
         (Answers (R.ahead from.old) (R.ahead from.new) result piece.new) }
@@ -78,8 +81,8 @@ pub(crate) fn compare_piece<R: ByteIn, W: ByteOut>(
 ) -> Result<(), Mismatch>
     requires size { length piece.now < 2 ^ 24 }
     requires end { address + length piece.now < 2 ^ 32 + 1 }
-    ensures read { ReadsPiece (length piece.now) (W.held to.old) (W.held to.new)
-        (R.ahead from.old) (R.ahead from.new) result by address piece.now }
+    ensures read { ReadsPiece (length piece.now) (wire (W.held to.old) (R.ahead from.old))
+        (wire (W.held to.new) (R.ahead from.new)) result by address piece.now }
     ensures counts { CountsMismatch Read (R.count from.old) (R.count from.new) result
         × CountsMismatch Write (W.count to.old) (W.count to.new) result }
 {
@@ -104,7 +107,8 @@ fn expect_piece<R: ByteIn, W: ByteOut>(
     piece: &[u8],
 ) -> Result<(), Reason>
     requires size { length piece.now < 2 ^ 24 }
-    ensures known { Knows (W.held to.old) (W.held to.new) (R.ahead from.old) (R.ahead from.new)
+    ensures known { Knows (wire (W.held to.old) (R.ahead from.old))
+        (wire (W.held to.new) (R.ahead from.new))
         result
         (request (sent_by by address (length piece.now)) (length piece.now)) piece.now }
     ensures counts { CountsReason Read (R.count from.old) (R.count from.new) result

@@ -4,6 +4,7 @@ ghost use Rattle.std.specs.Prelude.{[], ◌∷◌};
 ghost use Rattle.nor_loop.specs.Reads.{bare, switch_ops};
 ghost use Rattle.nor_serprog.specs.Exchange.{CountsReads, CountsWrites};
 ghost use Rattle.nor_reader.specs.Switched.{Operates};
+ghost use Rattle.nor_base.specs.Wire.{wire};
 
 use nor_base::{ByteIn, ByteOut, Switch};
 use nor_serprog::{Fault, operate};
@@ -28,8 +29,8 @@ pub fn switch_mode<R: ByteIn, W: ByteOut>(
     switch: Switch,
     opcode: u8,
 ) -> Result<(), Fault>
-    ensures switches { Operates (W.held to.old) (W.held to.new) (R.ahead from.old)
-        (R.ahead from.new) result (switch_ops switch opcode) }
+    ensures switches { Operates (wire (W.held to.old) (R.ahead from.old))
+        (wire (W.held to.new) (R.ahead from.new)) result (switch_ops switch opcode) }
     ensures counts { CountsReads (R.count from.old) (R.count from.new) result
         × CountsWrites (W.count to.old) (W.count to.new) result }
 {
@@ -46,7 +47,8 @@ pub fn switch_mode<R: ByteIn, W: ByteOut>(
 
 /// Has the device send an opcode and nothing else.
 fn send<R: ByteIn, W: ByteOut>(from: &mut R, to: &mut W, opcode: u8) -> Result<(), Fault>
-    ensures sends { Operates (W.held to.old) (W.held to.new) (R.ahead from.old) (R.ahead from.new)
+    ensures sends { Operates (wire (W.held to.old) (R.ahead from.old))
+        (wire (W.held to.new) (R.ahead from.new))
         result (bare opcode ∷ []) }
     ensures counts { CountsReads (R.count from.old) (R.count from.new) result
         × CountsWrites (W.count to.old) (W.count to.new) result }

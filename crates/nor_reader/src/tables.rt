@@ -6,11 +6,14 @@ ghost use Rattle.nor_reader.specs.declared.tables.TablesFault.TheVariants.{Memor
 ghost use Rattle.nor_serprog.specs.declared.fault.Fault.TheVariants.{Read, Write};
 ghost use Rattle.nor_reader.specs.Tables.{CountsTables, Grows, HasReadTables, HasSignature};
 ghost use Rattle.nor_reader.specs.Tables.{StopsTables, headers_end, tables_size};
+ghost use Rattle.nor_base.specs.Wire.{wire};
 
 use crate::by::ReadBy;
+use crate::difference::Mismatch;
+use crate::known::table_end;
 use crate::pass::{compare_all, read_on};
-use nor_base::{ByteIn, ByteOut};
-use nor_probe::{Mismatch, table_end};
+use crate::told::{Pass, Told};
+use nor_base::{ByteIn, ByteOut, Nowhere};
 use nor_serprog::Limits;
 use std::alloc::{AllocError, Global};
 
@@ -51,10 +54,10 @@ pub fn read_tables<R: ByteIn, W: ByteOut>(
     limits: &Limits,
 ) -> Result<Vec<u8>, TablesFault>
     ensures tables { MatchResult result
-        (λ bytes. HasReadTables limits.now.asked (W.held to.old) (W.held to.new)
-        (R.ahead from.old) (R.ahead from.new) bytes.items)
-        (StopsTables limits.now.asked (W.held to.old) (W.held to.new) (R.ahead from.old)
-        (R.ahead from.new)) }
+        (λ bytes. HasReadTables limits.now.asked (wire (W.held to.old) (R.ahead from.old))
+        (wire (W.held to.new) (R.ahead from.new)) bytes.items)
+        (StopsTables limits.now.asked (wire (W.held to.old) (R.ahead from.old))
+        (wire (W.held to.new) (R.ahead from.new))) }
     ensures counts { CountsTables Read (R.count from.old) (R.count from.new) result
         × CountsTables Write (W.count to.old) (W.count to.new) result }
 {
@@ -74,7 +77,10 @@ pub fn read_tables<R: ByteIn, W: ByteOut>(
         return Err(why);
     }
     let first = limits.asked as usize;
-    match compare_all(from, to, limits, ReadBy::Tables, bytes.as_slice(), first) {
+    let mut quiet = Nowhere;
+    let mut told = Told::new(Pass::Second, 0, &mut quiet);
+    let tables = bytes.as_slice();
+    match compare_all(from, to, limits, ReadBy::Tables, tables, first, &mut told) {
         Ok(()) => Ok(bytes),
         Err(why) => Err(TablesFault::Unread(why)),
     }
@@ -90,13 +96,15 @@ fn grow<R: ByteIn, W: ByteOut>(
 ) -> Result<(), TablesFault>
     requires start { length bytes.old.items ≤ end }
     requires end { end ≤ 2 ^ 24 }
-    ensures grows { Grows limits.now.asked (W.held to.old) (W.held to.new) (R.ahead from.old)
-        (R.ahead from.new) result bytes.old.items bytes.new.items end }
+    ensures grows { Grows limits.now.asked (wire (W.held to.old) (R.ahead from.old))
+        (wire (W.held to.new) (R.ahead from.new)) result bytes.old.items bytes.new.items end }
     ensures counts { CountsTables Read (R.count from.old) (R.count from.new) result
         × CountsTables Write (W.count to.old) (W.count to.new) result }
 {
     let start = bytes.len();
     bytes.resize(end, 0)?;
+    let mut quiet = Nowhere;
+    let mut told = Told::new(Pass::First, 0, &mut quiet);
     match read_on(
         from,
         to,
@@ -104,6 +112,7 @@ fn grow<R: ByteIn, W: ByteOut>(
         ReadBy::Tables,
         bytes.as_mut_slice(),
         start,
+        &mut told,
     ) {
         Ok(()) => Ok(()),
         Err(why) => Err(TablesFault::Unread(Mismatch::Exchange(why))),

@@ -9,6 +9,7 @@ use Rattle.std.proofs.Math.ListN.{get_or-append}
 use Rattle.std.proofs.lemmas.List.{take-append-le, get_or-append-add}
 use Rattle.nor_base.specs.Device.{Ahead, Unknown, Finite, Endless, Gives}
 use Rattle.nor_base.proofs.DeviceLaws.{Gives-append}
+use Rattle.nor_base.specs.Wire.{wire}
 use Rattle.nor_serprog.specs.declared.fault.Fault.{Fault}
 use Rattle.nor_serprog.specs.declared.fault.Fault.TheVariants as fault
 use Rattle.nor_serprog.specs.declared.fault.Reason.{Reason}
@@ -27,7 +28,7 @@ told_then a b c (Err fault.Write) got p q = absurd q
 
 -- a command that was put whole, and its answer
 pub asks_told : (held held' : Option (List ℕ)) (a b : Ahead) (r : Result (Unit {0}) Fault) (command got : List ℕ) → Appends held held' command
-    → Answers a b r got → Asks held held' a b r command (Answers a b r got)
+    → Answers a b r got → Asks (wire held a) (wire held' b) r command (Answers a b r got)
 asks_told held held' a b (Ok u) command got put p = (put, p)
 asks_told held held' a b (Err fault.Silent) command got put p = (put, p)
 asks_told held held' a b (Err fault.Read) command got put p = (put, p)
@@ -187,7 +188,7 @@ known_not a b why want p = (want, refl, none_then a b why want p)
 
 -- a command that was put whole, and its answer; or that wasn't
 pub knows_then : (held held' : Option (List ℕ)) (a b : Ahead) (r : Result (Unit {0}) Reason) (command want : List ℕ) → Appends held held' command
-    → AnswersKnown a b r want → Knows held held' a b r command want
+    → AnswersKnown a b r want → Knows (wire held a) (wire held' b) r command want
 knows_then held held' a b (Ok u) command want put p = (put, p)
 knows_then held held' a b (Err (reason.Differs place byte)) command want put p = (put, p)
 knows_then held held' a b (Err (reason.Exchange fault.Silent)) command want put p = (p.0, p.1, (put, p.2))

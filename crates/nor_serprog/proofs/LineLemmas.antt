@@ -11,6 +11,7 @@ use Rattle.std.proofs.lemmas.List.{map-append, take_more, take_more_set, take_al
 use Rattle.std.proofs.lemmas.List.Folds.{list_all-append, concat-append}
 use Rattle.std.proofs.lemmas.List.FromFn.{length-range_with_len, get_or-range_with_len}
 use Rattle.nor_base.specs.Device.{Ahead, Gives}
+use Rattle.nor_base.specs.Wire.{wire}
 use Rattle.nor_serprog.specs.declared.fault.Fault.{Fault}
 use Rattle.nor_serprog.specs.declared.limits.Limits.{Limits}
 use Rattle.nor_serprog.specs.Protocol.{head, request}
@@ -21,7 +22,7 @@ use Rattle.nor_serprog.proofs.FollowLemmas.{nothing_talked, talked_more}
 use Rattle.nor_serprog.proofs.GreetLemmas.{exchanged_one}
 
 -- exchanges, and then more
-exchanged_all : (h m h' : Option (List ℕ)) (a b a' : Ahead) (xs ys : List Exchange) → HasExchanged h m a b xs → HasExchanged m h' b a' ys → HasExchanged h h' a a' (xs ++ ys)
+exchanged_all : (h m h' : Option (List ℕ)) (a b a' : Ahead) (xs ys : List Exchange) → HasExchanged (wire h a) (wire m b) xs → HasExchanged (wire m b) (wire h' a') ys → HasExchanged (wire h a) (wire h' a') (xs ++ ys)
 exchanged_all h m h' a b a' xs ys p q =
     let whole = talked_more (flat_map (λ (e : Exchange). e.put) xs) (flat_map (λ (e : Exchange). e.given) xs) (flat_map (λ (e : Exchange). e.put) ys) (flat_map (λ (e : Exchange). e.given) ys) p q in
     record {
@@ -29,60 +30,60 @@ exchanged_all h m h' a b a' xs ys p q =
       back = subst (λ bytes. Gives a bytes a') (sym (flat_map-append (λ (e : Exchange). e.given) xs ys)) whole.back;
     }
 
-pub does_none : (h : Option (List ℕ)) (a : Ahead) → HasExchanged h h a a []
+pub does_none : (h : Option (List ℕ)) (a : Ahead) → HasExchanged (wire h a) (wire h a) []
 does_none h a = nothing_talked h a
 
 -- one alone
-pub does_one : (h h' : Option (List ℕ)) (a a' : Ahead) (r : Result (Unit {0}) Fault) (x : Exchange) → Asks h h' a a' r x.put (Meets a a' r x.given)
-    → Exchanges h h' a a' r (x ∷ [])
+pub does_one : (h h' : Option (List ℕ)) (a a' : Ahead) (r : Result (Unit {0}) Fault) (x : Exchange) → Asks (wire h a) (wire h' a') r x.put (Meets a a' r x.given)
+    → Exchanges (wire h a) (wire h' a') r (x ∷ [])
 does_one h h' a a' (Ok u) x p = exchanged_one x (record { out = p.0; back = p.1 })
 does_one h h' a a' (Err why) x p = record { at = 0; held = h; ahead = a; before = does_none h a; stop = p }
 
 -- what ended one of some exchanges ended one of these and more
-stop_more : (h h' : Option (List ℕ)) (a a' : Ahead) (why : Fault) (at : ℕ) (xs ys : List Exchange) → Breaks h h' a a' why (drop at xs)
-    → Breaks h h' a a' why (drop at (xs ++ ys))
+stop_more : (h h' : Option (List ℕ)) (a a' : Ahead) (why : Fault) (at : ℕ) (xs ys : List Exchange) → Breaks (wire h a) (wire h' a') why (drop at xs)
+    → Breaks (wire h a) (wire h' a') why (drop at (xs ++ ys))
 stop_more h h' a a' why zero (x ∷ xs) ys p = p
 stop_more h h' a a' why zero [] ys p = absurd p
 stop_more h h' a a' why (suc at) [] ys p = absurd p
 stop_more h h' a a' why (suc at) (x ∷ xs) ys p = stop_more h h' a a' why at xs ys p
 
-front_more : (h h' : Option (List ℕ)) (a a' : Ahead) (why : Fault) (at : ℕ) (xs ys : List Exchange) → Breaks h h' a a' why (drop at xs)
+front_more : (h h' : Option (List ℕ)) (a a' : Ahead) (why : Fault) (at : ℕ) (xs ys : List Exchange) → Breaks (wire h a) (wire h' a') why (drop at xs)
     → take at xs ≡ take at (xs ++ ys)
 front_more h h' a a' why zero xs ys p = refl
 front_more h h' a a' why (suc at) [] ys p = absurd p
 front_more h h' a a' why (suc at) (x ∷ xs) ys p = ap (λ zs. x ∷ zs) (front_more h h' a a' why at xs ys p)
 
-pub stops_before : (h h' : Option (List ℕ)) (a a' : Ahead) (why : Fault) (xs ys : List Exchange) → Exchanges h h' a a' (Err why) xs → Exchanges h h' a a' (Err why) (xs ++ ys)
+pub stops_before : (h h' : Option (List ℕ)) (a a' : Ahead) (why : Fault) (xs ys : List Exchange) → Exchanges (wire h a) (wire h' a') (Err why) xs → Exchanges (wire h a) (wire h' a') (Err why) (xs ++ ys)
 stops_before h h' a a' why xs ys p = record {
   at = p.at;
   held = p.held;
   ahead = p.ahead;
-  before = subst (HasExchanged h p.held a p.ahead) (front_more p.held h' p.ahead a' why p.at xs ys p.stop) p.before;
+  before = subst (HasExchanged (wire h a) (wire p.held p.ahead)) (front_more p.held h' p.ahead a' why p.at xs ys p.stop) p.before;
   stop = stop_more p.held h' p.ahead a' why p.at xs ys p.stop;
 }
 
 -- exchanges that were done, and then others
-pub does_then : (h m h' : Option (List ℕ)) (a b a' : Ahead) (r : Result (Unit {0}) Fault) (xs ys : List Exchange) → HasExchanged h m a b xs → Exchanges m h' b a' r ys
-    → Exchanges h h' a a' r (xs ++ ys)
+pub does_then : (h m h' : Option (List ℕ)) (a b a' : Ahead) (r : Result (Unit {0}) Fault) (xs ys : List Exchange) → HasExchanged (wire h a) (wire m b) xs → Exchanges (wire m b) (wire h' a') r ys
+    → Exchanges (wire h a) (wire h' a') r (xs ++ ys)
 does_then h m h' a b a' (Ok u) xs ys p q = exchanged_all h m h' a b a' xs ys p q
 does_then h m h' a b a' (Err why) xs ys p q = record {
   at = length xs + q.at;
   held = q.held;
   ahead = q.ahead;
-  before = subst (HasExchanged h q.held a q.ahead) (sym (take-append-add xs ys q.at)) (exchanged_all h m q.held a b q.ahead xs (take q.at ys) p q.before);
-  stop = subst (Breaks q.held h' q.ahead a' why) (sym (drop-append-add xs ys q.at)) q.stop;
+  before = subst (HasExchanged (wire h a) (wire q.held q.ahead)) (sym (take-append-add xs ys q.at)) (exchanged_all h m q.held a b q.ahead xs (take q.at ys) p q.before);
+  stop = subst (Breaks (wire q.held q.ahead) (wire h' a') why) (sym (drop-append-add xs ys q.at)) q.stop;
 }
 
 pub tested : (h h' : Option (List ℕ)) (a a' : Ahead) (r : Result (Unit {0}) Fault) (limits : Limits) (pieces : List (List ℕ)) → ArePieces limits.sent pieces
-    → Exchanges h h' a a' r (line_test pieces limits) → TestsLine h h' a a' r limits
+    → Exchanges (wire h a) (wire h' a') r (line_test pieces limits) → TestsLine (wire h a) (wire h' a') r limits
 tested h h' a a' (Ok u) limits pieces are p = record { pieces = pieces; are = are; talked = p }
 tested h h' a a' (Err why) limits pieces are p = record { pieces = pieces; are = are; stops = p }
 
 -- a command, in its parts
 pub command_one : (h h' : Option (List ℕ)) (a a' : Ahead) (r : Result (Unit {0}) Fault) (command put given : List ℕ) → command ≡ put
-    → Asks h h' a a' r command (Meets a a' r given) → Exchanges h h' a a' r (record { put = put; given = given } ∷ [])
+    → Asks (wire h a) (wire h' a') r command (Meets a a' r given) → Exchanges (wire h a) (wire h' a') r (record { put = put; given = given } ∷ [])
 command_one h h' a a' r command put given is p =
-    does_one h h' a a' r (record { put = put; given = given }) (subst (λ xs. Asks h h' a a' r xs (Meets a a' r given)) is p)
+    does_one h h' a a' r (record { put = put; given = given }) (subst (λ xs. Asks (wire h a) (wire h' a') r xs (Meets a a' r given)) is p)
 
 pub ignored_parts : (front bytes : List ℕ) → front ≡ head (length bytes + 1) 0 → front ++ (0x05 ∷ (bytes ++ [])) ≡ request (0x05 ∷ bytes) 0
 ignored_parts front bytes is =
@@ -94,17 +95,17 @@ unfolding zeros_if
 none_by sent count true is few = let enough = leb-true count sent is in absurd (omega (arith, enough))
 none_by sent count false is few = rw is refl
 
-pub zeros_none : (h : Option (List ℕ)) (a : Ahead) (sent count : ℕ) → sent < count → Exchanges h h a a (Ok tt) (zeros_if sent count)
-zeros_none h a sent count few = subst (Exchanges h h a a (Ok tt)) (sym (none_by sent count (nat_le count sent) refl few)) (does_none h a)
+pub zeros_none : (h : Option (List ℕ)) (a : Ahead) (sent count : ℕ) → sent < count → Exchanges (wire h a) (wire h a) (Ok tt) (zeros_if sent count)
+zeros_none h a sent count few = subst (Exchanges (wire h a) (wire h a) (Ok tt)) (sym (none_by sent count (nat_le count sent) refl few)) (does_none h a)
 
 some_by : (sent count : ℕ) → count ≤ sent → zeros_if sent count ≡ ignored (replicate (count - 1) 0) ∷ []
 unfolding zeros_if
 some_by sent count enough = let yes : nat_le count sent ≡ true = le-leb count sent enough in rw yes refl
 
 pub zeros_sent : (h h' : Option (List ℕ)) (a a' : Ahead) (r : Result (Unit {0}) Fault) (sent count : ℕ) (bytes : List ℕ) → count ≤ sent → bytes ≡ replicate (count - 1) 0
-    → Exchanges h h' a a' r (ignored bytes ∷ []) → Exchanges h h' a a' r (zeros_if sent count)
+    → Exchanges (wire h a) (wire h' a') r (ignored bytes ∷ []) → Exchanges (wire h a) (wire h' a') r (zeros_if sent count)
 zeros_sent h h' a a' r sent count bytes enough is p =
-    subst (Exchanges h h' a a' r) (sym (some_by sent count enough)) (subst (λ xs. Exchanges h h' a a' r (ignored xs ∷ [])) is p)
+    subst (Exchanges (wire h a) (wire h' a') r) (sym (some_by sent count enough)) (subst (λ xs. Exchanges (wire h a) (wire h' a') r (ignored xs ∷ [])) is p)
 
 -- the values
 pub all_count : length all_values ≡ 256
@@ -181,7 +182,7 @@ pub record AreSent (h h' : Option (List ℕ)) (a a' : Ahead) (sent done : ℕ) :
   pub pieces : List (List ℕ)
   pub some : 1 < sent
   are : AreSome sent done pieces
-  pub did : HasExchanged h h' a a' (values_test pieces)
+  pub did : HasExchanged (wire h a) (wire h' a') (values_test pieces)
 
 pub none_sent : (h : Option (List ℕ)) (a : Ahead) (sent : ℕ) → 1 < sent → AreSent h h a a sent 0
 none_sent h a sent some = record { pieces = []; some = some; are = none_yet sent some; did = does_none h a }
@@ -190,7 +191,7 @@ part_is : (bytes : List ℕ) (done len : ℕ) → slice_range bytes done (done +
 part_is bytes done len = let long : done + len - done ≡ len = omega arith in ap (λ n. take n (drop done bytes)) long
 
 pub sent_more : (h m h' : Option (List ℕ)) (a b a' : Ahead) (sent done len : ℕ) (values : List ℕ) → values ≡ all_values → done < 256 → len ≡ min (256 - done) (sent - 1)
-    → AreSent h m a b sent done → HasExchanged m h' b a' (ignored (slice_range values done (done + len)) ∷ []) → AreSent h h' a a' sent (done + len)
+    → AreSent h m a b sent done → HasExchanged (wire m b) (wire h' a') (ignored (slice_range values done (done + len)) ∷ []) → AreSent h h' a a' sent (done + len)
 sent_more h m h' a b a' sent done len values is few len_is p q =
     let piece = slice_range values done (done + len) in
     let piece_is : piece ≡ take len (drop done all_values) = part_is values done len ∙ ap (λ xs. take len (drop done xs)) is in
@@ -198,7 +199,7 @@ sent_more h m h' a b a' sent done len values is few len_is p q =
       pieces = p.pieces ++ piece ∷ [];
       some = p.some;
       are = some_more sent done len p.pieces piece p.some few len_is piece_is p.are;
-      did = subst (HasExchanged h h' a a') (sym (map-append ignored p.pieces (piece ∷ []))) (exchanged_all h m h' a b a' (values_test p.pieces) (ignored piece ∷ []) p.did q);
+      did = subst (HasExchanged (wire h a) (wire h' a')) (sym (map-append ignored p.pieces (piece ∷ []))) (exchanged_all h m h' a b a' (values_test p.pieces) (ignored piece ∷ []) p.did q);
     }
 
 -- all are
@@ -207,14 +208,14 @@ whole_by sent pieces some p =
     let two : nat_lt 1 sent ≡ true = lt-ltb 1 sent some in
     record { whole = p.whole ∙ take_all 256 all_values (omega (arith, all_count)) ∙ (rw two refl); each = p.each; fewest = p.fewest }
 
-pub sent_all : (h h' : Option (List ℕ)) (a a' : Ahead) (sent done : ℕ) → 256 ≤ done → AreSent h h' a a' sent done → SendsValues h h' a a' (Ok tt) sent
+pub sent_all : (h h' : Option (List ℕ)) (a a' : Ahead) (sent done : ℕ) → 256 ≤ done → AreSent h h' a a' sent done → SendsValues (wire h a) (wire h' a') (Ok tt) sent
 sent_all h h' a a' sent done all p =
     let end : done ≡ 256 = omega (arith, p.are.within) in
     (p.pieces, whole_by sent p.pieces p.some (subst (λ n. AreSome sent n p.pieces) end p.are), p.did)
 
 -- one of them ended early
 pub sent_not : (h m h' : Option (List ℕ)) (a b a' : Ahead) (sent done len : ℕ) (values : List ℕ) (why : Fault) → values ≡ all_values → done < 256 → len ≡ min (256 - done) (sent - 1)
-    → AreSent h m a b sent done → Exchanges m h' b a' (Err why) (ignored (slice_range values done (done + len)) ∷ []) → SendsValues h h' a a' (Err why) sent
+    → AreSent h m a b sent done → Exchanges (wire m b) (wire h' a') (Err why) (ignored (slice_range values done (done + len)) ∷ []) → SendsValues (wire h a) (wire h' a') (Err why) sent
 sent_not h m h' a b a' sent done len values why is few len_is p q =
     let piece = slice_range values done (done + len) in
     let piece_is : piece ≡ take len (drop done all_values) = part_is values done len ∙ ap (λ xs. take len (drop done xs)) is in
@@ -224,9 +225,9 @@ sent_not h m h' a b a' sent done len values why is few len_is p q =
     let whole = stops_before h h' a a' why (values_test p.pieces ++ ignored piece ∷ []) (values_test rest.others) front in
     let same : (values_test p.pieces ++ ignored piece ∷ []) ++ values_test rest.others ≡ values_test ((p.pieces ++ piece ∷ []) ++ rest.others) =
     ap (λ xs. xs ++ values_test rest.others) (sym (map-append ignored p.pieces (piece ∷ []))) ∙ sym (map-append ignored (p.pieces ++ piece ∷ []) rest.others) in
-    ((p.pieces ++ piece ∷ []) ++ rest.others, whole_by sent ((p.pieces ++ piece ∷ []) ++ rest.others) p.some rest.are, subst (StopsIn h h' a a' why) same whole)
+    ((p.pieces ++ piece ∷ []) ++ rest.others, whole_by sent ((p.pieces ++ piece ∷ []) ++ rest.others) p.some rest.are, subst (StopsIn (wire h a) (wire h' a') why) same whole)
 
 -- where 05h alone has room
-pub sent_none : (h : Option (List ℕ)) (a : Ahead) (sent : ℕ) → sent ≡ 1 → SendsValues h h a a (Ok tt) sent
+pub sent_none : (h : Option (List ℕ)) (a : Ahead) (sent : ℕ) → sent ≡ 1 → SendsValues (wire h a) (wire h a) (Ok tt) sent
 sent_none h a sent is =
-    subst (SendsValues h h a a (Ok tt)) (sym is) ([], record { whole = refl; each = refl; fewest = omega arith }, does_none h a)
+    subst (SendsValues (wire h a) (wire h a) (Ok tt)) (sym is) ([], record { whole = refl; each = refl; fewest = omega arith }, does_none h a)

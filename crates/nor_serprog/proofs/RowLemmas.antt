@@ -13,6 +13,7 @@ use Rattle.nor_base.specs.Run.{poll_clocks}
 use Rattle.nor_base.specs.Step.{expected, verifies}
 use Rattle.nor_base.proofs.DeviceLaws.{Appends-none}
 use Rattle.nor_base.proofs.ListLaws.{one_taken, first_left}
+use Rattle.nor_base.specs.Wire.{wire}
 use Rattle.nor_serprog.specs.declared.fault.Fault.TheVariants as fault
 use Rattle.nor_serprog.specs.declared.fault.Reason.{Reason}
 use Rattle.nor_serprog.specs.declared.fault.Reason.TheVariants as reason
@@ -181,7 +182,7 @@ answers_stop a b c steps at x halt within is number taken stop = record {
 
 -- a step by its request and its answer
 says_done : (h h' : Option (List ℕ)) (a a' : Ahead) (limits : Limits) (turns : ℕ) (x : Step) (put : List ℕ) → IsSent limits x put → Appends h h' put
-    → Gives a (answer (expected x)) a' → HasDone h h' a a' limits turns x
+    → Gives a (answer (expected x)) a' → HasDone (wire h a) (wire h' a') limits turns x
 says_done h h' a a' limits turns (Send symbols) put (sent, op, is) out back =
     operates_as h h' a a' limits symbols sent [] (Ok tt) op (subst (Appends h h') is out, back)
 says_done h h' a a' limits turns (Poll symbols) put one out back = absurd one
@@ -189,7 +190,7 @@ says_done h h' a a' limits turns (Verify symbols expect) put (sent, op, is) out 
     operates_as h h' a a' limits symbols sent expect (Ok tt) op (subst (Appends h h') is out, back)
 
 says_stopped : (h h' : Option (List ℕ)) (a a' : Ahead) (limits : Limits) (turns : ℕ) (why : Reason) (x : Step) (put : List ℕ) → IsSent limits x put
-    → Appends h h' put → AnswersKnown a a' (Err why) (expected x) → HasStopped h h' a a' limits turns why x
+    → Appends h h' put → AnswersKnown a a' (Err why) (expected x) → HasStopped (wire h a) (wire h' a') limits turns why x
 says_stopped h h' a a' limits turns why (Send symbols) put (sent, op, is) out known =
     operates_as h h' a a' limits symbols sent [] (Err why) op (knows_then h h' a a' (Err why) (request sent 0) [] (subst (Appends h h') is out) known)
 says_stopped h h' a a' limits turns why (Poll symbols) put one out known = absurd one
@@ -200,7 +201,7 @@ says_stopped h h' a a' limits turns why (Verify symbols expect) put (sent, op, i
 -- steps by their requests and their answers, and what went out beyond them
 pub record Upto (h h' : Option (List ℕ)) (a b : Ahead) (limits : Limits) (turns : ℕ) (xs : List Step) (rest : List ℕ) : Type 0 where
   pub held : Option (List ℕ)
-  pub done : HasDoneAll h held a b limits turns xs
+  pub done : HasDoneAll (wire h a) (wire held b) limits turns xs
   pub out : Appends held h' rest
 
 pub done_upto : (h h' : Option (List ℕ)) (a b : Ahead) (limits : Limits) (turns : ℕ) (xs : List Step) (put rest : List ℕ) → AreSent limits xs put
@@ -218,7 +219,7 @@ done_upto h h' a b limits turns (x ∷ xs) put rest (first, more, whole, one, ot
 
 -- all that went out
 pub front_done : (h h' : Option (List ℕ)) (a b : Ahead) (limits : Limits) (turns : ℕ) (xs : List Step) (put : List ℕ) → 0 < length xs → AreSent limits xs put
-    → Appends h h' put → TakesAnswers a b xs → HasDoneAll h h' a b limits turns xs
+    → Appends h h' put → TakesAnswers a b xs → HasDoneAll (wire h a) (wire h' b) limits turns xs
 front_done h h' a b limits turns [] put some sent out taken = absurd (omega (arith, some))
 front_done h h' a b limits turns (x ∷ []) put some (first, more, whole, one, none) out (between, gives, same) =
     let all : put ≡ first = whole ∙ ap (λ (l : List ℕ). first ++ l) none ∙ append-nil first in
@@ -233,28 +234,28 @@ front_done h h' a b limits turns (x ∷ (y ∷ ys)) put some (first, more, whole
 
 -- one step more
 done_snoc : (h i j : Option (List ℕ)) (a b c : Ahead) (limits : Limits) (turns : ℕ) (xs : List Step) (x : Step)
-    → HasDoneAll h i a b limits turns xs → HasDone i j b c limits turns x → HasDoneAll h j a c limits turns (xs ++ x ∷ [])
+    → HasDoneAll (wire h a) (wire i b) limits turns xs → HasDone (wire i b) (wire j c) limits turns x → HasDoneAll (wire h a) (wire j c) limits turns (xs ++ x ∷ [])
 done_snoc h i j a b c limits turns [] x (held, ahead) one =
-    let its = subst (λ (k : Option (List ℕ)). HasDone k j a c limits turns x) held (subst (λ (e : Ahead). HasDone i j e c limits turns x) ahead one) in
+    let its = subst (λ (k : Option (List ℕ)). HasDone (wire k a) (wire j c) limits turns x) held (subst (λ (e : Ahead). HasDone (wire i e) (wire j c) limits turns x) ahead one) in
     (j, c, its, (refl, refl))
 done_snoc h i j a b c limits turns (y ∷ ys) x (k, e, did, more) one = (k, e, did, done_snoc k i j e b c limits turns ys x more one)
 
 pub done_next : (h i j : Option (List ℕ)) (a b c : Ahead) (limits : Limits) (turns : ℕ) (steps : List Step) (at : ℕ) (x : Step) → at < length steps
-    → x ≡ get_or steps at x → HasDoneAll h i a b limits turns (take at steps) → HasDone i j b c limits turns x
-    → HasDoneAll h j a c limits turns (take (at + 1) steps)
+    → x ≡ get_or steps at x → HasDoneAll (wire h a) (wire i b) limits turns (take at steps) → HasDone (wire i b) (wire j c) limits turns x
+    → HasDoneAll (wire h a) (wire j c) limits turns (take (at + 1) steps)
 done_next h i j a b c limits turns steps at x within is all one =
-    subst (λ (l : List Step). HasDoneAll h j a c limits turns l) (sym (one_taken steps at x within is)) (done_snoc h i j a b c limits turns (take at steps) x all one)
+    subst (λ (l : List Step). HasDoneAll (wire h a) (wire j c) limits turns l) (sym (one_taken steps at x within is)) (done_snoc h i j a b c limits turns (take at steps) x all one)
 
 pub done_in_parts : DoneInParts
 done_in_parts h i j a b c limits turns [] ys (held, ahead) more =
-    subst (λ (k : Option (List ℕ)). HasDoneAll k j a c limits turns ys) held (subst (λ (e : Ahead). HasDoneAll i j e c limits turns ys) ahead more)
+    subst (λ (k : Option (List ℕ)). HasDoneAll (wire k a) (wire j c) limits turns ys) held (subst (λ (e : Ahead). HasDoneAll (wire i e) (wire j c) limits turns ys) ahead more)
 done_in_parts h i j a b c limits turns (x ∷ xs) ys (k, e, did, rest) more = (k, e, did, done_in_parts k i j e b c limits turns xs ys rest more)
 
 -- steps with a poll at the end
 pub polled : (h i j : Option (List ℕ)) (a b c : Ahead) (limits : Limits) (turns : ℕ) (row front : List Step) (wait : List ℕ) → row ≡ front ++ Poll wait ∷ []
-    → wait ≡ poll_clocks → HasDoneAll h i a b limits turns front → Waits i j b c (Ok tt) limits turns → HasDoneAll h j a c limits turns row
+    → wait ≡ poll_clocks → HasDoneAll (wire h a) (wire i b) limits turns front → Waits (wire i b) (wire j c) (Ok tt) limits turns → HasDoneAll (wire h a) (wire j c) limits turns row
 polled h i j a b c limits turns row front wait whole is all waits =
-    subst (λ (l : List Step). HasDoneAll h j a c limits turns l) (sym whole) (done_snoc h i j a b c limits turns front (Poll wait) all (is, waits))
+    subst (λ (l : List Step). HasDoneAll (wire h a) (wire j c) limits turns l) (sym whole) (done_snoc h i j a b c limits turns front (Poll wait) all (is, waits))
 
 -- what is left of a row is a row
 next_form : (x y : Step) (ys : List Step) → IsForm (x ∷ (y ∷ ys)) → IsForm (y ∷ ys)
@@ -344,10 +345,10 @@ tail_none limits turns row front old parts none fit = record {
 
 pub all_front : (h h' : Option (List ℕ)) (a b : Ahead) (limits : Limits) (turns : ℕ) (row front : List Step) (put : List ℕ)
     → (row ≡ front) ⊎ ((wait : List ℕ) × (row ≡ front ++ Poll wait ∷ [])) → (length front < length row → ⊥) → 0 < length row → AreSent limits front put
-    → Appends h h' put → TakesAnswers a b front → HasDoneAll h h' a b limits turns row
+    → Appends h h' put → TakesAnswers a b front → HasDoneAll (wire h a) (wire h' b) limits turns row
 all_front h h' a b limits turns row front put parts none some sent out taken =
     let same = no_poll row front parts none in
-    subst (λ (l : List Step). HasDoneAll h h' a b limits turns l) (sym same)
+    subst (λ (l : List Step). HasDoneAll (wire h a) (wire h' b) limits turns l) (sym same)
     (front_done h h' a b limits turns front put (subst (λ (l : List Step). 0 < length l) same some) sent out taken)
 
 -- an answer doesn't fail in the writer
@@ -357,7 +358,7 @@ no_write a b why want is known = (subst (λ (w : Reason). AnswersKnown a b (Err 
 -- a step stopped before the poll
 pub halts_front : (h h' : Option (List ℕ)) (a a' : Ahead) (limits : Limits) (turns reads : ℕ) (row front polls : List Step) (halt : Halt) (p q : List ℕ)
     → IsRow limits row → row ≡ front ++ polls → reads ≤ most_reads → reads ≤ turns → AreSent limits front p → AreAsked limits reads polls q
-    → length (p ++ q) ≤ most_ahead limits → Appends h h' (p ++ q) → StopsAnswers a a' front halt → HasHalted h h' a a' limits turns row halt
+    → length (p ++ q) ≤ most_ahead limits → Appends h h' (p ++ q) → StopsAnswers a a' front halt → HasHalted (wire h a) (wire h' a') limits turns row halt
 halts_front h h' a a' limits turns reads row front polls halt p q is whole few within sent asked fits out stops =
     let beyond = stops.rest ++ polls in
     let parts = sent_split limits stops.done (stops.at ∷ stops.rest) p (subst (λ (l : List Step). AreSent limits l p) stops.those sent) in
@@ -400,8 +401,8 @@ halts_front h h' a a' limits turns reads row front polls halt p q is whole few w
 
 -- the last step stopped
 pub halts_last : (h m h' : Option (List ℕ)) (a b a' : Ahead) (limits : Limits) (turns : ℕ) (row front : List Step) (x : Step) (rest : List Step) (halt : Halt)
-    → row ≡ front ++ (x ∷ rest) → halt.step ≡ length front → HasDoneAll h m a b limits turns front → HasStopped m h' b a' limits turns halt.why x
-    → HasHalted h h' a a' limits turns row halt
+    → row ≡ front ++ (x ∷ rest) → halt.step ≡ length front → HasDoneAll (wire h a) (wire m b) limits turns front → HasStopped (wire m b) (wire h' a') limits turns halt.why x
+    → HasHalted (wire h a) (wire h' a') limits turns row halt
 halts_last h m h' a b a' limits turns row front x rest halt whole number before stopped = record {
   done = front;
   at = x;
@@ -417,18 +418,18 @@ halts_last h m h' a b a' limits turns row front x rest halt whole number before 
 }
 
 pub halts_at : (h m h' : Option (List ℕ)) (a b a' : Ahead) (limits : Limits) (turns : ℕ) (row : List Step) (at : ℕ) (x : Step) (halt : Halt)
-    → at < length row → x ≡ get_or row at x → halt.step ≡ at → HasDoneAll h m a b limits turns (take at row) → HasStopped m h' b a' limits turns halt.why x
-    → HasHalted h h' a a' limits turns row halt
+    → at < length row → x ≡ get_or row at x → halt.step ≡ at → HasDoneAll (wire h a) (wire m b) limits turns (take at row) → HasStopped (wire m b) (wire h' a') limits turns halt.why x
+    → HasHalted (wire h a) (wire h' a') limits turns row halt
 halts_at h m h' a b a' limits turns row at x halt within is number before stopped =
     halts_last h m h' a b a' limits turns row (take at row) x (drop (at + 1) row) halt (cut_at row at x within is) (number ∙ front_long row at within) before stopped
 
 -- the writer failed in the requests of a row
 pub halts_cut : (h h' : Option (List ℕ)) (a : Ahead) (limits : Limits) (turns reads : ℕ) (row front polls : List Step) (halt : Halt) (p q : List ℕ)
     → IsRow limits row → row ≡ front ++ polls → reads ≤ most_reads → reads ≤ turns → AreSent limits front p → AreAsked limits reads polls q
-    → length (p ++ q) ≤ most_ahead limits → Cuts h h' (p ++ q) → halt.step ≡ 0 → halt.why ≡ reason.Exchange fault.Write → HasHalted h h' a a limits turns row halt
+    → length (p ++ q) ≤ most_ahead limits → Cuts h h' (p ++ q) → halt.step ≡ 0 → halt.why ≡ reason.Exchange fault.Write → HasHalted (wire h a) (wire h' a) limits turns row halt
 halts_cut h h' a limits turns reads row front polls halt p q is whole few within sent asked fits cut first why = by row is whole
   where
-    by : (row : List Step) → IsRow limits row → row ≡ front ++ polls → HasHalted h h' a a limits turns row halt
+    by : (row : List Step) → IsRow limits row → row ≡ front ++ polls → HasHalted (wire h a) (wire h' a) limits turns row halt
     by [] is whole = absurd (omega (arith, is.some))
     by (x ∷ xs) is whole = record {
       done = [];
@@ -475,6 +476,6 @@ halt_in_steps h i j a b c limits turns front row rest inner outer before halted 
       held = halted.held;
       ahead = halted.ahead;
       before = done_in_parts h i halted.held a b halted.ahead limits turns front halted.done before halted.before;
-      stopped = subst (λ (w : Reason). StopsWithin halted.held j halted.ahead c limits turns w halted.at halted.beyond
-          ⊎ CutsRow halted.held j halted.ahead c limits turns w (halted.at ∷ halted.beyond)) (sym why) halted.stopped;
+      stopped = subst (λ (w : Reason). StopsWithin (wire halted.held halted.ahead) (wire j c) limits turns w halted.at halted.beyond
+          ⊎ CutsRow (wire halted.held halted.ahead) (wire j c) limits turns w (halted.at ∷ halted.beyond)) (sym why) halted.stopped;
     }

@@ -6,6 +6,7 @@ use Rattle.std.proofs.lemmas.Grind.{flat_map-append}
 use Rattle.std.proofs.lemmas.List.Folds.{list_all-append}
 use Rattle.nor_base.specs.Device.{Ahead, Gives, Cuts}
 use Rattle.nor_base.proofs.DeviceLaws.{Gives-append}
+use Rattle.nor_base.specs.Wire.{wire}
 use Rattle.nor_serprog.specs.declared.fault.Fault.{Fault}
 use Rattle.nor_serprog.specs.declared.fault.Fault.TheVariants as fault
 use Rattle.nor_serprog.specs.declared.fault.Reason.{Reason}
@@ -43,11 +44,11 @@ read_added now old before reads added is =
     added ∙ ap (λ xs. xs ++ status_request) is ∙ append_assoc before (status_requests reads) status_request ∙ ap (λ xs. before ++ xs) (sym one)
 
 has_read : {h h' : Option (List ℕ)} {a a' : Ahead} (statuses : List ℕ) (n : ℕ) → length statuses ≡ n → Appends h h' (status_requests n) → Gives a (told statuses) a'
-    → HasRead h h' a a' statuses
+    → HasRead (wire h a) (wire h' a') statuses
 has_read {h} {h'} statuses n long out back =
     record { out = subst (Appends h h') (sym (reads_are statuses ∙ ap status_requests long)) out; back = back }
 
-pub read_both : {h m h' : Option (List ℕ)} {a b a' : Ahead} (xs ys : List ℕ) → HasRead h m a b xs → HasRead m h' b a' ys → HasRead h h' a a' (xs ++ ys)
+pub read_both : {h m h' : Option (List ℕ)} {a b a' : Ahead} (xs ys : List ℕ) → HasRead (wire h a) (wire m b) xs → HasRead (wire m b) (wire h' a') ys → HasRead (wire h a) (wire h' a') (xs ++ ys)
 read_both {h} {m} {h'} {a} {b} {a'} xs ys p q =
     let both = talked_more _ _ (flat_map (λ (s : ℕ). status_request) ys) (told ys) p q in record {
       out = subst (Appends h h') (sym (flat_map-append (λ (s : ℕ). status_request) xs ys)) both.out;
@@ -146,14 +147,14 @@ pub record HasWaitedFor (h h' : Option (List ℕ)) (a a' : Ahead) (turns : ℕ) 
   busy : List ℕ
   all : length busy ≡ turns
   each : are_busy busy ≡ true
-  read : HasRead h h' a a' busy
+  read : HasRead (wire h a) (wire h' a') busy
 
 pub waits_none : (h : Option (List ℕ)) (a : Ahead) → HasWaitedFor h h a a 0
 waits_none h a = record { busy = []; all = refl; each = refl; read = nothing_talked h a }
 
 -- reads that went out together: the last says idle, or each says busy
 pub reads_idle : (h h' : Option (List ℕ)) (a a' : Ahead) (n turns : ℕ) → n ≤ turns → Appends h h' (status_requests n) → TakesStatuses a a' (Ok true) n
-    → HasWaited h h' a a' turns
+    → HasWaited (wire h a) (wire h' a') turns
 reads_idle h h' a a' n turns within out p = record {
   busy = p.busy;
   idle = p.idle;
@@ -175,7 +176,7 @@ requests_split h h' n k within out =
     out_split h h' (status_requests k) (status_requests (n - k)) (subst (Appends h h') (ap status_requests whole ∙ requests_both k (n - k)) out)
 
 asks_out : (h h' : Option (List ℕ)) (a a' : Ahead) (why : Fault) (command got : List ℕ) → Appends h h' command → Answers a a' (Err why) got
-    → Asks h h' a a' (Err why) command (Answers a a' (Err why) got)
+    → Asks (wire h a) (wire h' a') (Err why) command (Answers a a' (Err why) got)
 asks_out h h' a a' fault.Read command got out p = (out, p)
 asks_out h h' a a' fault.Silent command got out p = (out, p)
 asks_out h h' a a' fault.Nak command got out p = (out, p)
@@ -207,7 +208,7 @@ may_go_fewer limits n k most = record {
 }
 
 pub reads_stop : (h h' : Option (List ℕ)) (a a' : Ahead) (limits : Limits) (n turns : ℕ) (why : Reason) → n ≤ turns → MayGoAtOnce limits n
-    → Appends h h' (status_requests n) → TakesStatuses a a' (Err why) n → Waits h h' a a' (Err why) limits turns
+    → Appends h h' (status_requests n) → TakesStatuses a a' (Err why) n → Waits (wire h a) (wire h' a') (Err why) limits turns
 reads_stop h h' a a' limits n turns reason.Busy within most out p =
     let k = length (p.busy ++ p.idle) in
     let parts = requests_split h h' n k p.within out in inr (record {
@@ -254,7 +255,7 @@ some_reads zero k h = absurd (omega (arith, h))
 some_reads (suc n) k h = omega arith
 
 pub reads_cut : (h h' : Option (List ℕ)) (a : Ahead) (limits : Limits) (n turns : ℕ) → n ≤ turns → MayGoAtOnce limits n → Cuts h h' (status_requests n)
-    → StopsWaiting h h' a a limits turns fault.Write
+    → StopsWaiting (wire h a) (wire h' a) limits turns fault.Write
 reads_cut h h' a limits n turns within most cut = record {
   busy = [];
   idle = [];
@@ -279,11 +280,11 @@ longer xs ys zs n long = omega (arith, long, length-append (xs ++ ys) zs, length
 both_busy : (xs ys : List ℕ) → are_busy xs ≡ true → are_busy ys ≡ true → are_busy (xs ++ ys) ≡ true
 both_busy xs ys p q = list_all-append (λ s. s % 2 == 1) xs ys ∙ (rw (p, q) refl)
 
-read_on : {h m h' : Option (List ℕ)} {a b a' : Ahead} (xs ys zs : List ℕ) → HasRead h m a b xs → HasRead m h' b a' (ys ++ zs) → HasRead h h' a a' ((xs ++ ys) ++ zs)
-read_on {h} {m} {h'} {a} {b} {a'} xs ys zs p q = subst (HasRead h h' a a') (sym (append_assoc xs ys zs)) (read_both xs (ys ++ zs) p q)
+read_on : {h m h' : Option (List ℕ)} {a b a' : Ahead} (xs ys zs : List ℕ) → HasRead (wire h a) (wire m b) xs → HasRead (wire m b) (wire h' a') (ys ++ zs) → HasRead (wire h a) (wire h' a') ((xs ++ ys) ++ zs)
+read_on {h} {m} {h'} {a} {b} {a'} xs ys zs p q = subst (HasRead (wire h a) (wire h' a')) (sym (append_assoc xs ys zs)) (read_both xs (ys ++ zs) p q)
 
 pub waits_after : (h m h' : Option (List ℕ)) (a b a' : Ahead) (limits : Limits) (n left turns : ℕ) (r : Result (Unit {0}) Reason) → n + left ≡ turns
-    → HasWaitedFor h m a b n → Waits m h' b a' r limits left → Waits h h' a a' r limits turns
+    → HasWaitedFor h m a b n → Waits (wire m b) (wire h' a') r limits left → Waits (wire h a) (wire h' a') r limits turns
 waits_after h m h' a b a' limits n left turns (Ok u) whole p q = record {
   busy = p.busy ++ q.busy;
   idle = q.idle;
@@ -335,7 +336,7 @@ waits_after h m h' a b a' limits n left turns (Err (reason.Exchange why)) whole 
 waits_after h m h' a b a' limits n left turns (Err (reason.Differs place byte)) whole p q = absurd q
 waits_after h m h' a b a' limits n left turns (Err reason.Carried) whole p q = absurd q
 
-pub waits_never : (h h' : Option (List ℕ)) (a a' : Ahead) (turn turns : ℕ) → turn ≡ turns → HasWaitedFor h h' a a' turn → StaysBusy h h' a a' turns
+pub waits_never : (h h' : Option (List ℕ)) (a a' : Ahead) (turn turns : ℕ) → turn ≡ turns → HasWaitedFor h h' a a' turn → StaysBusy (wire h a) (wire h' a') turns
 waits_never h h' a a' turn turns all p = record { busy = p.busy; all = p.all ∙ all; each = p.each; read = p.read }
 
 pub waits_more : (h m h' : Option (List ℕ)) (a b a' : Ahead) (n k : ℕ) → HasWaitedFor h m a b n → HasWaitedFor m h' b a' k → HasWaitedFor h h' a a' (n + k)

@@ -6,6 +6,7 @@ use Rattle.std.proofs.lemmas.Bool.{and_parts}
 use Rattle.std.proofs.lemmas.List.{length-take, replicate_more}
 use Rattle.nor_base.specs.Device.{Ahead, Gives, IsAtEnd}
 use Rattle.nor_base.proofs.DeviceLaws.{Appends-append, Gives-append}
+use Rattle.nor_base.specs.Wire.{wire}
 use Rattle.nor_serprog.specs.declared.fault.Fault.{Fault}
 use Rattle.nor_serprog.specs.declared.fault.Fault.TheVariants as fault
 use Rattle.nor_serprog.specs.Protocol.{ACK, NAK}
@@ -63,7 +64,7 @@ pub record IsListening (h h' : Option (List ℕ)) (a a' : Ahead) (tries last tur
   pub none : has_word given ≡ false
   pub its_last : last_of given ≡ last
   pub all : length given + tries ≡ turns + 1
-  pub talked : Talked h h' a a' (replicate tries 0x10) given
+  pub talked : Talked (wire h a) (wire h' a') (replicate tries 0x10) given
 
 -- the first try went out
 pub begins : {h h' : Option (List ℕ)} (a : Ahead) → Appends h h' (0x10 ∷ []) → IsListening h h' a a 1 ACK 0
@@ -113,7 +114,7 @@ tries_again {h} {m} h' {a} {b} c tries last turns came is few p heard out =
 
 -- the word's last byte came
 pub found : {h h' : Option (List ℕ)} {a b : Ahead} (c : Ahead) (tries last turns byte : ℕ) (came : Option ℕ) → came ≡ Some byte → IsListening h h' a b tries last turns
-    → Hears b c (Ok came) → is_word last byte ≡ true → HasFound h h' a c tries
+    → Hears b c (Ok came) → is_word last byte ≡ true → HasFound (wire h a) (wire h' c) tries
 found {h} {h'} {a} {b} c tries last turns byte came is p heard whole_word =
     let back : Gives b (byte ∷ []) c = subst (λ o. Hears b c (Ok o)) is heard in
     let both = and_parts (last == NAK) (byte == ACK) whole_word in
@@ -129,19 +130,19 @@ found {h} {h'} {a} {b} c tries last turns byte came is p heard whole_word =
     }
 
 pub differs : {h h' : Option (List ℕ)} {a a' : Ahead} (tries last turns : ℕ) → turns ≡ most_noise → IsListening h h' a a' tries last turns
-    → StopsWord h h' a a' fault.Differs
+    → StopsWord (wire h a) (wire h' a') fault.Differs
 differs tries last turns all p = (tries, p.given, omega (arith, p.all), record { few = p.few; none = p.none; talked = p.talked })
 
 -- the reader was silent, and gave nothing
 pub silent : {h h' : Option (List ℕ)} {a b : Ahead} (c : Ahead) (tries last turns : ℕ) (came : Option ℕ) → came ≡ None → tries ≡ most_tries → IsListening h h' a b tries last turns → Hears b c (Ok came)
-    → StopsWord h h' a c fault.Silent
+    → StopsWord (wire h a) (wire h' c) fault.Silent
 silent {h} {h'} {a} {b} c tries last turns came is all p heard =
     let both : Hears b c (Ok None) = subst (λ o. Hears b c (Ok o)) is heard in
     let back : Gives b [] c = both.0 in
     let end : IsAtEnd c = both.1 in (
       p.given,
       end,
-      subst (λ n. HasNoWord h h' a c n p.given) all (record {
+      subst (λ n. HasNoWord (wire h a) (wire h' c) n p.given) all (record {
         few = p.few;
         none = p.none;
         talked = record { out = p.talked.out; back = subst (λ bytes. Gives a bytes c) (append-nil p.given) (Gives-append a b c p.given [] p.talked.back back) };
@@ -149,7 +150,7 @@ silent {h} {h'} {a} {b} c tries last turns came is all p heard =
     )
 
 pub stops_hearing : {h h' : Option (List ℕ)} {a b : Ahead} (c : Ahead) (tries last turns : ℕ) (why : Fault) → IsListening h h' a b tries last turns → Hears b c (Err why)
-    → StopsWord h h' a c why
+    → StopsWord (wire h a) (wire h' c) why
 stops_hearing {h} {h'} {a} {b} c tries last turns fault.Read p back =
     (tries, p.given, p.few, record { out = p.talked.out; back = subst (λ bytes. Gives a bytes c) (append-nil p.given) (Gives-append a b c p.given [] p.talked.back back) })
 stops_hearing c tries last turns fault.Write p back = absurd back
@@ -159,7 +160,7 @@ stops_hearing c tries last turns fault.Differs p back = absurd back
 
 -- the writer took nothing of a try
 pub stops_trying : {h m : Option (List ℕ)} (h' : Option (List ℕ)) {a b : Ahead} (c : Ahead) (tries last turns : ℕ) (came : Option ℕ) (why : Fault) → came ≡ None → tries ≢ most_tries → IsListening h m a b tries last turns → Hears b c (Ok came)
-    → Tries m h' (Err why) → StopsWord h h' a c why
+    → Tries m h' (Err why) → StopsWord (wire h a) (wire h' c) why
 stops_trying {h} {m} h' {a} {b} c tries last turns came fault.Write is few p heard cut =
     let back : Gives b [] c = (subst (λ o. Hears b c (Ok o)) is heard).0 in
     let nothing : cut.0 ≡ 0 = omega (arith, cut.1) in
@@ -182,8 +183,8 @@ stops_trying h' c tries last turns came fault.Nak is few p heard cut = absurd cu
 stops_trying h' c tries last turns came fault.Differs is few p heard cut = absurd cut
 
 -- what comes late, and a reader that fails in it
-pub then_late : {h h' : Option (List ℕ)} {a b : Ahead} (c : Ahead) (tries : ℕ) (r : Result (Unit {0}) Fault) (room : ℕ) → room ≤ 2 * (tries - 1) → HasFound h h' a b tries → HearsLate b c r room
-    → Begins h h' a c r
+pub then_late : {h h' : Option (List ℕ)} {a b : Ahead} (c : Ahead) (tries : ℕ) (r : Result (Unit {0}) Fault) (room : ℕ) → room ≤ 2 * (tries - 1) → HasFound (wire h a) (wire h' b) tries → HearsLate b c r room
+    → Begins (wire h a) (wire h' c) r
 then_late {h} {h'} {a} {b} c tries (Ok u) room few p q = record {
   tries = tries;
   noise = p.noise;

@@ -2,6 +2,7 @@
 use Rattle.std.specs.Prelude.{◌≡◌, ◌≢◌, ◌<◌, ℕ, ◌+◌, ◌==◌, ◌&&◌, if◌then◌else◌, List, [], ◌∷◌, ◌++◌, length, take, slice_index, Option, Result, Ok, Err}
 use Rattle.std.specs.Io.KnownBytes.{Appends}
 use Rattle.nor_base.specs.Device.{Ahead, Gives, IsAtEnd, Cuts, one_more}
+use Rattle.nor_base.specs.Wire.{Wire}
 use Rattle.nor_serprog.specs.declared.fault.Fault.{Fault}
 use Rattle.nor_serprog.specs.declared.fault.Fault.TheVariants as fault
 use Rattle.nor_serprog.specs.declared.fault.Reason.{Reason}
@@ -9,9 +10,9 @@ use Rattle.nor_serprog.specs.declared.fault.Reason.TheVariants as reason
 use Rattle.nor_serprog.specs.Protocol.{ACK, NAK, answer}
 
 -- bytes went out, and bytes came in
-pub record Talked (held_before held_after : Option (List ℕ)) (ahead_before ahead_after : Ahead) (put given : List ℕ) : Type 0 where
-  pub out : Appends held_before held_after put
-  pub back : Gives ahead_before given ahead_after
+pub record Talked (before after : Wire) (put given : List ℕ) : Type 0 where
+  pub out : Appends before.held after.held put
+  pub back : Gives before.ahead given after.ahead
 
 -- a buffer was filled, or so much of it before the reader ended or failed
 abbrev pub Fills : Ahead → Ahead → Result (Unit {0}) Fault → List ℕ → Type 0
@@ -46,10 +47,10 @@ Answers before after (Err fault.Differs) got = (byte : ℕ) × (byte ≢ ACK) ×
 Answers before after result got = Fills before after result (answer got)
 
 -- a command went out whole, and then came what is said of its answer; or its writer failed in it, and nothing was taken
-abbrev pub Asks : Option (List ℕ) → Option (List ℕ) → Ahead → Ahead → Result (Unit {0}) Fault → List ℕ → Type 0 → Type 0
-Asks held_before held_after ahead_before ahead_after (Err fault.Write) command Answered =
-    Cuts held_before held_after command × (ahead_after ≡ ahead_before)
-Asks held_before held_after ahead_before ahead_after result command Answered = Appends held_before held_after command × Answered
+abbrev pub Asks : Wire → Wire → Result (Unit {0}) Fault → List ℕ → Type 0 → Type 0
+Asks before after (Err fault.Write) command Answered =
+    Cuts before.held after.held command × (after.ahead ≡ before.ahead)
+Asks before after result command Answered = Appends before.held after.held command × Answered
 
 -- the reader's count of failures rises by one exactly at Read, the writer's exactly at Write
 abbrev pub CountsReads : {T : Type 0} → ℕ → ℕ → Result T Fault → Type 0
@@ -98,13 +99,13 @@ AnswersKnown before after (Err reason.Busy) want = ⊥
 AnswersKnown before after (Err reason.Carried) want = ⊥
 
 -- what an operation whose answer is known says
-abbrev pub Knows : Option (List ℕ) → Option (List ℕ) → Ahead → Ahead → Result (Unit {0}) Reason → List ℕ → List ℕ → Type 0
-Knows held_before held_after ahead_before ahead_after (Ok u) command want =
-    Appends held_before held_after command × Gives ahead_before (answer want) ahead_after
-Knows held_before held_after ahead_before ahead_after (Err (reason.Differs place byte)) command want =
-    Appends held_before held_after command × GivesOther ahead_before ahead_after want place byte
-Knows held_before held_after ahead_before ahead_after (Err (reason.Exchange why)) command want =
+abbrev pub Knows : Wire → Wire → Result (Unit {0}) Reason → List ℕ → List ℕ → Type 0
+Knows before after (Ok u) command want =
+    Appends before.held after.held command × Gives before.ahead (answer want) after.ahead
+Knows before after (Err (reason.Differs place byte)) command want =
+    Appends before.held after.held command × GivesOther before.ahead after.ahead want place byte
+Knows before after (Err (reason.Exchange why)) command want =
     (got : List ℕ) × (length got ≡ length want)
-    × Asks held_before held_after ahead_before ahead_after (Err why) command (Answers ahead_before ahead_after (Err why) got)
-Knows held_before held_after ahead_before ahead_after (Err reason.Busy) command want = ⊥
-Knows held_before held_after ahead_before ahead_after (Err reason.Carried) command want = ⊥
+    × Asks before after (Err why) command (Answers before.ahead after.ahead (Err why) got)
+Knows before after (Err reason.Busy) command want = ⊥
+Knows before after (Err reason.Carried) command want = ⊥

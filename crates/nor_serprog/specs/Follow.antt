@@ -7,6 +7,7 @@ use Rattle.nor_base.specs.declared.wrong.PortFault.TheVariants as port
 use Rattle.nor_base.specs.Device.{Ahead, Gives, one_more}
 use Rattle.nor_base.specs.Port.{Shown, Transacts}
 use Rattle.nor_base.specs.Run.{poll_clocks}
+use Rattle.nor_base.specs.Wire.{Wire, wire}
 use Rattle.nor_serprog.specs.declared.fault.Fault.{Fault}
 use Rattle.nor_serprog.specs.declared.fault.Fault.TheVariants as fault
 use Rattle.nor_serprog.specs.declared.fault.Reason.{Reason}
@@ -21,9 +22,9 @@ abbrev pub status_request : List ℕ
 status_request = request (0x05 ∷ []) 1
 
 -- a status was read again and again, and these came
-abbrev pub HasRead : Option (List ℕ) → Option (List ℕ) → Ahead → Ahead → List ℕ → Type 0
-HasRead held_before held_after ahead_before ahead_after statuses =
-    Talked held_before held_after ahead_before ahead_after (flat_map (λ status. status_request) statuses)
+abbrev pub HasRead : Wire → Wire → List ℕ → Type 0
+HasRead before after statuses =
+    Talked before after (flat_map (λ status. status_request) statuses)
     (flat_map (λ status. answer (status ∷ [])) statuses)
 
 -- so many status reads
@@ -57,24 +58,24 @@ pub record MayGoAtOnce (limits : Limits) (reads : ℕ) : Type 0 where
   pub fit : 1 < reads → length (status_requests reads) ≤ most_ahead limits
 
 -- the status was read until it said idle, which it did within so many turns; reads that had been sent ahead then said so too
-pub record HasWaited (held_before held_after : Option (List ℕ)) (ahead_before ahead_after : Ahead) (turns : ℕ) : Type 0 where
+pub record HasWaited (before after : Wire) (turns : ℕ) : Type 0 where
   pub busy : List ℕ
   pub idle : List ℕ
   pub some : 0 < length idle
   pub within : length (busy ++ idle) ≤ turns
   pub each : are_busy busy ≡ true
   pub last : are_idle idle ≡ true
-  pub read : HasRead held_before held_after ahead_before ahead_after (busy ++ idle)
+  pub read : HasRead before after (busy ++ idle)
 
 -- so many turns all said busy
-pub record StaysBusy (held_before held_after : Option (List ℕ)) (ahead_before ahead_after : Ahead) (turns : ℕ) : Type 0 where
+pub record StaysBusy (before after : Wire) (turns : ℕ) : Type 0 where
   pub busy : List ℕ
   pub all : length busy ≡ turns
   pub each : are_busy busy ≡ true
-  pub read : HasRead held_before held_after ahead_before ahead_after busy
+  pub read : HasRead before after busy
 
 -- some turns said busy and then idle, and the next one busy again; it and more reads had been sent, which may go out at once
-pub record IsBusyAgain (held_before held_after : Option (List ℕ)) (ahead_before ahead_after : Ahead) (limits : Limits) (turns : ℕ) : Type 0
+pub record IsBusyAgain (before after : Wire) (limits : Limits) (turns : ℕ) : Type 0
   where
     pub busy : List ℕ
     pub idle : List ℕ
@@ -88,14 +89,13 @@ pub record IsBusyAgain (held_before held_after : Option (List ℕ)) (ahead_befor
     pub odd : again % 2 ≡ 1
     pub held : Option (List ℕ)
     pub ahead : Ahead
-    pub read : HasRead held_before held ahead_before ahead (busy ++ idle)
-    pub sent : Appends held held_after (status_requests more)
-    pub back : Gives ahead (answer (again ∷ [])) ahead_after
+    pub read : HasRead before (wire held ahead) (busy ++ idle)
+    pub sent : Appends held after.held (status_requests more)
+    pub back : Gives ahead (answer (again ∷ [])) after.ahead
 
 -- some turns said busy and then perhaps idle, and the next one's exchange ended so; it and more reads had been sent, which may go out
 -- at once
-pub record StopsWaiting (held_before held_after : Option (List ℕ)) (ahead_before ahead_after : Ahead) (limits : Limits) (turns : ℕ)
-    (why : Fault) : Type 0 where
+pub record StopsWaiting (before after : Wire) (limits : Limits) (turns : ℕ) (why : Fault) : Type 0 where
   pub busy : List ℕ
   pub idle : List ℕ
   pub more : ℕ
@@ -108,19 +108,19 @@ pub record StopsWaiting (held_before held_after : Option (List ℕ)) (ahead_befo
   pub ahead : Ahead
   pub got : List ℕ
   pub one : length got ≡ 1
-  pub read : HasRead held_before held ahead_before ahead (busy ++ idle)
-  pub stop : Asks held held_after ahead ahead_after (Err why) (status_requests more) (Answers ahead ahead_after (Err why) got)
+  pub read : HasRead before (wire held ahead) (busy ++ idle)
+  pub stop : Asks (wire held ahead) after (Err why) (status_requests more) (Answers ahead after.ahead (Err why) got)
 
 -- what a wait says
-abbrev pub Waits : Option (List ℕ) → Option (List ℕ) → Ahead → Ahead → Result (Unit {0}) Reason → Limits → ℕ → Type 0
-Waits held_before held_after ahead_before ahead_after (Ok u) limits turns = HasWaited held_before held_after ahead_before ahead_after turns
-Waits held_before held_after ahead_before ahead_after (Err reason.Busy) limits turns =
-    StaysBusy held_before held_after ahead_before ahead_after turns
-    ⊎ IsBusyAgain held_before held_after ahead_before ahead_after limits turns
-Waits held_before held_after ahead_before ahead_after (Err (reason.Exchange why)) limits turns =
-    StopsWaiting held_before held_after ahead_before ahead_after limits turns why
-Waits held_before held_after ahead_before ahead_after (Err (reason.Differs place byte)) limits turns = ⊥
-Waits held_before held_after ahead_before ahead_after (Err reason.Carried) limits turns = ⊥
+abbrev pub Waits : Wire → Wire → Result (Unit {0}) Reason → Limits → ℕ → Type 0
+Waits before after (Ok u) limits turns = HasWaited before after turns
+Waits before after (Err reason.Busy) limits turns =
+    StaysBusy before after turns
+    ⊎ IsBusyAgain before after limits turns
+Waits before after (Err (reason.Exchange why)) limits turns =
+    StopsWaiting before after limits turns why
+Waits before after (Err (reason.Differs place byte)) limits turns = ⊥
+Waits before after (Err reason.Carried) limits turns = ⊥
 
 -- what comes back for statuses
 abbrev pub told : List ℕ → List ℕ
@@ -166,54 +166,49 @@ TakesStatuses before after (Err (reason.Differs place byte)) count = ⊥
 TakesStatuses before after (Err reason.Carried) count = ⊥
 
 -- the device did the operation of these clocks, and gave these bytes
-pub record HasOperated (held_before held_after : Option (List ℕ)) (ahead_before ahead_after : Ahead) (limits : Limits)
-    (clocks want : List ℕ) : Type 0 where
+pub record HasOperated (before after : Wire) (limits : Limits) (clocks want : List ℕ) : Type 0 where
   pub sent : List ℕ
   pub spelled : IsOperation limits clocks sent (length want)
-  pub talked : Talked held_before held_after ahead_before ahead_after (request sent (length want)) (answer want)
+  pub talked : Talked before after (request sent (length want)) (answer want)
 
 -- the exchange of that operation ended so
-pub record StopsOperating (held_before held_after : Option (List ℕ)) (ahead_before ahead_after : Ahead) (limits : Limits)
-    (clocks want : List ℕ) (why : Fault) : Type 0 where
+pub record StopsOperating (before after : Wire) (limits : Limits) (clocks want : List ℕ) (why : Fault) : Type 0 where
   pub sent : List ℕ
   pub spelled : IsOperation limits clocks sent (length want)
   pub got : List ℕ
   pub as_many : length got ≡ length want
-  pub stop : Asks held_before held_after ahead_before ahead_after (Err why) (request sent (length want))
-      (Answers ahead_before ahead_after (Err why) got)
+  pub stop : Asks before after (Err why) (request sent (length want))
+      (Answers before.ahead after.ahead (Err why) got)
 
 -- the device did the operation of these clocks, and of as many bytes as were to come this is the first that is another
-pub record DiffersOperating (held_before held_after : Option (List ℕ)) (ahead_before ahead_after : Ahead) (limits : Limits)
-    (clocks want : List ℕ) (place byte : ℕ) : Type 0 where
+pub record DiffersOperating (before after : Wire) (limits : Limits) (clocks want : List ℕ) (place byte : ℕ) : Type 0 where
   pub sent : List ℕ
   pub spelled : IsOperation limits clocks sent (length want)
-  pub put : Appends held_before held_after (request sent (length want))
-  pub gives : GivesOther ahead_before ahead_after want place byte
+  pub put : Appends before.held after.held (request sent (length want))
+  pub gives : GivesOther before.ahead after.ahead want place byte
 
 -- no device can do these clocks, and nothing was asked of it
-pub record IsNotCarried (held_before held_after : Option (List ℕ)) (ahead_before ahead_after : Ahead) (limits : Limits) (clocks : List ℕ)
+pub record IsNotCarried (before after : Wire) (limits : Limits) (clocks : List ℕ)
     : Type 0 where
   pub none : IsNoOperation limits clocks
-  pub held : held_after ≡ held_before
-  pub ahead : ahead_after ≡ ahead_before
+  pub held : after.held ≡ before.held
+  pub ahead : after.ahead ≡ before.ahead
 
 -- what one operation says
-abbrev pub Operates : Option (List ℕ) → Option (List ℕ) → Ahead → Ahead → Result (Unit {0}) Reason → Limits → List ℕ → List ℕ → Type 0
-Operates held_before held_after ahead_before ahead_after (Ok u) limits clocks want = HasOperated held_before held_after ahead_before
-    ahead_after limits clocks want
-Operates held_before held_after ahead_before ahead_after (Err reason.Busy) limits clocks want = ⊥
-Operates held_before held_after ahead_before ahead_after (Err (reason.Exchange why)) limits clocks want =
-    StopsOperating held_before held_after ahead_before ahead_after limits clocks want why
-Operates held_before held_after ahead_before ahead_after (Err (reason.Differs place byte)) limits clocks want =
-    DiffersOperating held_before held_after ahead_before ahead_after limits clocks want place byte
-Operates held_before held_after ahead_before ahead_after (Err reason.Carried) limits clocks want =
-    IsNotCarried held_before held_after ahead_before ahead_after limits clocks
+abbrev pub Operates : Wire → Wire → Result (Unit {0}) Reason → Limits → List ℕ → List ℕ → Type 0
+Operates before after (Ok u) limits clocks want = HasOperated before after limits clocks want
+Operates before after (Err reason.Busy) limits clocks want = ⊥
+Operates before after (Err (reason.Exchange why)) limits clocks want =
+    StopsOperating before after limits clocks want why
+Operates before after (Err (reason.Differs place byte)) limits clocks want =
+    DiffersOperating before after limits clocks want place byte
+Operates before after (Err reason.Carried) limits clocks want =
+    IsNotCarried before after limits clocks
 
 -- a transaction with the device, whose chip is to give these bytes: a poll is a wait, all else one operation
-pub record Follows (held_before held_after : Option (List ℕ)) (ahead_before ahead_after : Ahead) (result : Result (Unit {0}) Reason)
-    (limits : Limits) (turns : ℕ) (clocks want : List ℕ) : Type 0 where
-  pub poll : clocks ≡ poll_clocks → Waits held_before held_after ahead_before ahead_after result limits turns
-  pub other : clocks ≢ poll_clocks → Operates held_before held_after ahead_before ahead_after result limits clocks want
+pub record Follows (before after : Wire) (result : Result (Unit {0}) Reason) (limits : Limits) (turns : ℕ) (clocks want : List ℕ) : Type 0 where
+  pub poll : clocks ≡ poll_clocks → Waits before after result limits turns
+  pub other : clocks ≢ poll_clocks → Operates before after result limits clocks want
 
 -- the reader's count of failures rises by one exactly where the reason is Read, the writer's where it is Write
 abbrev pub CountsReason : {T : Type 0} → Fault → ℕ → ℕ → Result T Reason → Type 0
@@ -231,28 +226,31 @@ CountsFirst device before after None (Some why) = CountsReason {T = Unit {0}} de
 CountsFirst device before after reason_before reason_after = after ≡ before
 
 -- the device was left alone
-pub record IsUntouched (held_before held_after : Option (List ℕ)) (ahead_before ahead_after : Ahead) : Type 0 where
-  pub held : held_after ≡ held_before
-  pub ahead : ahead_after ≡ ahead_before
+pub record IsUntouched (before after : Wire) : Type 0 where
+  pub held : after.held ≡ before.held
+  pub ahead : after.ahead ≡ before.ahead
 
--- a failed transaction: a port that has failed fails again, and asks nothing of the device. One that hadn't fails by the device, and
--- keeps the reason; its chip in memory took the instruction
-abbrev pub Fails : Shown → Shown → Option (List ℕ) → Option (List ℕ) → Ahead → Ahead → Option Reason → Option Reason → Limits → ℕ → List
-    ℕ → List ℕ → Type 0
-Fails before after held_before held_after ahead_before ahead_after (Some why) reason_after limits turns clocks out =
-    (reason_after ≡ Some why) × IsUntouched held_before held_after ahead_before ahead_after
-Fails before after held_before held_after ahead_before ahead_after None reason_after limits turns clocks out =
-    (why : Reason) × (reason_after ≡ Some why) × Transacts before after (Ok tt) clocks out
-    × Follows held_before held_after ahead_before ahead_after (Err why) limits turns clocks out
+-- a chip in memory beside a device at one moment: the chip, the wire, and why it has failed, where it has
+pub record Beside : Type 0 where
+  pub shown : Shown
+  pub wire : Wire
+  pub reason : Option Reason
+
+abbrev pub beside : Shown → Wire → Option Reason → Beside
+beside shown wire reason = record { shown = shown; wire = wire; reason = reason }
+
+-- a failed transaction, by why it had failed before: a port that has failed fails again, and asks nothing of the device. One that hadn't
+-- fails by the device, and keeps the reason; its chip in memory took the instruction
+abbrev pub Fails : Option Reason → Beside → Beside → Limits → ℕ → List ℕ → List ℕ → Type 0
+Fails (Some why) before after limits turns clocks out = (after.reason ≡ Some why) × IsUntouched before.wire after.wire
+Fails None before after limits turns clocks out =
+    (why : Reason) × (after.reason ≡ Some why) × Transacts before.shown after.shown (Ok tt) clocks out
+    × Follows before.wire after.wire (Err why) limits turns clocks out
 
 -- what a transaction is to the device beside the chip: done as the chip does it; never asked for where the chip refuses it
-abbrev pub Accompanies : Shown → Shown → Option (List ℕ) → Option (List ℕ) → Ahead → Ahead → Option Reason → Option Reason → Result
-    (Unit {0}) PortFault → Limits → ℕ → List ℕ → List ℕ → Type 0
-Accompanies before after held_before held_after ahead_before ahead_after reason_before reason_after (Ok u) limits turns clocks out =
-    (reason_before ≡ None) × (reason_after ≡ None) × Follows held_before held_after ahead_before ahead_after (Ok tt) limits turns clocks out
-Accompanies before after held_before held_after ahead_before ahead_after reason_before reason_after (Err (port.Wrong why)) limits turns
-    clocks out =
-    (reason_before ≡ None) × (reason_after ≡ None) × IsUntouched held_before held_after ahead_before ahead_after
-Accompanies before after held_before held_after ahead_before ahead_after reason_before reason_after (Err port.Failed) limits turns clocks
-    out =
-    Fails before after held_before held_after ahead_before ahead_after reason_before reason_after limits turns clocks out
+abbrev pub Accompanies : Beside → Beside → Result (Unit {0}) PortFault → Limits → ℕ → List ℕ → List ℕ → Type 0
+Accompanies before after (Ok u) limits turns clocks out =
+    (before.reason ≡ None) × (after.reason ≡ None) × Follows before.wire after.wire (Ok tt) limits turns clocks out
+Accompanies before after (Err (port.Wrong why)) limits turns clocks out =
+    (before.reason ≡ None) × (after.reason ≡ None) × IsUntouched before.wire after.wire
+Accompanies before after (Err port.Failed) limits turns clocks out = Fails before.reason before after limits turns clocks out

@@ -3,6 +3,7 @@
 use Rattle.std.specs.Prelude.{◌≡◌, ◌≢◌, ◌≤◌, ◌<◌, ℕ, Bool, true, false, ◌+◌, ◌-◌, ◌*◌, ◌/◌, ◌%◌, ◌^◌, ◌==◌, not, ◌&&◌, ◌||◌, if◌then◌else◌, List, [], ◌∷◌, ◌++◌, length, take, replicate, flat_map, slice_index, Option, Some, None, IfSome, Result, Ok, Err}
 use Rattle.std.specs.Io.KnownBytes.{Appends}
 use Rattle.nor_base.specs.Device.{Ahead, Gives, IsAtEnd, Cuts, one_more}
+use Rattle.nor_base.specs.Wire.{Wire, wire}
 use Rattle.nor_serprog.specs.declared.fault.Fault.{Fault}
 use Rattle.nor_serprog.specs.declared.fault.Fault.TheVariants as fault
 use Rattle.nor_serprog.specs.declared.fault.Command.{Command}
@@ -87,9 +88,9 @@ place command.QueryWriteMax = 5
 place command.QueryReadMax = 6
 place command.SetPins = 7
 
-abbrev pub HasExchanged : Option (List ℕ) → Option (List ℕ) → Ahead → Ahead → List Exchange → Type 0
-HasExchanged held_before held_after ahead_before ahead_after done =
-    Talked held_before held_after ahead_before ahead_after (flat_map (λ x. x.put) done) (flat_map (λ x. x.given) done)
+abbrev pub HasExchanged : Wire → Wire → List Exchange → Type 0
+HasExchanged before after done =
+    Talked before after (flat_map (λ x. x.put) done) (flat_map (λ x. x.given) done)
 
 -- version 1
 abbrev pub first_version : List ℕ
@@ -143,10 +144,10 @@ ahead_told true (Some told) = slice_index told 0 + 256 * slice_index told 1
 ahead_told offered other = 0
 
 -- the device speaks version 1 and does SPI operations, these are its limits, and it drives the chip's pins or doesn't
-pub record Greets (held_before held_after : Option (List ℕ)) (ahead_before ahead_after : Ahead) (limits : Limits) : Type 0 where
+pub record Greets (before after : Wire) (limits : Limits) : Type 0 where
   pub greeting : Greeting
   pub word : IsWord greeting.tries greeting.noise greeting.late
-  pub talked : HasExchanged held_before held_after ahead_before ahead_after (exchanges greeting)
+  pub talked : HasExchanged before after (exchanges greeting)
   pub version : greeting.version ≡ first_version
   pub operation : offers greeting.commands 0x13 ≡ true
   pub commands : length greeting.commands ≡ 32
@@ -170,7 +171,7 @@ answer_length command.QueryReadMax = 3
 answer_length command.SetPins = 0
 
 -- the exchanges before a command were done, and its own ended so
-pub record StopsAt (held_before held_after : Option (List ℕ)) (ahead_before ahead_after : Ahead) (at : Command) (why : Fault) : Type 0 where
+pub record StopsAt (old new : Wire) (at : Command) (why : Fault) : Type 0 where
   pub greeting : Greeting
   pub held : Option (List ℕ)
   pub ahead : Ahead
@@ -178,49 +179,48 @@ pub record StopsAt (held_before held_after : Option (List ℕ)) (ahead_before ah
   pub word : IsWord greeting.tries greeting.noise greeting.late
   pub reaches : Reaches greeting at
   pub room : length got ≡ answer_length at
-  pub before : HasExchanged held_before held ahead_before ahead (take (place at) (exchanges greeting))
-  pub stop : Asks held held_after ahead ahead_after (Err why) (command_bytes at) (Answers ahead ahead_after (Err why) got)
+  pub before : HasExchanged old (wire held ahead) (take (place at) (exchanges greeting))
+  pub stop : Asks (wire held ahead) new (Err why) (command_bytes at) (Answers ahead new.ahead (Err why) got)
 
 -- the exchanges before a command were done, and what they told is no device for us
-pub record IsUnfit (held_before held_after : Option (List ℕ)) (ahead_before ahead_after : Ahead) (at : Command)
-    (Told : Greeting → Type 0) : Type 0 where
+pub record IsUnfit (old new : Wire) (at : Command) (Told : Greeting → Type 0) : Type 0 where
   pub greeting : Greeting
   pub word : IsWord greeting.tries greeting.noise greeting.late
-  pub before : HasExchanged held_before held_after ahead_before ahead_after (take (place at) (exchanges greeting))
+  pub before : HasExchanged old new (take (place at) (exchanges greeting))
   pub told : Told greeting
 
 -- so many tries went out, and no first word came
-pub record HasNoWord (held_before held_after : Option (List ℕ)) (ahead_before ahead_after : Ahead) (tries : ℕ) (given : List ℕ) : Type 0
+pub record HasNoWord (before after : Wire) (tries : ℕ) (given : List ℕ) : Type 0
   where
     pub few : tries ≤ most_tries
     pub none : has_word given ≡ false
-    pub talked : Talked held_before held_after ahead_before ahead_after (replicate tries 0x10) given
+    pub talked : Talked before after (replicate tries 0x10) given
 
 -- why: the writer failed in a try; silence after the last one; too many bytes without that word; the reader failed
-abbrev pub StopsWord : Option (List ℕ) → Option (List ℕ) → Ahead → Ahead → Fault → Type 0
-StopsWord held_before held_after ahead_before ahead_after fault.Write =
-    (tries : ℕ) × (given : List ℕ) × (tries < most_tries) × HasNoWord held_before held_after ahead_before ahead_after tries given
-StopsWord held_before held_after ahead_before ahead_after fault.Silent =
-    (given : List ℕ) × IsAtEnd ahead_after × HasNoWord held_before held_after ahead_before ahead_after most_tries given
-StopsWord held_before held_after ahead_before ahead_after fault.Differs =
-    (tries : ℕ) × (given : List ℕ) × (length given + tries ≡ most_noise + 1) × HasNoWord held_before held_after ahead_before ahead_after
+abbrev pub StopsWord : Wire → Wire → Fault → Type 0
+StopsWord before after fault.Write =
+    (tries : ℕ) × (given : List ℕ) × (tries < most_tries) × HasNoWord before after tries given
+StopsWord before after fault.Silent =
+    (given : List ℕ) × IsAtEnd after.ahead × HasNoWord before after most_tries given
+StopsWord before after fault.Differs =
+    (tries : ℕ) × (given : List ℕ) × (length given + tries ≡ most_noise + 1) × HasNoWord before after
     tries given
-StopsWord held_before held_after ahead_before ahead_after fault.Read =
-    (tries : ℕ) × (given : List ℕ) × (tries ≤ most_tries) × Talked held_before held_after ahead_before ahead_after (replicate tries 0x10)
+StopsWord before after fault.Read =
+    (tries : ℕ) × (given : List ℕ) × (tries ≤ most_tries) × Talked before after (replicate tries 0x10)
     given
-StopsWord held_before held_after ahead_before ahead_after fault.Nak = ⊥
+StopsWord before after fault.Nak = ⊥
 
 -- the first word was asked for, and came
-pub record HasBegun (held_before held_after : Option (List ℕ)) (ahead_before ahead_after : Ahead) : Type 0 where
+pub record HasBegun (before after : Wire) : Type 0 where
   pub tries : ℕ
   pub noise : List ℕ
   pub late : List ℕ
   pub word : IsWord tries noise late
-  pub talked : Talked held_before held_after ahead_before ahead_after (replicate tries 0x10) (noise ++ (NAK ∷ ACK ∷ late))
+  pub talked : Talked before after (replicate tries 0x10) (noise ++ (NAK ∷ ACK ∷ late))
 
-abbrev pub Begins : Option (List ℕ) → Option (List ℕ) → Ahead → Ahead → Result (Unit {0}) Fault → Type 0
-Begins held_before held_after ahead_before ahead_after (Ok u) = HasBegun held_before held_after ahead_before ahead_after
-Begins held_before held_after ahead_before ahead_after (Err why) = StopsWord held_before held_after ahead_before ahead_after why
+abbrev pub Begins : Wire → Wire → Result (Unit {0}) Fault → Type 0
+Begins before after (Ok u) = HasBegun before after
+Begins before after (Err why) = StopsWord before after why
 
 -- the next byte was taken, if one came before the end
 abbrev pub Hears : Ahead → Ahead → Result (Option ℕ) Fault → Type 0
@@ -242,73 +242,71 @@ Tries before after (Err fault.Write) = Cuts before after (0x10 ∷ [])
 Tries before after (Err other) = ⊥
 
 -- the same as a part of the handshake
-abbrev pub BeginsGreeting : Option (List ℕ) → Option (List ℕ) → Ahead → Ahead → Result (Unit {0}) GreetFault → Type 0
-BeginsGreeting held_before held_after ahead_before ahead_after (Ok u) = HasBegun held_before held_after ahead_before ahead_after
-BeginsGreeting held_before held_after ahead_before ahead_after (Err (refused.Command command.SyncNop why)) =
-    StopsWord held_before held_after ahead_before ahead_after why
-BeginsGreeting held_before held_after ahead_before ahead_after (Err other) = ⊥
+abbrev pub BeginsGreeting : Wire → Wire → Result (Unit {0}) GreetFault → Type 0
+BeginsGreeting before after (Ok u) = HasBegun before after
+BeginsGreeting before after (Err (refused.Command command.SyncNop why)) =
+    StopsWord before after why
+BeginsGreeting before after (Err other) = ⊥
 
 -- it was found after so many tries
-pub record HasFound (held_before held_after : Option (List ℕ)) (ahead_before ahead_after : Ahead) (tries : ℕ) : Type 0 where
+pub record HasFound (before after : Wire) (tries : ℕ) : Type 0 where
   pub noise : List ℕ
   pub word : IsWord tries noise []
-  pub talked : Talked held_before held_after ahead_before ahead_after (replicate tries 0x10) (noise ++ (NAK ∷ ACK ∷ []))
+  pub talked : Talked before after (replicate tries 0x10) (noise ++ (NAK ∷ ACK ∷ []))
 
-abbrev pub Finds : Option (List ℕ) → Option (List ℕ) → Ahead → Ahead → Result ℕ Fault → Type 0
-Finds held_before held_after ahead_before ahead_after (Ok tries) = HasFound held_before held_after ahead_before ahead_after tries
-Finds held_before held_after ahead_before ahead_after (Err why) = StopsWord held_before held_after ahead_before ahead_after why
+abbrev pub Finds : Wire → Wire → Result ℕ Fault → Type 0
+Finds before after (Ok tries) = HasFound before after tries
+Finds before after (Err why) = StopsWord before after why
 
 -- a command of the handshake was done, and gave these bytes; or its exchange ended so
-abbrev pub Tells : Option (List ℕ) → Option (List ℕ) → Ahead → Ahead → Result (Unit {0}) GreetFault → Command → List ℕ → Type 0
-Tells held_before held_after ahead_before ahead_after (Ok u) at got =
-    Talked held_before held_after ahead_before ahead_after (command_bytes at) (answer got)
-Tells held_before held_after ahead_before ahead_after (Err (refused.Command place why)) at got =
-    (place ≡ at) × Asks held_before held_after ahead_before ahead_after (Err why) (command_bytes at)
-    (Answers ahead_before ahead_after (Err why) got)
-Tells held_before held_after ahead_before ahead_after (Err other) at got = ⊥
+abbrev pub Tells : Wire → Wire → Result (Unit {0}) GreetFault → Command → List ℕ → Type 0
+Tells before after (Ok u) at got =
+    Talked before after (command_bytes at) (answer got)
+Tells before after (Err (refused.Command place why)) at got =
+    (place ≡ at) × Asks before after (Err why) (command_bytes at)
+    (Answers before.ahead after.ahead (Err why) got)
+Tells before after (Err other) at got = ⊥
 
 -- or it was left out, since it isn't offered
-abbrev pub TellsIf : Bool → Option (List ℕ) → Option (List ℕ) → Ahead → Ahead → Result (Unit {0}) GreetFault → Command → List ℕ → Type 0
-TellsIf offered held_before held_after ahead_before ahead_after (Ok u) at got =
-    let done = exchange_if offered (command_bytes at) (answer got) in Talked held_before held_after ahead_before ahead_after done.put
+abbrev pub TellsIf : Bool → Wire → Wire → Result (Unit {0}) GreetFault → Command → List ℕ → Type 0
+TellsIf offered before after (Ok u) at got =
+    let done = exchange_if offered (command_bytes at) (answer got) in Talked before after done.put
     done.given
-TellsIf offered held_before held_after ahead_before ahead_after (Err other) at got =
-    (offered ≡ true) × Tells held_before held_after ahead_before ahead_after (Err other) at got
+TellsIf offered before after (Err other) at got =
+    (offered ≡ true) × Tells before after (Err other) at got
 
 -- so was 04h, of which NAK is an answer too
-abbrev pub TellsAhead : Bool → Option (List ℕ) → Option (List ℕ) → Ahead → Ahead → Result ℕ GreetFault → Type 0
-TellsAhead offered held_before held_after ahead_before ahead_after (Ok ahead) =
+abbrev pub TellsAhead : Bool → Wire → Wire → Result ℕ GreetFault → Type 0
+TellsAhead offered before after (Ok ahead) =
     (buffer : Option (List ℕ)) × IfSome buffer (λ told. length told ≡ 2) × (ahead ≡ ahead_told offered buffer)
-    × (let done = exchange_if offered (command_bytes command.QueryBuffer) (told_or_nak buffer) in Talked held_before held_after ahead_before
-    ahead_after done.put done.given)
-TellsAhead offered held_before held_after ahead_before ahead_after (Err other) =
+    × (let done = exchange_if offered (command_bytes command.QueryBuffer) (told_or_nak buffer) in Talked before after done.put done.given)
+TellsAhead offered before after (Err other) =
     (offered ≡ true) × (other ≢ refused.Command command.QueryBuffer fault.Nak)
-    × ((got : List ℕ) × (length got ≡ 2) × Tells held_before held_after ahead_before ahead_after (Err other) command.QueryBuffer got)
+    × ((got : List ℕ) × (length got ≡ 2) × Tells before after (Err other) command.QueryBuffer got)
 
 -- what an answer of a handshake says
-abbrev pub Greeted : Option (List ℕ) → Option (List ℕ) → Ahead → Ahead → Result Limits GreetFault → Type 0
-Greeted held_before held_after ahead_before ahead_after (Ok limits) = Greets held_before held_after ahead_before ahead_after limits
-Greeted held_before held_after ahead_before ahead_after (Err (refused.Command command.SyncNop why)) =
-    StopsWord held_before held_after ahead_before ahead_after why
-Greeted held_before held_after ahead_before ahead_after (Err (refused.Command command.QueryBuffer fault.Nak)) = ⊥
-Greeted held_before held_after ahead_before ahead_after (Err (refused.Command at why)) = StopsAt held_before held_after ahead_before
-    ahead_after at why
-Greeted held_before held_after ahead_before ahead_after (Err refused.Version) =
-    IsUnfit held_before held_after ahead_before ahead_after command.QueryCommands
+abbrev pub Greeted : Wire → Wire → Result Limits GreetFault → Type 0
+Greeted before after (Ok limits) = Greets before after limits
+Greeted before after (Err (refused.Command command.SyncNop why)) =
+    StopsWord before after why
+Greeted before after (Err (refused.Command command.QueryBuffer fault.Nak)) = ⊥
+Greeted before after (Err (refused.Command at why)) = StopsAt before after at why
+Greeted before after (Err refused.Version) =
+    IsUnfit before after command.QueryCommands
     (λ g. (length g.version ≡ 2) × (g.version ≢ first_version))
-Greeted held_before held_after ahead_before ahead_after (Err refused.NoOperation) =
-    IsUnfit held_before held_after ahead_before ahead_after command.SetBus
+Greeted before after (Err refused.NoOperation) =
+    IsUnfit before after command.SetBus
     (λ g. (g.version ≡ first_version) × (length g.commands ≡ 32) × (offers g.commands 0x13 ≡ false))
 
 -- a device that speaks version 1 and does SPI operations told which commands it offers
-pub record HasLearnt (held_before held_after : Option (List ℕ)) (ahead_before ahead_after : Ahead) (commands : List ℕ) : Type 0 where
+pub record HasLearnt (old new : Wire) (commands : List ℕ) : Type 0 where
   pub tries : ℕ
   pub noise : List ℕ
   pub late : List ℕ
   pub word : IsWord tries noise late
   pub operation : offers commands 0x13 ≡ true
   pub room : length commands ≡ 32
-  pub before : HasExchanged held_before held_after ahead_before ahead_after (take (place command.SetBus) (exchanges (record {
+  pub before : HasExchanged old new (take (place command.SetBus) (exchanges (record {
     tries = tries;
     noise = noise;
     late = late;
@@ -319,9 +317,9 @@ pub record HasLearnt (held_before held_after : Option (List ℕ)) (ahead_before 
     gives = [];
   })))
 
-abbrev pub Learns : Option (List ℕ) → Option (List ℕ) → Ahead → Ahead → Result (List ℕ) GreetFault → Type 0
-Learns held_before held_after ahead_before ahead_after (Ok commands) = HasLearnt held_before held_after ahead_before ahead_after commands
-Learns held_before held_after ahead_before ahead_after (Err why) = Greeted held_before held_after ahead_before ahead_after (Err why)
+abbrev pub Learns : Wire → Wire → Result (List ℕ) GreetFault → Type 0
+Learns before after (Ok commands) = HasLearnt before after commands
+Learns before after (Err why) = Greeted before after (Err why)
 
 -- the reader's count of failures rises by one exactly where a command's fault is Read, the writer's where it is Write
 abbrev pub CountsGreetReads : {T : Type 0} → ℕ → ℕ → Result T GreetFault → Type 0

@@ -3,6 +3,7 @@
 use Rattle.std.specs.Prelude.{◌≡◌, ◌<◌, ℕ, Bool, true, ◌+◌, ◌-◌, ◌*◌, ◌&&◌, if◌then◌else◌, nat_lt, nat_le, List, [], ◌∷◌, ◌++◌, length, map, take, drop, replicate, Option, Result, Ok, Err}
 use Rattle.std.specs.List.{list_all, concat, range_with_len}
 use Rattle.nor_base.specs.Device.{Ahead}
+use Rattle.nor_base.specs.Wire.{Wire, wire}
 use Rattle.nor_serprog.specs.declared.fault.Fault.{Fault}
 use Rattle.nor_serprog.specs.declared.limits.Limits.{Limits}
 use Rattle.nor_serprog.specs.Protocol.{ACK, NAK, request, answer}
@@ -53,48 +54,48 @@ abbrev pub line_test : List (List ℕ) → Limits → List Exchange
 line_test pieces limits = values_test pieces ++ (lengths_test limits.sent ++ end_test)
 
 -- each exchange of the test was done
-pub record HasTested (held_before held_after : Option (List ℕ)) (ahead_before ahead_after : Ahead) (limits : Limits) : Type 0 where
+pub record HasTested (before after : Wire) (limits : Limits) : Type 0 where
   pub pieces : List (List ℕ)
   pub are : ArePieces limits.sent pieces
-  pub talked : HasExchanged held_before held_after ahead_before ahead_after (line_test pieces limits)
+  pub talked : HasExchanged before after (line_test pieces limits)
 
 -- the first of some exchanges ended so
-abbrev pub Breaks : Option (List ℕ) → Option (List ℕ) → Ahead → Ahead → Fault → List Exchange → Type 0
-Breaks held_before held_after ahead_before ahead_after why [] = ⊥
-Breaks held_before held_after ahead_before ahead_after why (x ∷ more) = Asks held_before held_after ahead_before ahead_after (Err why) x.put
-    (Misses ahead_before ahead_after why x.given)
+abbrev pub Breaks : Wire → Wire → Fault → List Exchange → Type 0
+Breaks before after why [] = ⊥
+Breaks before after why (x ∷ more) = Asks before after (Err why) x.put
+    (Misses before.ahead after.ahead why x.given)
 
 -- so many of some exchanges were done, and the next one ended so
-pub record StopsIn (held_before held_after : Option (List ℕ)) (ahead_before ahead_after : Ahead) (why : Fault) (exchanges : List Exchange)
+pub record StopsIn (old new : Wire) (why : Fault) (exchanges : List Exchange)
     : Type 0 where
   pub at : ℕ
   pub held : Option (List ℕ)
   pub ahead : Ahead
-  pub before : HasExchanged held_before held ahead_before ahead (take at exchanges)
-  pub stop : Breaks held held_after ahead ahead_after why (drop at exchanges)
+  pub before : HasExchanged old (wire held ahead) (take at exchanges)
+  pub stop : Breaks (wire held ahead) new why (drop at exchanges)
 
 -- an exchange of the test ended so
-pub record StopsTest (held_before held_after : Option (List ℕ)) (ahead_before ahead_after : Ahead) (limits : Limits) (why : Fault)
+pub record StopsTest (before after : Wire) (limits : Limits) (why : Fault)
     : Type 0 where
   pub pieces : List (List ℕ)
   pub are : ArePieces limits.sent pieces
-  pub stops : StopsIn held_before held_after ahead_before ahead_after why (line_test pieces limits)
+  pub stops : StopsIn before after why (line_test pieces limits)
 
 -- what a test says
-abbrev pub TestsLine : Option (List ℕ) → Option (List ℕ) → Ahead → Ahead → Result (Unit {0}) Fault → Limits → Type 0
-TestsLine held_before held_after ahead_before ahead_after (Ok u) limits = HasTested held_before held_after ahead_before ahead_after limits
-TestsLine held_before held_after ahead_before ahead_after (Err why) limits = StopsTest held_before held_after ahead_before ahead_after
+abbrev pub TestsLine : Wire → Wire → Result (Unit {0}) Fault → Limits → Type 0
+TestsLine before after (Ok u) limits = HasTested before after limits
+TestsLine before after (Err why) limits = StopsTest before after
     limits why
 
 -- what a part of it says, of these exchanges
-abbrev pub Exchanges : Option (List ℕ) → Option (List ℕ) → Ahead → Ahead → Result (Unit {0}) Fault → List Exchange → Type 0
-Exchanges held_before held_after ahead_before ahead_after (Ok u) exchanges = HasExchanged held_before held_after ahead_before ahead_after
+abbrev pub Exchanges : Wire → Wire → Result (Unit {0}) Fault → List Exchange → Type 0
+Exchanges before after (Ok u) exchanges = HasExchanged before after
     exchanges
-Exchanges held_before held_after ahead_before ahead_after (Err why) exchanges = StopsIn held_before held_after ahead_before ahead_after
+Exchanges before after (Err why) exchanges = StopsIn before after
     why exchanges
 
 -- the values were sent in pieces
-abbrev pub SendsValues : Option (List ℕ) → Option (List ℕ) → Ahead → Ahead → Result (Unit {0}) Fault → ℕ → Type 0
-SendsValues held_before held_after ahead_before ahead_after result sent =
-    (pieces : List (List ℕ)) × ArePieces sent pieces × Exchanges held_before held_after ahead_before ahead_after result
+abbrev pub SendsValues : Wire → Wire → Result (Unit {0}) Fault → ℕ → Type 0
+SendsValues before after result sent =
+    (pieces : List (List ℕ)) × ArePieces sent pieces × Exchanges before after result
     (values_test pieces)

@@ -7,6 +7,7 @@ use Rattle.nor_base.specs.declared.step.Step.TheVariants.{Send, Poll, Verify}
 use Rattle.nor_base.specs.Device.{Ahead, Gives, Cuts}
 use Rattle.nor_base.specs.Run.{poll_clocks}
 use Rattle.nor_base.specs.Step.{expected, verifies}
+use Rattle.nor_base.specs.Wire.{Wire, wire}
 use Rattle.nor_serprog.specs.declared.fault.Fault.{Fault}
 use Rattle.nor_serprog.specs.declared.fault.Fault.TheVariants as fault
 use Rattle.nor_serprog.specs.declared.fault.Reason.{Reason}
@@ -71,29 +72,26 @@ pub record AreAhead (limits : Limits) (turns : ℕ) (steps : List Step) (put : L
   pub fits : length put ≤ most_ahead limits
 
 -- a step stopped for this reason, and then just the requests of those after it went out
-pub record StopsWithin (held_before held_after : Option (List ℕ)) (ahead_before ahead_after : Ahead) (limits : Limits) (turns : ℕ)
-    (why : Reason) (at : Step) (beyond : List Step) : Type 0 where
+pub record StopsWithin (old new : Wire) (limits : Limits) (turns : ℕ) (why : Reason) (at : Step) (beyond : List Step) : Type 0 where
   pub held : Option (List ℕ)
-  pub stopped : HasStopped held_before held ahead_before ahead_after limits turns why at
+  pub stopped : HasStopped old (wire held new.ahead) limits turns why at
   pub put : List ℕ
   pub ahead : AreAhead limits turns beyond put
-  pub out : Appends held held_after put
+  pub out : Appends held new.held put
   -- where the writer failed nothing goes out after it
   pub last : why ≡ reason.Exchange fault.Write → beyond ≡ []
 
 -- or the writer failed in the requests of the step and of those after it, and no answer was taken
-pub record CutsRow (held_before held_after : Option (List ℕ)) (ahead_before ahead_after : Ahead) (limits : Limits) (turns : ℕ)
-    (why : Reason) (row : List Step) : Type 0 where
+pub record CutsRow (before after : Wire) (limits : Limits) (turns : ℕ) (why : Reason) (row : List Step) : Type 0 where
   pub writer : why ≡ reason.Exchange fault.Write
   pub put : List ℕ
   pub ahead : AreAhead limits turns row put
-  pub cut : Cuts held_before held_after put
-  pub untaken : ahead_after ≡ ahead_before
+  pub cut : Cuts before.held after.held put
+  pub untaken : after.ahead ≡ before.ahead
 
 -- of the steps a device did those before one, and stopped at that one for this reason; of what comes after it, nothing went out except
 -- requests of its row
-pub record HasHalted (held_before held_after : Option (List ℕ)) (ahead_before ahead_after : Ahead) (limits : Limits) (turns : ℕ)
-    (steps : List Step) (halt : Halt) : Type 0 where
+pub record HasHalted (old new : Wire) (limits : Limits) (turns : ℕ) (steps : List Step) (halt : Halt) : Type 0 where
   pub done : List Step
   pub at : Step
   pub beyond : List Step
@@ -103,9 +101,9 @@ pub record HasHalted (held_before held_after : Option (List ℕ)) (ahead_before 
   pub row : IsRow limits (at ∷ beyond)
   pub held : Option (List ℕ)
   pub ahead : Ahead
-  pub before : HasDoneAll held_before held ahead_before ahead limits turns done
-  pub stopped : StopsWithin held held_after ahead ahead_after limits turns halt.why at beyond
-      ⊎ CutsRow held held_after ahead ahead_after limits turns halt.why (at ∷ beyond)
+  pub before : HasDoneAll old (wire held ahead) limits turns done
+  pub stopped : StopsWithin (wire held ahead) new limits turns halt.why at beyond
+      ⊎ CutsRow (wire held ahead) new limits turns halt.why (at ∷ beyond)
 
 -- a count of failures rises by one exactly where the device stopped by this fault
 abbrev pub CountsHalt : Fault → ℕ → ℕ → Result (Unit {0}) Halt → Type 0
@@ -115,13 +113,13 @@ CountsHalt device before after (Err halt) = CountsReason {T = Unit {0}} device b
 -- what a device did in two parts it did as a whole
 abbrev pub DoneInParts : Type 0
 DoneInParts = (h i j : Option (List ℕ)) (a b c : Ahead) (limits : Limits) (turns : ℕ) (xs ys : List Step)
-    → HasDoneAll h i a b limits turns xs → HasDoneAll i j b c limits turns ys → HasDoneAll h j a c limits turns (xs ++ ys)
+    → HasDoneAll (wire h a) (wire i b) limits turns xs → HasDoneAll (wire i b) (wire j c) limits turns ys → HasDoneAll (wire h a) (wire j c) limits turns (xs ++ ys)
 
 -- a row of steps that halted is a halt of all steps, where those before it were done
 abbrev pub HaltInSteps : Type 0
 HaltInSteps = (h i j : Option (List ℕ)) (a b c : Ahead) (limits : Limits) (turns : ℕ) (front row rest : List Step) (inner outer : Halt)
-    → HasDoneAll h i a b limits turns front → HasHalted i j b c limits turns row inner → outer.step ≡ length front + inner.step
-    → outer.why ≡ inner.why → HasHalted h j a c limits turns (front ++ (row ++ rest)) outer
+    → HasDoneAll (wire h a) (wire i b) limits turns front → HasHalted (wire i b) (wire j c) limits turns row inner → outer.step ≡ length front + inner.step
+    → outer.why ≡ inner.why → HasHalted (wire h a) (wire j c) limits turns (front ++ (row ++ rest)) outer
 
 -- the requests of steps that aren't polls, one after the other
 abbrev pub AreSent : Limits → List Step → List ℕ → Type 0

@@ -5,6 +5,7 @@ ghost use Rattle.nor_serprog.specs.declared.fault.Fault.TheVariants.{Read, Write
 ghost use Rattle.nor_serprog.specs.Done.{IsDoable, HasDone, HasStopped};
 ghost use Rattle.nor_serprog.specs.Follow.{CountsReason};
 ghost use Rattle.nor_serprog.specs.Steps.{AreCarried, IsFirstNotCarried};
+ghost use Rattle.nor_base.specs.Wire.{wire};
 
 use crate::clocks::is_carried;
 use crate::fault::Reason;
@@ -28,9 +29,11 @@ pub fn do_step<R: ByteIn, W: ByteOut>(
 ) -> Result<(), Reason>
     requires form { IsDoable step.now }
     ensures done { MatchResult result
-        (λ _. HasDone (W.held to.old) (W.held to.new) (R.ahead from.old) (R.ahead from.new)
+        (λ _. HasDone (wire (W.held to.old) (R.ahead from.old))
+        (wire (W.held to.new) (R.ahead from.new))
         limits.now turns step.now)
-        (λ why. HasStopped (W.held to.old) (W.held to.new) (R.ahead from.old) (R.ahead from.new)
+        (λ why. HasStopped (wire (W.held to.old) (R.ahead from.old))
+        (wire (W.held to.new) (R.ahead from.new))
         limits.now turns why
         step.now) }
     ensures counts { CountsReason Read (R.count from.old) (R.count from.new) result

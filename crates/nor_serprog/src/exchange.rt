@@ -6,6 +6,7 @@ ghost use Rattle.nor_serprog.specs.Exchange.{Fills, Meets, other_byte, TakesAsMa
 ghost use Rattle.nor_serprog.specs.Exchange.{Answers, AnswersKnown, Asks, CountsReads};
 ghost use Rattle.nor_serprog.specs.Exchange.{CountsWrites};
 ghost use Rattle.nor_serprog.specs.Follow.{CountsReason};
+ghost use Rattle.nor_base.specs.Wire.{wire};
 
 use crate::fault::{Fault, Reason};
 use crate::put::put_command;
@@ -24,7 +25,8 @@ pub(crate) fn ask<R: ByteIn, W: ByteOut>(
     command: &[&[u8]],
     got: &mut [u8],
 ) -> Result<(), Fault>
-    ensures asked { Asks (W.held to.old) (W.held to.new) (R.ahead from.old) (R.ahead from.new)
+    ensures asked { Asks (wire (W.held to.old) (R.ahead from.old))
+        (wire (W.held to.new) (R.ahead from.new))
         result
         (flat_map (λ part. part.now) command.now)
         (Answers (R.ahead from.old) (R.ahead from.new) result got.new) }
@@ -143,7 +145,8 @@ pub(crate) fn exchange<R: ByteIn, W: ByteOut>(
     command: &[&[u8]],
     want: &[u8],
 ) -> Result<(), Fault>
-    ensures asked { Asks (W.held to.old) (W.held to.new) (R.ahead from.old) (R.ahead from.new)
+    ensures asked { Asks (wire (W.held to.old) (R.ahead from.old))
+        (wire (W.held to.new) (R.ahead from.new))
         result
         (flat_map (λ part. part.now) command.now)
         (Meets (R.ahead from.old) (R.ahead from.new) result want.now) }

@@ -9,6 +9,7 @@ ghost use Rattle.nor_serprog.specs.Exchange.{Knows};
 ghost use Rattle.nor_serprog.specs.Follow.{Follows, Operates, TakesStatuses, Waits, CountsReason};
 ghost use Rattle.nor_serprog.specs.Follow.{MayGoAtOnce, status_requests};
 ghost use Rattle.nor_serprog.specs.Protocol.{request};
+ghost use Rattle.nor_base.specs.Wire.{wire};
 
 use crate::clocks::bits_sent;
 use crate::exchange::{answered, told};
@@ -29,7 +30,8 @@ pub(crate) fn follow<R: ByteIn, W: ByteOut>(
     want: &[u8],
 ) -> Result<(), Reason>
     requires want { length want.now ≡ sampled_count clocks.now }
-    ensures follows { Follows (W.held to.old) (W.held to.new) (R.ahead from.old) (R.ahead from.new)
+    ensures follows { Follows (wire (W.held to.old) (R.ahead from.old))
+        (wire (W.held to.new) (R.ahead from.new))
         result limits.now turns
         clocks.now want.now }
     ensures counts { CountsReason Read (R.count from.old) (R.count from.new) result
@@ -50,8 +52,8 @@ pub(crate) fn operate_once<R: ByteIn, W: ByteOut>(
     want: &[u8],
 ) -> Result<(), Reason>
     requires want { length want.now ≡ sampled_count clocks.now }
-    ensures operates { Operates (W.held to.old) (W.held to.new) (R.ahead from.old)
-        (R.ahead from.new) result limits.now
+    ensures operates { Operates (wire (W.held to.old) (R.ahead from.old))
+        (wire (W.held to.new) (R.ahead from.new)) result limits.now
         clocks.now want.now }
     ensures counts { CountsReason Read (R.count from.old) (R.count from.new) result
         × CountsReason Write (W.count to.old) (W.count to.new) result }
@@ -70,7 +72,8 @@ pub(crate) fn wait<R: ByteIn, W: ByteOut>(
     limits: &Limits,
     turns: u64,
 ) -> Result<(), Reason>
-    ensures waits { Waits (W.held to.old) (W.held to.new) (R.ahead from.old) (R.ahead from.new)
+    ensures waits { Waits (wire (W.held to.old) (R.ahead from.old))
+        (wire (W.held to.new) (R.ahead from.new))
         result limits.now turns }
     ensures counts { CountsReason Read (R.count from.old) (R.count from.new) result
         × CountsReason Write (W.count to.old) (W.count to.new) result }
@@ -102,7 +105,8 @@ pub(crate) fn wait_on<R: ByteIn, W: ByteOut>(
     requires few { MayGoAtOnce limits.now reads }
     requires within { reads ≤ turns }
     ensures waits { (held : Option (List ℕ)) → Appends held (W.held to.old) (status_requests reads)
-        → Waits held (W.held to.new) (R.ahead from.old) (R.ahead from.new) result limits.now turns }
+        → Waits (wire held (R.ahead from.old)) (wire (W.held to.new) (R.ahead from.new)) result
+        limits.now turns }
     ensures counts { CountsReason Read (R.count from.old) (R.count from.new) result
         × CountsReason Write (W.count to.old) (W.count to.new) result }
 {
@@ -141,7 +145,8 @@ fn operate_as<R: ByteIn, W: ByteOut>(
 ) -> Result<(), Reason>
     requires sent { length (bytes_of_bits bits.now) < 2 ^ 24 }
     requires asked { length want.now < 2 ^ 24 }
-    ensures known { Knows (W.held to.old) (W.held to.new) (R.ahead from.old) (R.ahead from.new)
+    ensures known { Knows (wire (W.held to.old) (R.ahead from.old))
+        (wire (W.held to.new) (R.ahead from.new))
         result
         (request (bytes_of_bits bits.now) (length want.now)) want.now }
     ensures counts { CountsReason Read (R.count from.old) (R.count from.new) result

@@ -5,6 +5,7 @@ ghost use Rattle.nor_base.specs.Device.{Ahead};
 ghost use Rattle.nor_serprog.specs.Greeting.{Greeted, HasLearnt, Learns, BeginsGreeting, Tells};
 ghost use Rattle.nor_serprog.specs.Greeting.{TellsAhead, TellsIf, CountsGreetReads};
 ghost use Rattle.nor_serprog.specs.Greeting.{CountsGreetWrites, offers, most};
+ghost use Rattle.nor_base.specs.Wire.{wire};
 
 use crate::exchange::ask;
 use crate::fault::{Command, Fault, GreetFault};
@@ -33,7 +34,8 @@ const MOST: u32 = (1 << 24) - 1;
 /// `Command` has the first command whose exchange ended early, and how; `Version` where it isn't 1;
 /// `NoOperation` where 13h isn't offered. A most that isn't said, or is 0, is 2^24 - 1.
 pub fn greet<R: ByteIn, W: ByteOut>(from: &mut R, to: &mut W) -> Result<Limits, GreetFault>
-    ensures greeted { Greeted (W.held to.old) (W.held to.new) (R.ahead from.old) (R.ahead from.new)
+    ensures greeted { Greeted (wire (W.held to.old) (R.ahead from.old))
+        (wire (W.held to.new) (R.ahead from.new))
         result }
     ensures counts { CountsGreetReads (R.count from.old) (R.count from.new) result
         × CountsGreetWrites (W.count to.old) (W.count to.new) result }
@@ -44,7 +46,8 @@ pub fn greet<R: ByteIn, W: ByteOut>(from: &mut R, to: &mut W) -> Result<Limits, 
 
 /// Begins with a device that speaks version 1 and does SPI operations: the commands that it offers.
 fn learn<R: ByteIn, W: ByteOut>(from: &mut R, to: &mut W) -> Result<[u8; 32], GreetFault>
-    ensures learns { Learns (W.held to.old) (W.held to.new) (R.ahead from.old) (R.ahead from.new)
+    ensures learns { Learns (wire (W.held to.old) (R.ahead from.old))
+        (wire (W.held to.new) (R.ahead from.new))
         result }
     ensures counts { CountsGreetReads (R.count from.old) (R.count from.new) result
         × CountsGreetWrites (W.count to.old) (W.count to.new) result }
@@ -70,8 +73,8 @@ fn go_on<R: ByteIn, W: ByteOut>(
     commands: &[u8; 32],
 ) -> Result<Limits, GreetFault>
     ensures greeted { (held : Option (List ℕ)) (ahead : Ahead)
-        → HasLearnt held (W.held to.old) ahead (R.ahead from.old) commands.now
-        → Greeted held (W.held to.new) ahead (R.ahead from.new) result }
+        → HasLearnt (wire held ahead) (wire (W.held to.old) (R.ahead from.old)) commands.now
+        → Greeted (wire held ahead) (wire (W.held to.new) (R.ahead from.new)) result }
     ensures counts { CountsGreetReads (R.count from.old) (R.count from.new) result
         × CountsGreetWrites (W.count to.old) (W.count to.new) result }
 {
@@ -95,8 +98,8 @@ fn go_on<R: ByteIn, W: ByteOut>(
 
 /// Has the device say its first word.
 fn begin<R: ByteIn, W: ByteOut>(from: &mut R, to: &mut W) -> Result<(), GreetFault>
-    ensures begins { BeginsGreeting (W.held to.old) (W.held to.new) (R.ahead from.old)
-        (R.ahead from.new) result }
+    ensures begins { BeginsGreeting (wire (W.held to.old) (R.ahead from.old))
+        (wire (W.held to.new) (R.ahead from.new)) result }
     ensures counts { CountsGreetReads (R.count from.old) (R.count from.new) result
         × CountsGreetWrites (W.count to.old) (W.count to.new) result }
 {
@@ -114,7 +117,8 @@ fn tell<R: ByteIn, W: ByteOut>(
     at: Command,
     got: &mut [u8],
 ) -> Result<(), GreetFault>
-    ensures tells { Tells (W.held to.old) (W.held to.new) (R.ahead from.old) (R.ahead from.new)
+    ensures tells { Tells (wire (W.held to.old) (R.ahead from.old))
+        (wire (W.held to.new) (R.ahead from.new))
         result at got.new }
     ensures counts { CountsGreetReads (R.count from.old) (R.count from.new) result
         × CountsGreetWrites (W.count to.old) (W.count to.new) result }
@@ -131,8 +135,8 @@ fn takes_ahead<R: ByteIn, W: ByteOut>(
     to: &mut W,
     offered: bool,
 ) -> Result<u16, GreetFault>
-    ensures tells { TellsAhead offered (W.held to.old) (W.held to.new) (R.ahead from.old)
-        (R.ahead from.new) result }
+    ensures tells { TellsAhead offered (wire (W.held to.old) (R.ahead from.old))
+        (wire (W.held to.new) (R.ahead from.new)) result }
     ensures counts { CountsGreetReads (R.count from.old) (R.count from.new) result
         × CountsGreetWrites (W.count to.old) (W.count to.new) result }
 {
@@ -156,8 +160,8 @@ fn tell_if<R: ByteIn, W: ByteOut>(
     at: Command,
     got: &mut [u8],
 ) -> Result<(), GreetFault>
-    ensures tells { TellsIf offered (W.held to.old) (W.held to.new) (R.ahead from.old)
-        (R.ahead from.new) result at got.new }
+    ensures tells { TellsIf offered (wire (W.held to.old) (R.ahead from.old))
+        (wire (W.held to.new) (R.ahead from.new)) result at got.new }
     ensures counts { CountsGreetReads (R.count from.old) (R.count from.new) result
         × CountsGreetWrites (W.count to.old) (W.count to.new) result }
 {

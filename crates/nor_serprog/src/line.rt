@@ -4,6 +4,7 @@ ghost use Rattle.std.specs.Prelude.{◌≡◌, ◌<◌, ◌≤◌, ◌+◌, ◌-
 ghost use Rattle.nor_serprog.specs.Exchange.{CountsReads, CountsWrites};
 ghost use Rattle.nor_serprog.specs.Line.{Exchanges, SendsValues, TestsLine, all_values, end_test};
 ghost use Rattle.nor_serprog.specs.Line.{ignored, lengths_test, zeros_if};
+ghost use Rattle.nor_base.specs.Wire.{wire};
 
 use crate::exchange::{ACK, NAK, exchange};
 use crate::fault::{Command, Fault};
@@ -27,7 +28,8 @@ pub fn test_line<R: ByteIn, W: ByteOut>(
     to: &mut W,
     limits: &Limits,
 ) -> Result<(), Fault>
-    ensures tests { TestsLine (W.held to.old) (W.held to.new) (R.ahead from.old) (R.ahead from.new)
+    ensures tests { TestsLine (wire (W.held to.old) (R.ahead from.old))
+        (wire (W.held to.new) (R.ahead from.new))
         result limits.now }
     ensures counts { CountsReads (R.count from.old) (R.count from.new) result
         × CountsWrites (W.count to.old) (W.count to.new) result }
@@ -43,8 +45,8 @@ fn send_values<R: ByteIn, W: ByteOut>(
     to: &mut W,
     limits: &Limits,
 ) -> Result<(), Fault>
-    ensures sends { SendsValues (W.held to.old) (W.held to.new) (R.ahead from.old)
-        (R.ahead from.new) result limits.now.sent }
+    ensures sends { SendsValues (wire (W.held to.old) (R.ahead from.old))
+        (wire (W.held to.new) (R.ahead from.new)) result limits.now.sent }
     ensures counts { CountsReads (R.count from.old) (R.count from.new) result
         × CountsWrites (W.count to.old) (W.count to.new) result }
 {
@@ -58,8 +60,8 @@ fn send_values<R: ByteIn, W: ByteOut>(
 fn send_pieces<R: ByteIn, W: ByteOut>(from: &mut R, to: &mut W, room: usize) -> Result<(), Fault>
     requires some { 0 < room }
     requires few { room < 2 ^ 24 - 1 }
-    ensures sends { SendsValues (W.held to.old) (W.held to.new) (R.ahead from.old)
-        (R.ahead from.new) result (room + 1) }
+    ensures sends { SendsValues (wire (W.held to.old) (R.ahead from.old))
+        (wire (W.held to.new) (R.ahead from.new)) result (room + 1) }
     ensures counts { CountsReads (R.count from.old) (R.count from.new) result
         × CountsWrites (W.count to.old) (W.count to.new) result }
 {
@@ -86,7 +88,8 @@ fn all_values() -> [u8; 256]
 
 /// Has the device send 05h and zeros, of each length that it can.
 fn send_lengths<R: ByteIn, W: ByteOut>(from: &mut R, to: &mut W, sent: u32) -> Result<(), Fault>
-    ensures does { Exchanges (W.held to.old) (W.held to.new) (R.ahead from.old) (R.ahead from.new)
+    ensures does { Exchanges (wire (W.held to.old) (R.ahead from.old))
+        (wire (W.held to.new) (R.ahead from.new))
         result (lengths_test sent) }
     ensures counts { CountsReads (R.count from.old) (R.count from.new) result
         × CountsWrites (W.count to.old) (W.count to.new) result }
@@ -105,7 +108,8 @@ fn send_zeros<R: ByteIn, W: ByteOut>(
 ) -> Result<(), Fault>
     requires some { 0 < count }
     requires few { count ≤ 128 }
-    ensures does { Exchanges (W.held to.old) (W.held to.new) (R.ahead from.old) (R.ahead from.new)
+    ensures does { Exchanges (wire (W.held to.old) (R.ahead from.old))
+        (wire (W.held to.new) (R.ahead from.new))
         result (zeros_if sent count) }
     ensures counts { CountsReads (R.count from.old) (R.count from.new) result
         × CountsWrites (W.count to.old) (W.count to.new) result }
@@ -120,7 +124,8 @@ fn send_zeros<R: ByteIn, W: ByteOut>(
 /// Has the device send 05h and then bytes that the chip ignores.
 fn send_ignored<R: ByteIn, W: ByteOut>(from: &mut R, to: &mut W, bytes: &[u8]) -> Result<(), Fault>
     requires few { length bytes.now < 2 ^ 24 - 1 }
-    ensures does { Exchanges (W.held to.old) (W.held to.new) (R.ahead from.old) (R.ahead from.new)
+    ensures does { Exchanges (wire (W.held to.old) (R.ahead from.old))
+        (wire (W.held to.new) (R.ahead from.new))
         result (ignored bytes.now ∷ []) }
     ensures counts { CountsReads (R.count from.old) (R.count from.new) result
         × CountsWrites (W.count to.old) (W.count to.new) result }
@@ -131,7 +136,8 @@ fn send_ignored<R: ByteIn, W: ByteOut>(from: &mut R, to: &mut W, bytes: &[u8]) -
 
 /// Does NOP, and then asks for the word, which is to come by itself.
 fn end<R: ByteIn, W: ByteOut>(from: &mut R, to: &mut W) -> Result<(), Fault>
-    ensures does { Exchanges (W.held to.old) (W.held to.new) (R.ahead from.old) (R.ahead from.new)
+    ensures does { Exchanges (wire (W.held to.old) (R.ahead from.old))
+        (wire (W.held to.new) (R.ahead from.new))
         result end_test }
     ensures counts { CountsReads (R.count from.old) (R.count from.new) result
         × CountsWrites (W.count to.old) (W.count to.new) result }

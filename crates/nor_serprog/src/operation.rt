@@ -5,6 +5,7 @@ ghost use Rattle.nor_serprog.specs.Protocol.{head, request};
 ghost use Rattle.nor_serprog.specs.declared.fault.Fault.TheVariants.{Read, Write};
 ghost use Rattle.nor_serprog.specs.Exchange.{Answers, Asks, CountsReads, CountsWrites, Knows};
 ghost use Rattle.nor_serprog.specs.Follow.{CountsReason};
+ghost use Rattle.nor_base.specs.Wire.{wire};
 
 use crate::exchange::{answered, ask};
 use crate::fault::{Fault, Reason};
@@ -27,7 +28,8 @@ pub fn operate<R: ByteIn, W: ByteOut>(
 ) -> Result<(), Fault>
     requires sent { length sent.now < 2 ^ 24 }
     requires asked { length got.old < 2 ^ 24 }
-    ensures asked { Asks (W.held to.old) (W.held to.new) (R.ahead from.old) (R.ahead from.new)
+    ensures asked { Asks (wire (W.held to.old) (R.ahead from.old))
+        (wire (W.held to.new) (R.ahead from.new))
         result
         (request sent.now (length got.old))
         (Answers (R.ahead from.old) (R.ahead from.new) result got.new) }
@@ -51,7 +53,8 @@ pub fn operate_with<R: ByteIn, W: ByteOut>(
 ) -> Result<(), Reason>
     requires sent { length sent.now < 2 ^ 24 }
     requires asked { length want.now < 2 ^ 24 }
-    ensures known { Knows (W.held to.old) (W.held to.new) (R.ahead from.old) (R.ahead from.new)
+    ensures known { Knows (wire (W.held to.old) (R.ahead from.old))
+        (wire (W.held to.new) (R.ahead from.new))
         result
         (request sent.now (length want.now)) want.now }
     ensures counts { CountsReason Read (R.count from.old) (R.count from.new) result

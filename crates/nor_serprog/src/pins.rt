@@ -3,6 +3,7 @@
 ghost use Rattle.std.specs.Prelude.{[]};
 ghost use Rattle.nor_serprog.specs.Exchange.{Answers, Asks, CountsReads, CountsWrites};
 ghost use Rattle.nor_serprog.specs.Greeting.{release_bytes};
+ghost use Rattle.nor_base.specs.Wire.{wire};
 
 use crate::exchange::ask;
 use crate::fault::Fault;
@@ -17,7 +18,8 @@ const RELEASE: [u8; 2] = [0x15, 0x00];
 /// `Write` where the writer failed; `Nak` and `Differs` where NAK came, or another byte; `Silent`
 /// and `Read` where the reader ended or failed before one came.
 pub fn release<R: ByteIn, W: ByteOut>(from: &mut R, to: &mut W) -> Result<(), Fault>
-    ensures asked { Asks (W.held to.old) (W.held to.new) (R.ahead from.old) (R.ahead from.new)
+    ensures asked { Asks (wire (W.held to.old) (R.ahead from.old))
+        (wire (W.held to.new) (R.ahead from.new))
         result
         release_bytes (Answers (R.ahead from.old) (R.ahead from.new) result []) }
     ensures counts { CountsReads (R.count from.old) (R.count from.new) result

@@ -13,6 +13,7 @@ ghost use Rattle.nor_serprog.specs.Protocol.{request};
 ghost use Rattle.nor_serprog.specs.Done.{IsDoable, HasDoneAll};
 ghost use Rattle.nor_serprog.specs.Row.{AreFront, AreSent, CountsHalt, FitAhead, HasHalted};
 ghost use Rattle.nor_serprog.specs.Row.{IsAsked, IsForm, IsRow, IsSent, StopsAnswers, TakesAnswers};
+ghost use Rattle.nor_base.specs.Wire.{wire};
 
 use crate::clocks::bits_sent;
 use crate::done::do_step;
@@ -115,9 +116,11 @@ pub fn do_row<R: ByteIn, W: ByteOut>(
     requires form { All IsDoable row.now }
     requires row { IsRow limits.now row.now }
     ensures done { MatchResult result
-        (λ _. HasDoneAll (W.held to.old) (W.held to.new) (R.ahead from.old) (R.ahead from.new)
+        (λ _. HasDoneAll (wire (W.held to.old) (R.ahead from.old))
+        (wire (W.held to.new) (R.ahead from.new))
         limits.now turns row.now)
-        (λ halt. HasHalted (W.held to.old) (W.held to.new) (R.ahead from.old) (R.ahead from.new)
+        (λ halt. HasHalted (wire (W.held to.old) (R.ahead from.old))
+        (wire (W.held to.new) (R.ahead from.new))
         limits.now turns row.now
         halt) }
     ensures counts { CountsHalt Read (R.count from.old) (R.count from.new) result
@@ -142,9 +145,11 @@ fn do_each<R: ByteIn, W: ByteOut>(
 ) -> Result<(), Halt>
     requires form { All IsDoable row.now }
     ensures done { MatchResult result
-        (λ _. HasDoneAll (W.held to.old) (W.held to.new) (R.ahead from.old) (R.ahead from.new)
+        (λ _. HasDoneAll (wire (W.held to.old) (R.ahead from.old))
+        (wire (W.held to.new) (R.ahead from.new))
         limits.now turns row.now)
-        (λ halt. HasHalted (W.held to.old) (W.held to.new) (R.ahead from.old) (R.ahead from.new)
+        (λ halt. HasHalted (wire (W.held to.old) (R.ahead from.old))
+        (wire (W.held to.new) (R.ahead from.new))
         limits.now turns row.now
         halt) }
     ensures counts { CountsHalt Read (R.count from.old) (R.count from.new) result
@@ -174,9 +179,11 @@ fn do_ahead<R: ByteIn, W: ByteOut>(
     requires row { IsRow limits.now row.now }
     requires front { AreFront limits.now row.now front.now requests.items }
     ensures done { MatchResult result
-        (λ _. HasDoneAll (W.held to.old) (W.held to.new) (R.ahead from.old) (R.ahead from.new)
+        (λ _. HasDoneAll (wire (W.held to.old) (R.ahead from.old))
+        (wire (W.held to.new) (R.ahead from.new))
         limits.now turns row.now)
-        (λ halt. HasHalted (W.held to.old) (W.held to.new) (R.ahead from.old) (R.ahead from.new)
+        (λ halt. HasHalted (wire (W.held to.old) (R.ahead from.old))
+        (wire (W.held to.new) (R.ahead from.new))
         limits.now turns row.now
         halt) }
     ensures counts { CountsHalt Read (R.count from.old) (R.count from.new) result

@@ -4,7 +4,8 @@ ghost use Rattle.std.specs.Prelude.{◌≡◌, ⊤, None, length};
 ghost use Rattle.nor_base.specs.Port.{Transacts, CountsTransact};
 ghost use Rattle.nor_base.specs.Sample.{sampled_count};
 ghost use Rattle.nor_serprog.specs.declared.fault.Fault.TheVariants.{Read, Write};
-ghost use Rattle.nor_serprog.specs.Follow.{Accompanies, CountsFirst};
+ghost use Rattle.nor_serprog.specs.Follow.{Accompanies, CountsFirst, beside};
+ghost use Rattle.nor_base.specs.Wire.{wire};
 
 use crate::fault::Reason;
 use crate::follow::follow;
@@ -72,10 +73,11 @@ impl<'a, R: ByteIn + Drop, W: ByteOut + Drop> Port for Shadowed<'a, R, W> {
         requires out { length out.old ≡ sampled_count clocks.now }
         ensures effect { Transacts self.old.chip self.new.chip result clocks.now out.new }
         ensures count { CountsTransact self.old.failed self.new.failed result }
-        ensures device { Accompanies self.old.chip self.new.chip (W.held self.old.to)
-            (W.held self.new.to) (R.ahead self.old.from) (R.ahead self.new.from)
-            self.old.reason self.new.reason
-            result self.old.limits self.old.turns clocks.now out.new
+        ensures device { Accompanies
+            (beside self.old.chip (wire (W.held self.old.to) (R.ahead self.old.from))
+            self.old.reason)
+            (beside self.new.chip (wire (W.held self.new.to) (R.ahead self.new.from))
+            self.new.reason) result self.old.limits self.old.turns clocks.now out.new
             × CountsFirst Read (R.count self.old.from) (R.count self.new.from)
             self.old.reason self.new.reason
             × CountsFirst Write (W.count self.old.to) (W.count self.new.to)

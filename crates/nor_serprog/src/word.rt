@@ -3,6 +3,7 @@
 ghost use Rattle.std.specs.Prelude.{◌≡◌, length};
 ghost use Rattle.nor_serprog.specs.Exchange.{CountsReads, CountsWrites};
 ghost use Rattle.nor_serprog.specs.Greeting.{Begins, Finds, Hears, HearsLate, Tries, is_word};
+ghost use Rattle.nor_base.specs.Wire.{wire};
 
 use crate::exchange::{ACK, NAK};
 use crate::fault::{Command, Fault};
@@ -20,7 +21,8 @@ const NOISE: usize = 4096;
 /// Asks the device for its first word until it comes, again at each silence, and takes what comes
 /// late after it.
 pub(crate) fn synchronize<R: ByteIn, W: ByteOut>(from: &mut R, to: &mut W) -> Result<(), Fault>
-    ensures word { Begins (W.held to.old) (W.held to.new) (R.ahead from.old) (R.ahead from.new)
+    ensures word { Begins (wire (W.held to.old) (R.ahead from.old))
+        (wire (W.held to.new) (R.ahead from.new))
         result }
     ensures counts { CountsReads (R.count from.old) (R.count from.new) result
         × CountsWrites (W.count to.old) (W.count to.new) result }
@@ -33,7 +35,8 @@ pub(crate) fn synchronize<R: ByteIn, W: ByteOut>(from: &mut R, to: &mut W) -> Re
 
 /// Asks until it comes: how often.
 fn find_word<R: ByteIn, W: ByteOut>(from: &mut R, to: &mut W) -> Result<usize, Fault>
-    ensures word { Finds (W.held to.old) (W.held to.new) (R.ahead from.old) (R.ahead from.new)
+    ensures word { Finds (wire (W.held to.old) (R.ahead from.old))
+        (wire (W.held to.new) (R.ahead from.new))
         result }
     ensures counts { CountsReads (R.count from.old) (R.count from.new) result
         × CountsWrites (W.count to.old) (W.count to.new) result }

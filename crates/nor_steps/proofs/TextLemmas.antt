@@ -4,6 +4,7 @@ use Rattle.std.specs.Prelude.{flat_map}
 use Rattle.nor_base.specs.Operations.{Op, unit_ops}
 use Rattle.nor_base.specs.Script.{step_lines}
 use Rattle.nor_base.specs.Units.{WorkUnit}
+use Rattle.nor_steps.specs.Stretch.{stretch}
 use Rattle.nor_steps.specs.declared.fault.StepsFault.{StepsFault}
 use Rattle.nor_steps.specs.declared.fault.StepsFault.TheVariants as fault
 use Rattle.nor_steps.specs.declared.tally.Tally.{Tally}
@@ -22,18 +23,18 @@ units_steps w content target (u ∷ us) =
     ∙ sym (lines_join w ops (flat_map (unit_ops w.streaming.meaning w.verify target) us))
 
 -- the lines of a stretch's operations are its text
-pub work_text : (w : Writing) (at : ℕ) (have want : List ℕ) (ops : List Op) → IsWork w at have want ops → IsText unit_steps w at have want (next_lines w ops)
+pub work_text : (w : Writing) (at : ℕ) (have want : List ℕ) (ops : List Op) → IsWork w (stretch at have want) ops → IsText unit_steps w (stretch at have want) (next_lines w ops)
 work_text w at have want ops work content target has has' =
     let is = work content target has has' in
     record { are = units_steps w content target _ ∙ ap (next_lines w) is.are; sound = is.sound }
 
-begun_text : (w : Writing) (at : ℕ) (have want front : List ℕ) → IsBegun w at have want front → IsBegunText unit_steps w at have want front
+begun_text : (w : Writing) (at : ℕ) (have want front : List ℕ) → IsBegun w (stretch at have want) front → IsBegunText unit_steps w (stretch at have want) front
 begun_text w at have want front begun content target has has' =
     let is = begun content target has has' in
     record { rest = is.rest; whole = units_steps w content target _ ∙ is.whole; sound = is.sound }
 
-pub steps_wrote : (w v : Writing) (x y : Option (List ℕ)) (at : ℕ) (have want : List ℕ) (r : Result Tally StepsFault) → IfOk r (WroteStretch w v x y at have want)
-    → IfOk r (WroteText unit_steps w v x y at have want)
+pub steps_wrote : (w v : Writing) (x y : Option (List ℕ)) (at : ℕ) (have want : List ℕ) (r : Result Tally StepsFault) → IfOk r (WroteStretch w v x y (stretch at have want))
+    → IfOk r (WroteText unit_steps w v x y (stretch at have want))
 steps_wrote w v x y at have want (Ok told) its = record {
   steps = record { ops = its.ops; work = its.work; state = its.state; its_tally = its.its_tally; few = its.few };
   these = next_lines w its.ops;
@@ -42,8 +43,8 @@ steps_wrote w v x y at have want (Ok told) its = record {
 }
 steps_wrote w v x y at have want (Err why) its = tt
 
-pub steps_stop : (w : Writing) (x y : Option (List ℕ)) (at : ℕ) (have want : List ℕ) (r : Result Tally StepsFault) → IfErr r (StopsStretch w x y at have want)
-    → IfErr r (StopsText unit_steps w x y at have want)
+pub steps_stop : (w : Writing) (x y : Option (List ℕ)) (at : ℕ) (have want : List ℕ) (r : Result Tally StepsFault) → IfErr r (StopsStretch w x y (stretch at have want))
+    → IfErr r (StopsText unit_steps w x y (stretch at have want))
 steps_stop w x y at have want (Ok told) stops = tt
 steps_stop w x y at have want (Err (fault.Plan why)) stops = stops
 steps_stop w x y at have want (Err fault.Write) has = record { front = has.front; begun = begun_text w at have want has.front has.begun; put = has.put }

@@ -22,6 +22,7 @@ use Rattle.nor_pages.specs.Runs.{IsUnit, unit_start}
 use Rattle.nor_plan_laws.proofs.Units.Ranges.{length-range, range_at}
 use Rattle.nor_plan_laws.proofs.Units.Wider.{some_page}
 use Rattle.nor_plan_laws.specs.Least.{ErasesBlocks}
+use Rattle.nor_steps.specs.Stretch.{stretch}
 use Rattle.nor_steps.specs.declared.tally.Tally.{Tally}
 use Rattle.nor_steps.specs.declared.fault.StepsFault.{StepsFault}
 use Rattle.nor_steps.specs.declared.fault.StepsFault.TheVariants as fault
@@ -216,7 +217,7 @@ begun_in : (w v : Writing) (a b c : Option (List ℕ)) (at : ℕ) (have want : L
     → IsPlanned w at have want units → IsSofar w v a b at have want k told → k < length units
     → AreUnitOps w (get_or units k d) (slice_range have (unit_start (get_or units k d) - at) (unit_start (get_or units k d) - at + unit_size w.streaming.meaning.page (get_or units k d)))
     (slice_range want (unit_start (get_or units k d) - at) (unit_start (get_or units k d) - at + unit_size w.streaming.meaning.page (get_or units k d))) ops
-    → Begins b c (next_lines v ops) → HasBegun w a c at have want
+    → Begins b c (next_lines v ops) → HasBegun w a c (stretch at have want)
 begun_in w v a b c at have want units k d told ops p s inside are cut =
     let m = w.streaming.meaning in
     let before = next_lines w s.ops in
@@ -246,7 +247,7 @@ begun_in w v a b c at have want units k d told ops p s inside are cut =
     }
 
 begun_before : (w v : Writing) (a b c : Option (List ℕ)) (at : ℕ) (have want : List ℕ) (units : List PlanUnit) (k : ℕ) (told : Tally)
-    → IsPlanned w at have want units → IsSofar w v a b at have want k told → Appends b c [] → HasBegun w a c at have want
+    → IsPlanned w at have want units → IsSofar w v a b at have want k told → Appends b c [] → HasBegun w a c (stretch at have want)
 begun_before w v a b c at have want units k told p s none =
     let m = w.streaming.meaning in
     let before = next_lines w s.ops in
@@ -266,7 +267,7 @@ begun_before w v a b c at have want units k told p s none =
       put = Appends-append a b c before [] s.put none;
     }
 
-stops_by : (w : Writing) (a c : Option (List ℕ)) (at : ℕ) (have want : List ℕ) (why : StepsFault) → IsOfWriting why → HasBegun w a c at have want → StopsStretch w a c at have want why
+stops_by : (w : Writing) (a c : Option (List ℕ)) (at : ℕ) (have want : List ℕ) (why : StepsFault) → IsOfWriting why → HasBegun w a c (stretch at have want) → StopsStretch w a c (stretch at have want) why
 stops_by w a c at have want (fault.Plan f) is begun = absurd is
 stops_by w a c at have want fault.Write is begun = begun
 stops_by w a c at have want fault.Memory is begun = inl begun
@@ -274,7 +275,7 @@ stops_by w a c at have want fault.Memory is begun = inl begun
 sofar_cut : (w v u : Writing) (a b c : Option (List ℕ)) (at : ℕ) (have want : List ℕ) (units : List PlanUnit) (k : ℕ) (d : PlanUnit) (low high : ℕ) (told : Tally) (why : StepsFault)
     → IsPlanned w at have want units → IsSofar w v a b at have want k told → k < length units → low ≡ unit_start (get_or units k d) - at
     → high ≡ unit_start (get_or units k d) - at + unit_size w.streaming.meaning.page (get_or units k d) → IsOfWriting why
-    → WritesUnit v u b c (get_or units k d) (slice_range have low high) (slice_range want low high) (Err why) → StopsStretch w a c at have want why
+    → WritesUnit v u b c (get_or units k d) (slice_range have low high) (slice_range want low high) (Err why) → StopsStretch w a c (stretch at have want) why
 sofar_cut w v u a b c at have want units k d low high told why p s inside low_is high_is is (inl wrote) =
     let x = get_or units k d in
     let m = w.streaming.meaning in
@@ -288,7 +289,7 @@ sofar_cut w v u a b c at have want units k d low high told why p s inside low_is
 
 -- all units are written
 pub sofar_all : (w v : Writing) (a b : Option (List ℕ)) (at : ℕ) (have want : List ℕ) (units : List PlanUnit) (k : ℕ) (told : Tally) → 0 < w.streaming.meaning.page
-    → IsPlanned w at have want units → IsSofar w v a b at have want k told → length units ≤ k → k ≤ length units → WroteStretch w v a b at have want told
+    → IsPlanned w at have want units → IsSofar w v a b at have want k told → length units ≤ k → k ≤ length units → WroteStretch w v a b (stretch at have want) told
 sofar_all w v a b at have want units k told some p s past upto =
     let m = w.streaming.meaning in
     let count = few_planned m w.streaming.by at have want units some p.plan in
@@ -318,7 +319,7 @@ sofar_all w v a b at have want units k told some p s past upto =
 
 -- no plan
 pub no_plan : (w : Writing) (a : Option (List ℕ)) (at : ℕ) (have want : List ℕ) (why : PlanFault) → Refuses w.streaming.meaning w.streaming.by at have want why
-    → StopsStretch w a a at have want (lifted_plan why)
+    → StopsStretch w a a (stretch at have want) (lifted_plan why)
 no_plan w a at have want plan.Memory is = inr (Appends-none a)
 no_plan w a at have want (plan.NoErase x) is = (is, Appends-none a)
 no_plan w a at have want (plan.Unreachable x) is = (is, Appends-none a)
@@ -360,7 +361,7 @@ few_sofar w v u a b c at have want units k p xs ys told one plan s inside wrote 
 pub cut_here : (w v u : Writing) (a b c : Option (List ℕ)) (at : ℕ) (have want : List ℕ) (units : List PlanUnit) (k : ℕ) (x : PlanUnit) (page low high : ℕ) (told : Tally) (why : StepsFault)
     → page ≡ w.streaming.meaning.page → IsPlanned w at have want units → IsSofar w v a b at have want k told → x ≡ get_or units k x → k < length units → low ≡ unit_start x - at
     → high ≡ unit_start x - at + unit_size page x → IsOfWriting why → WritesUnit v u b c x (slice_range have low high) (slice_range want low high) (Err why)
-    → StopsStretch w a c at have want why
+    → StopsStretch w a c (stretch at have want) why
 cut_here w v u a b c at have want units k x page low high told why is p s there inside low_is high_is of wrote =
     sofar_cut w v u a b c at have want units k x low high told why p s inside (low_is ∙ ap (λ q. unit_start q - at) there)
     (high_is ∙ ap (λ n. unit_start x - at + unit_size n x) is ∙ ap (λ q. unit_start q - at + unit_size w.streaming.meaning.page q) there) of

@@ -1,3 +1,4 @@
+pub mod Stretch
 pub mod Faults
 pub mod Lines
 pub mod Tally

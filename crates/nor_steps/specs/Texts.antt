@@ -4,6 +4,7 @@ use Rattle.std.specs.Io.KnownBytes.{Appends}
 use Rattle.nor_base.specs.Operations.{Op, unit_ops}
 use Rattle.nor_base.specs.Units.{WorkUnit}
 use Rattle.nor_geometry.specs.Plan.{HasPart, IsFault}
+use Rattle.nor_steps.specs.Stretch.{Stretch}
 use Rattle.nor_steps.specs.declared.fault.StepsFault.{StepsFault}
 use Rattle.nor_steps.specs.declared.fault.StepsFault.TheVariants as fault
 use Rattle.nor_steps.specs.declared.tally.Tally.{Tally}
@@ -35,8 +36,8 @@ pub record IsTextOf (text : UnitText) (w : Writing) (at count : ℕ) (content ta
   pub sound : IsSound w at count content target
 
 -- so it is whatever the rest of the chip holds and must hold
-abbrev pub IsText : UnitText → Writing → ℕ → List ℕ → List ℕ → List ℕ → Type 0
-IsText text w at have want these = (content target : List ℕ) → HasPart content have at → HasPart target want at → IsTextOf text w at (length have) content target these
+abbrev pub IsText : UnitText → Writing → Stretch → List ℕ → Type 0
+IsText text w p these = (content target : List ℕ) → HasPart content p.have p.at → HasPart target p.want p.at → IsTextOf text w p.at (length p.have) content target these
 
 -- bytes with which the text of a stretch begins, of which no address is at fault
 pub record IsBegunTextOf (text : UnitText) (w : Writing) (at count : ℕ) (content target front : List ℕ) : Type 0 where
@@ -44,32 +45,32 @@ pub record IsBegunTextOf (text : UnitText) (w : Writing) (at count : ℕ) (conte
   pub whole : stretch_text text w at count content target ≡ front ++ rest
   pub sound : IsSound w at count content target
 
-abbrev pub IsBegunText : UnitText → Writing → ℕ → List ℕ → List ℕ → List ℕ → Type 0
-IsBegunText text w at have want front = (content target : List ℕ) → HasPart content have at → HasPart target want at → IsBegunTextOf text w at (length have) content target front
+abbrev pub IsBegunText : UnitText → Writing → Stretch → List ℕ → Type 0
+IsBegunText text w p front = (content target : List ℕ) → HasPart content p.have p.at → HasPart target p.want p.at → IsBegunTextOf text w p.at (length p.have) content target front
 
 -- how much the steps of a stretch are is told
-pub record IsTold (w v : Writing) (at : ℕ) (have want : List ℕ) (told : Tally) : Type 0 where
+pub record IsTold (w v : Writing) (p : Stretch) (told : Tally) : Type 0 where
   pub ops : List Op
-  pub work : IsWork w at have want ops
+  pub work : IsWork w p ops
   pub state : v ≡ written_on w ops
   pub its_tally : told ≡ tally_of w.streaming ops
-  pub few : IsFew (length have) told
+  pub few : IsFew (length p.have) told
 
 -- it is, and the text of the stretch was written
-pub record WroteText (text : UnitText) (w v : Writing) (before after : Option (List ℕ)) (at : ℕ) (have want : List ℕ) (told : Tally) : Type 0 where
-  pub steps : IsTold w v at have want told
+pub record WroteText (text : UnitText) (w v : Writing) (before after : Option (List ℕ)) (s : Stretch) (told : Tally) : Type 0 where
+  pub steps : IsTold w v s told
   pub these : List ℕ
-  pub is : IsText text w at have want these
+  pub is : IsText text w s these
   pub put : Appends before after these
 
 -- some of the text was, from its beginning on
-pub record HasText (text : UnitText) (w : Writing) (before after : Option (List ℕ)) (at : ℕ) (have want : List ℕ) : Type 0 where
+pub record HasText (text : UnitText) (w : Writing) (before after : Option (List ℕ)) (p : Stretch) : Type 0 where
   pub front : List ℕ
-  pub begun : IsBegunText text w at have want front
+  pub begun : IsBegunText text w p front
   pub put : Appends before after front
 
 -- why it was not: an address is at fault, and nothing was written; or the writer failed, or a growth was refused
-abbrev pub StopsText : UnitText → Writing → Option (List ℕ) → Option (List ℕ) → ℕ → List ℕ → List ℕ → StepsFault → Type 0
-StopsText text w before after at have want (fault.Plan why) = IsFault w.streaming.meaning w.streaming.by at have want why × Appends before after []
-StopsText text w before after at have want fault.Write = HasText text w before after at have want
-StopsText text w before after at have want fault.Memory = HasText text w before after at have want ⊎ Appends before after []
+abbrev pub StopsText : UnitText → Writing → Option (List ℕ) → Option (List ℕ) → Stretch → StepsFault → Type 0
+StopsText text w before after p (fault.Plan why) = IsFault w.streaming.meaning w.streaming.by p.at p.have p.want why × Appends before after []
+StopsText text w before after p fault.Write = HasText text w before after p
+StopsText text w before after p fault.Memory = HasText text w before after p ⊎ Appends before after []

@@ -10,6 +10,7 @@ use Rattle.nor_base.specs.Accepted.{IsAccepted}
 use Rattle.nor_geometry.specs.Plan.{HasPart, IsFault, IsWindow, IsPlan}
 use Rattle.nor_geometry.specs.declared.unit.PlanUnit.{PlanUnit}
 use Rattle.nor_plan_laws.specs.Least.{ErasesBlocks}
+use Rattle.nor_steps.specs.Stretch.{Stretch}
 use Rattle.nor_steps.specs.declared.tally.Tally.{Tally}
 use Rattle.nor_steps.specs.declared.fault.StepsFault.{StepsFault}
 use Rattle.nor_steps.specs.declared.fault.StepsFault.TheVariants as fault
@@ -34,8 +35,8 @@ pub record IsWorkOf (w : Writing) (at count : ℕ) (content target : List ℕ) (
   pub sound : IsSound w at count content target
 
 -- so it is whatever the rest of the chip holds and must hold
-abbrev pub IsWork : Writing → ℕ → List ℕ → List ℕ → List Op → Type 0
-IsWork w at have want ops = (content target : List ℕ) → HasPart content have at → HasPart target want at → IsWorkOf w at (length have) content target ops
+abbrev pub IsWork : Writing → Stretch → List Op → Type 0
+IsWork w p ops = (content target : List ℕ) → HasPart content p.have p.at → HasPart target p.want p.at → IsWorkOf w p.at (length p.have) content target ops
 
 -- a text with which the lines of the operations of a stretch begin, and no address of the stretch is at fault
 pub record IsBegunOf (w : Writing) (at count : ℕ) (content target : List ℕ) (front : List ℕ) : Type 0 where
@@ -43,29 +44,29 @@ pub record IsBegunOf (w : Writing) (at count : ℕ) (content target : List ℕ) 
   pub whole : next_lines w (stretch_ops w at count content target) ≡ front ++ rest
   pub sound : IsSound w at count content target
 
-abbrev pub IsBegun : Writing → ℕ → List ℕ → List ℕ → List ℕ → Type 0
-IsBegun w at have want front = (content target : List ℕ) → HasPart content have at → HasPart target want at → IsBegunOf w at (length have) content target front
+abbrev pub IsBegun : Writing → Stretch → List ℕ → Type 0
+IsBegun w p front = (content target : List ℕ) → HasPart content p.have p.at → HasPart target p.want p.at → IsBegunOf w p.at (length p.have) content target front
 
 -- the steps of a stretch were written, and what is told of them
-pub record WroteStretch (w v : Writing) (before after : Option (List ℕ)) (at : ℕ) (have want : List ℕ) (told : Tally) : Type 0 where
+pub record WroteStretch (w v : Writing) (before after : Option (List ℕ)) (p : Stretch) (told : Tally) : Type 0 where
   pub ops : List Op
-  pub work : IsWork w at have want ops
+  pub work : IsWork w p ops
   pub put : Appends before after (next_lines w ops)
   pub state : v ≡ written_on w ops
   pub its_tally : told ≡ tally_of w.streaming ops
-  pub few : IsFew (length have) told
+  pub few : IsFew (length p.have) told
 
 -- some of them were, from their beginning on
-pub record HasBegun (w : Writing) (before after : Option (List ℕ)) (at : ℕ) (have want : List ℕ) : Type 0 where
+pub record HasBegun (w : Writing) (before after : Option (List ℕ)) (p : Stretch) : Type 0 where
   pub front : List ℕ
-  pub begun : IsBegun w at have want front
+  pub begun : IsBegun w p front
   pub put : Appends before after front
 
 -- why they were not: an address is at fault, and nothing was written; or the writer failed, or a growth was refused
-abbrev pub StopsStretch : Writing → Option (List ℕ) → Option (List ℕ) → ℕ → List ℕ → List ℕ → StepsFault → Type 0
-StopsStretch w before after at have want (fault.Plan why) = IsFault w.streaming.meaning w.streaming.by at have want why × Appends before after []
-StopsStretch w before after at have want fault.Write = HasBegun w before after at have want
-StopsStretch w before after at have want fault.Memory = HasBegun w before after at have want ⊎ Appends before after []
+abbrev pub StopsStretch : Writing → Option (List ℕ) → Option (List ℕ) → Stretch → StepsFault → Type 0
+StopsStretch w before after p (fault.Plan why) = IsFault w.streaming.meaning w.streaming.by p.at p.have p.want why × Appends before after []
+StopsStretch w before after p fault.Write = HasBegun w before after p
+StopsStretch w before after p fault.Memory = HasBegun w before after p ⊎ Appends before after []
 
 -- what is known of a window and its plan
 pub record IsPlanned (w : Writing) (at : ℕ) (have want : List ℕ) (units : List PlanUnit) : Type 0 where

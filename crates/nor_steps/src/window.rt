@@ -3,6 +3,7 @@
 ghost use Rattle.std.specs.Prelude.{◌≡◌, ◌≤◌, ◌<◌, ◌+◌, ◌-◌, ◌^◌, length, IfOk, IfErr};
 ghost use Rattle.nor_geometry.specs.Plan.{IsWindow};
 ghost use Rattle.nor_pages.specs.Runs.{unit_start};
+ghost use Rattle.nor_steps.specs.Stretch.{stretch};
 ghost use Rattle.nor_steps.specs.Faults.{CountsSteps};
 ghost use Rattle.nor_steps.specs.Units.{unit_size};
 ghost use Rattle.nor_steps.specs.Work.{IsPlanned, WroteStretch, StopsStretch};
@@ -35,10 +36,11 @@ impl<'m> StepWriter<'m> {
         requires window { IsWindow self.old.streaming.meaning self.old.streaming.by at
             (length have.now) }
         ensures written { IfOk result
-            (WroteStretch self.old self.new (W.held out.old) (W.held out.new) at have.now
-            want.now) }
+            (WroteStretch self.old self.new (W.held out.old) (W.held out.new)
+            (stretch at have.now want.now)) }
         ensures stopped { IfErr result
-            (StopsStretch self.old (W.held out.old) (W.held out.new) at have.now want.now) }
+            (StopsStretch self.old (W.held out.old) (W.held out.new)
+            (stretch at have.now want.now)) }
         ensures count { CountsSteps (W.count out.old) (W.count out.new) result }
     {
         erased_blocks();
@@ -60,10 +62,11 @@ impl<'m> StepWriter<'m> {
     ) -> Result<Tally, StepsFault>
         requires planned { IsPlanned self.old at have.now want.now units.now }
         ensures written { IfOk result
-            (WroteStretch self.old self.new (W.held out.old) (W.held out.new) at have.now
-            want.now) }
+            (WroteStretch self.old self.new (W.held out.old) (W.held out.new)
+            (stretch at have.now want.now)) }
         ensures stopped { IfErr result
-            (StopsStretch self.old (W.held out.old) (W.held out.new) at have.now want.now) }
+            (StopsStretch self.old (W.held out.old) (W.held out.new)
+            (stretch at have.now want.now)) }
         ensures count { CountsSteps (W.count out.old) (W.count out.new) result }
     {
         let page = self.lowerer.meaning().page;

@@ -15,8 +15,8 @@ use Rattle.nor_base.specs.Programs.{Program, page_programs}
 use Rattle.nor_base.specs.Strategies.{strategy, reaches}
 use Rattle.nor_base.specs.Units.{WorkUnit, pages, page_unit, block_unit, unit_by, units, units_over}
 use Rattle.nor_plan_laws.specs.Least.{ErasesBlocks}
-use Rattle.nor_plan_read.specs.declared.line.PlanLine.{PlanLine}
-use Rattle.nor_plan_read.specs.declared.line.PlanLine.TheVariants as line
+use Rattle.nor_outline.specs.declared.line.PlanLine.{PlanLine}
+use Rattle.nor_outline.specs.declared.line.PlanLine.TheVariants as line
 use Rattle.nor_times.specs.declared.busy.Busy.{Busy}
 use Rattle.nor_times.specs.declared.times.Times.{Times}
 use Rattle.nor_times.specs.Busy.{typical_of, worst_of, busy_of}

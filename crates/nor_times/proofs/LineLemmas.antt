@@ -9,8 +9,8 @@ use Rattle.nor_base.specs.Parameters.{Parameters}
 use Rattle.nor_base.specs.Blocks.{Block, smallest}
 use Rattle.nor_base.specs.Need.{differs}
 use Rattle.nor_base.specs.Programs.{Program, span, is_closed, page_programs}
-use Rattle.nor_plan_read.specs.declared.line.PlanLine.{PlanLine}
-use Rattle.nor_plan_read.specs.declared.line.PlanLine.TheVariants as line
+use Rattle.nor_outline.specs.declared.line.PlanLine.{PlanLine}
+use Rattle.nor_outline.specs.declared.line.PlanLine.TheVariants as line
 use Rattle.nor_times.specs.Bus.{Doing, change_clocks, program_clocks, read_clocks, lines_clocks, is_work}
 use Rattle.nor_outline.specs.Outline.{because, reason_at, reasons, program_line}
 use Rattle.nor_base.proofs.ListLaws.{all_append}

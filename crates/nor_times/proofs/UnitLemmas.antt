@@ -21,7 +21,7 @@ use Rattle.nor_plan_laws.specs.Able.{BlocksStay}
 use Rattle.nor_plan_laws.specs.Least.{ErasesBlocks}
 use Rattle.nor_plan_laws.proofs.Erased.Erasing.{erased_for}
 use Rattle.nor_plan_laws.proofs.Units.Ranges.{length-range}
-use Rattle.nor_plan_read.specs.declared.line.PlanLine.{PlanLine}
+use Rattle.nor_outline.specs.declared.line.PlanLine.{PlanLine}
 use Rattle.nor_times.specs.Bus.{Doing, head4_clocks, read_clocks, lines_clocks}
 use Rattle.nor_outline.specs.Outline.{reasons, program_line, unit_plan}
 use Rattle.nor_times.proofs.ClockLemmas.{op_clocks, erases_clocks, writes_clocks, reads_clocks}

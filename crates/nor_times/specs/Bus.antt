@@ -13,8 +13,8 @@ use Rattle.nor_base.specs.Parameters.{Parameters}
 use Rattle.nor_base.specs.Instructions.{quad_read_dummies}
 use Rattle.nor_base.specs.Operations.{takes_dedicated, legacy_width}
 use Rattle.nor_base.specs.Strategies.{strategy}
-use Rattle.nor_plan_read.specs.declared.line.PlanLine.{PlanLine}
-use Rattle.nor_plan_read.specs.declared.line.PlanLine.TheVariants.{Erase, Because, Program}
+use Rattle.nor_outline.specs.declared.line.PlanLine.{PlanLine}
+use Rattle.nor_outline.specs.declared.line.PlanLine.TheVariants.{Erase, Because, Program}
 
 -- the clocks of a step; a poll counts once
 abbrev pub step_clocks : Step → ℕ

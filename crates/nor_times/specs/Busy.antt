@@ -4,8 +4,8 @@ use Rattle.std.specs.Option.{option_map_or}
 use Rattle.nor_base.specs.Parameters.{Parameters, erase_kind, is_live}
 use Rattle.nor_base.specs.Instructions.{dedicated}
 use Rattle.nor_base.specs.Blocks.{kinds}
-use Rattle.nor_plan_read.specs.declared.line.PlanLine.{PlanLine}
-use Rattle.nor_plan_read.specs.declared.line.PlanLine.TheVariants.{Erase, Because, Program}
+use Rattle.nor_outline.specs.declared.line.PlanLine.{PlanLine}
+use Rattle.nor_outline.specs.declared.line.PlanLine.TheVariants.{Erase, Because, Program}
 use Rattle.nor_times.specs.declared.times.Times.{Times}
 use Rattle.nor_times.specs.declared.busy.Busy.{Busy}
 

@@ -9,7 +9,7 @@ use Rattle.nor_base.specs.Operations.{erasing}
 use Rattle.nor_base.specs.Planned.{IsWorkable, planned, planned_units}
 use Rattle.nor_base.specs.Strategies.{strategy, reaches}
 use Rattle.nor_outline.specs.Outline.{unit_lines, plan_of}
-use Rattle.nor_plan_read.specs.Lines.{lines_text}
+use Rattle.nor_outline.specs.Lines.{lines_text}
 use Rattle.nor_steps.specs.Lines.{steps_of}
 use Rattle.nor_times.specs.declared.times.Times.{Times}
 use Rattle.nor_times.specs.Busy.{is_named, busy_of}

@@ -6,8 +6,8 @@ use Rattle.nor_base.specs.declared.meaning.Switch.TheVariants.{Plain, Latched}
 use Rattle.nor_base.specs.declared.meaning.Width.TheVariants.{Both}
 use Rattle.nor_base.specs.Parameters.{Parameters}
 use Rattle.nor_base.specs.Uniform.{uniform_of}
-use Rattle.nor_plan_read.specs.declared.line.PlanLine.{PlanLine}
-use Rattle.nor_plan_read.specs.declared.line.PlanLine.TheVariants as line
+use Rattle.nor_outline.specs.declared.line.PlanLine.{PlanLine}
+use Rattle.nor_outline.specs.declared.line.PlanLine.TheVariants as line
 use Rattle.nor_times.specs.declared.times.Times.{Times}
 use Rattle.nor_times.specs.declared.busy.Busy.{Busy}
 use Rattle.nor_times.specs.Times.{times_by, times_in}

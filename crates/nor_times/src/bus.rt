@@ -7,7 +7,7 @@ ghost use Rattle.nor_times.specs.Bus.{lines_clocks, mode_clocks, run_clocks};
 use crate::clocks::{change_clocks, head_clocks, mode_clocks, program_clocks, read_clocks};
 use nor_base::{Meaning, Start, Strategy};
 use nor_geometry::strategy;
-use nor_plan_read::PlanLine;
+use nor_outline::PlanLine;
 use std::marker::Model;
 
 /// How a plan is done.

@@ -8,7 +8,7 @@ ghost use Rattle.nor_times.specs.Busy.{typical_of, worst_of};
 
 use crate::times::Times;
 use nor_base::Meaning;
-use nor_plan_read::PlanLine;
+use nor_outline::PlanLine;
 
 /// How long a chip is busy, in microseconds.
 #[derive(Clone, Copy)]

@@ -5,7 +5,7 @@ ghost use Rattle.std.specs.Prelude.{count_by, option_map};
 ghost use Rattle.nor_base.specs.declared.meaning.Start.{Start};
 ghost use Rattle.nor_base.specs.Device.{Writes, Counts};
 ghost use Rattle.nor_base.specs.Parameters.{Parameters};
-ghost use Rattle.nor_plan_read.specs.declared.line.PlanLine.{PlanLine};
+ghost use Rattle.nor_outline.specs.declared.line.PlanLine.{PlanLine};
 ghost use Rattle.nor_times.specs.declared.times.Times.{Times};
 ghost use Rattle.nor_times.specs.Bus.{bus_of, is_work};
 ghost use Rattle.nor_times.specs.Busy.{busy_of};
@@ -17,7 +17,7 @@ use crate::busy::{Busy, known_busy};
 use crate::times::Times;
 use crate::writer::write_times;
 use nor_base::{ByteOut, Failed, Meaning, Start};
-use nor_plan_read::PlanLine;
+use nor_outline::PlanLine;
 use std::marker::Model;
 
 /// How long a plan takes, whose lines come piece after piece: the exact sums over all of them

@@ -30,6 +30,7 @@ use Rattle.nor_job.specs.declared.fault.BuildFault.TheVariants as fault
 use Rattle.nor_job.specs.Causes.{AreAccepted}
 use Rattle.nor_job.specs.Status.{start_of}
 use Rattle.nor_job.specs.Task.{Task}
+use Rattle.nor_base.specs.Wire.{Wire}
 use Rattle.norprog.specs.declared.report.Report.{Report}
 use Rattle.norprog.specs.Windows.{AreWindows}
 use Rattle.nor_job.specs.Wanted.{wanted}
@@ -47,16 +48,16 @@ report_of t image regions m us steps = record {
 
 -- the sentence: the inputs are accepted, the reader gave the whole content, what was appended is the text of steps, and on
 -- every chip of the inputs with that content these do what is asked
-pub record WroteScript (t : Task) (len : ℕ) (before after : Ahead) (held_before held_after : Option (List ℕ)) : Type 0 where
+pub record WroteScript (t : Task) (len : ℕ) (before after : Wire) : Type 0 where
   pub image : Pairs
   pub regions : List Region
   pub m : Parameters
   pub accepted : AreAccepted t len image regions m
   pub content : List ℕ
   pub whole : length content ≡ len
-  pub given : Gives before content after
+  pub given : Gives before.ahead content after.ahead
   pub text : List ℕ
-  pub put : Appends held_before held_after text
+  pub put : Appends before.held after.held text
   pub steps : List Step
   pub script : IsScript text steps
   pub task : DoesTaskOnEvery m (start_of t) content (wanted t image regions content) steps
@@ -99,8 +100,8 @@ pub record IsAsPlanned (t : Task) (image : Pairs) (regions : List Region) (m : P
   pub told : report ≡ report_of t image regions m (planned_units m (start_of t) content goal) steps
 
 -- what a build promises: the sentence, which says what a user gets, and how it is done
-pub record IsBuilt (t : Task) (len : ℕ) (before after : Ahead) (held_before held_after : Option (List ℕ)) (report : Report) : Type 0 where
-  pub wrote : WroteScript t len before after held_before held_after
+pub record IsBuilt (t : Task) (len : ℕ) (before after : Wire) (report : Report) : Type 0 where
+  pub wrote : WroteScript t len before after
   pub work : IsAsPlanned t wrote.image wrote.regions wrote.m wrote.content (wanted t wrote.image wrote.regions wrote.content)
       wrote.steps report
 
@@ -134,18 +135,18 @@ pub record IsFrontOf (m : Parameters) (start : Start) (verify : Bool) (goal : Li
       → BeginsScript m start verify content (goal content) bytes
 
 -- the inputs are accepted, some of the content was read, its cause, and what was written, which is no script
-pub record StopsWork (t : Task) (len : ℕ) (before after : Ahead) (held_before held_after : Option (List ℕ)) (why : BuildFault) : Type 0 where
+pub record StopsWork (t : Task) (len : ℕ) (before after : Wire) (why : BuildFault) : Type 0 where
   pub image : Pairs
   pub regions : List Region
   pub m : Parameters
   pub accepted : AreAccepted t len image regions m
   pub part : List ℕ
   pub within : length part ≤ len
-  pub given : Gives before part after
-  pub cause : WorkCause t image regions m len part after why
+  pub given : Gives before.ahead part after.ahead
+  pub cause : WorkCause t image regions m len part after.ahead why
   pub bytes : List ℕ
   pub front : IsFrontOf m (start_of t) t.verify (wanted t image regions) part bytes why
-  pub put : Appends held_before held_after bytes
+  pub put : Appends before.held after.held bytes
 
 -- a fault that accepted inputs can meet
 abbrev pub IsLate : BuildFault → Type 0

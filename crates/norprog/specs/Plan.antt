@@ -13,6 +13,7 @@ use Rattle.nor_job.specs.declared.fault.BuildFault.{BuildFault}
 use Rattle.nor_job.specs.Causes.{AreAccepted}
 use Rattle.nor_job.specs.Status.{start_of}
 use Rattle.nor_job.specs.Task.{Task}
+use Rattle.nor_base.specs.Wire.{Wire}
 use Rattle.norprog.specs.declared.report.Report.{Report}
 use Rattle.nor_job.specs.Wanted.{wanted}
 use Rattle.norprog.specs.Build.{report_of, WorkCause}
@@ -21,35 +22,35 @@ use Rattle.norprog.specs.Windows.{AreWindows}
 
 -- the inputs are accepted, the reader gave the whole content, work can be done on it, and what was appended is the lines of
 -- the units of the planned work; the report is of these units and of the steps of that work
-pub record IsPlanOf (t : Task) (len : ℕ) (before after : Ahead) (held_before held_after : Option (List ℕ)) (report : Report) : Type 0 where
+pub record IsPlanOf (t : Task) (len : ℕ) (before after : Wire) (report : Report) : Type 0 where
   pub image : Pairs
   pub regions : List Region
   pub m : Parameters
   pub accepted : AreAccepted t len image regions m
   pub content : List ℕ
   pub whole : length content ≡ len
-  pub given : Gives before content after
+  pub given : Gives before.ahead content after.ahead
   pub workable : IsWorkable m (start_of t) content (wanted t image regions content)
-  pub put : Appends held_before held_after (plan_text m (start_of t) content (wanted t image regions content))
+  pub put : Appends before.held after.held (plan_text m (start_of t) content (wanted t image regions content))
   pub steps : List Step
   pub planned : ArePlanned m (start_of t) t.verify content (wanted t image regions content) steps
   pub told : report ≡ report_of t image regions m (planned_units m (start_of t) content (wanted t image regions content)) steps
 
 -- the inputs are accepted, some of the content was read, its cause, and what was written: lines of the units that start in
 -- its whole windows, whatever the rest of the chip holds and must hold
-pub record StopsPlan (t : Task) (len : ℕ) (before after : Ahead) (held_before held_after : Option (List ℕ)) (why : BuildFault) : Type 0 where
+pub record StopsPlan (t : Task) (len : ℕ) (before after : Wire) (why : BuildFault) : Type 0 where
   pub image : Pairs
   pub regions : List Region
   pub m : Parameters
   pub accepted : AreAccepted t len image regions m
   pub part : List ℕ
   pub within : length part ≤ len
-  pub given : Gives before part after
-  pub cause : WorkCause t image regions m len part after why
+  pub given : Gives before.ahead part after.ahead
+  pub cause : WorkCause t image regions m len part after.ahead why
   pub window : ℕ
   pub its_size : IsWindowSize m window
   pub known : ℕ
   pub windows : AreWindows m.size window known (length part) why
   pub bytes : List ℕ
   pub lines : TellsWindows m (strategy m (start_of t)) (take known part) (wanted t image regions (take known part)) bytes why
-  pub put : Appends held_before held_after bytes
+  pub put : Appends before.held after.held bytes

@@ -9,6 +9,7 @@ use Rattle.nor_job.specs.declared.fault.BuildFault.{BuildFault}
 use Rattle.nor_job.specs.declared.fault.BuildFault.TheVariants as fault
 use Rattle.nor_outline.specs.Outline.{unit_lines}
 use Rattle.nor_outline.specs.Told.{AreLines, AreBegun}
+use Rattle.nor_steps.specs.Stretch.{stretch}
 
 -- the lines of the units of the planned work of a content and its target
 abbrev pub plan_text : Parameters → Start → List ℕ → List ℕ → List ℕ
@@ -17,6 +18,6 @@ plan_text m start content goal = flat_map (unit_lines m (strategy m start) conte
 -- all lines of a beginning of the content; some of them, from their beginning on, where the writer failed or a growth was
 -- refused. No address of it is at fault
 abbrev pub TellsWindows : Parameters → Strategy → List ℕ → List ℕ → List ℕ → BuildFault → Type 0
-TellsWindows m by have want bytes fault.Write = AreBegun m by 0 have want bytes
-TellsWindows m by have want bytes fault.Memory = AreBegun m by 0 have want bytes
-TellsWindows m by have want bytes other = AreLines m by 0 have want bytes
+TellsWindows m by have want bytes fault.Write = AreBegun m by (stretch 0 have want) bytes
+TellsWindows m by have want bytes fault.Memory = AreBegun m by (stretch 0 have want) bytes
+TellsWindows m by have want bytes other = AreLines m by (stretch 0 have want) bytes

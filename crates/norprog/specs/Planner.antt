@@ -22,16 +22,18 @@ use Rattle.nor_job.specs.declared.job.Job.{Job}
 use Rattle.nor_layout.specs.Region.{Region}
 use Rattle.nor_outline.specs.Outline.{plan_of, IsStretchPlan}
 use Rattle.nor_outline.specs.Told.{unit_outline}
-use Rattle.nor_plan_read.specs.Lines.{lines_text}
-use Rattle.nor_plan_read.specs.declared.line.PlanLine.{PlanLine}
-use Rattle.nor_plan_read.specs.declared.line.PlanLine.TheVariants.{Because}
+use Rattle.nor_outline.specs.Lines.{lines_text}
+use Rattle.nor_outline.specs.declared.line.PlanLine.{PlanLine}
+use Rattle.nor_outline.specs.declared.line.PlanLine.TheVariants.{Because}
+use Rattle.nor_steps.specs.Stretch.{stretch}
 use Rattle.nor_steps.specs.Tally.{IsFew}
 use Rattle.nor_steps.specs.Texts.{IsTold}
 use Rattle.nor_steps.specs.Writing.{Writing}
 use Rattle.nor_steps.specs.declared.tally.Tally.{Tally}
+use Rattle.nor_base.specs.Wire.{Wire, wire}
 use Rattle.norprog.specs.Build.{report_of}
 use Rattle.norprog.specs.Plan.{IsPlanOf, StopsPlan}
-use Rattle.norprog.specs.Windows.{first_writing, IsCutPlan, StopsWindow}
+use Rattle.norprog.specs.Windows.{first_writing, IsCutPlan, StopsWindow, Range, range}
 use Rattle.norprog.specs.declared.report.Report.{Report}
 
 -- how far the plan of a job is: its work, the bytes of a window, and of the room for what a window must hold; the address up to
@@ -57,25 +59,25 @@ pub record IsReady (p : Planning) : Type 0 where
 
 -- so many bytes of the content from an address on were read, and these are the lines of the units that start there, whatever the
 -- rest of the chip holds
-pub record IsPlannedPart (job : Job) (w v : Writing) (at count : ℕ) (before after : Ahead) (told : Tally) (lines : List PlanLine) : Type 0 where
+pub record IsPlannedPart (job : Job) (w v : Writing) (r : Range) (before after : Ahead) (told : Tally) (lines : List PlanLine) : Type 0 where
   pub part : List ℕ
-  pub size : length part ≡ count
+  pub size : length part ≡ r.count
   pub given : Gives before part after
-  pub bytes : AreBytes (target_from job at part)
-  pub steps : IsTold w v at part (target_from job at part) told
-  pub plan : IsStretchPlan job.meaning (strategy job.meaning job.start) at part (target_from job at part) lines
+  pub bytes : AreBytes (target_from job r.at part)
+  pub steps : IsTold w v (stretch r.at part (target_from job r.at part)) told
+  pub plan : IsStretchPlan job.meaning (strategy job.meaning job.start) (stretch r.at part (target_from job r.at part)) lines
 
 -- why a window has no lines, whatever a writer held then
 abbrev pub StopsPlanning : Job → Writing → ℕ → ℕ → Ahead → Ahead → BuildFault → Type 0
-StopsPlanning job w at count before after why = (x : Option (List ℕ)) → StopsWindow unit_outline job w at count before after x x why
+StopsPlanning job w at count before after why = (x : Option (List ℕ)) → StopsWindow unit_outline job w at count (wire x before) (wire x after) why
 
 -- all of the content before its address was, and these are the lines of all its windows
 abbrev pub HasTold : Planning → Ahead → Ahead → List PlanLine → Type 0
-HasTold p first now lines = IsPlannedPart p.job (first_writing p.job) p.work 0 p.at first now p.told lines
+HasTold p first now lines = IsPlannedPart p.job (first_writing p.job) p.work (range 0 p.at) first now p.told lines
 
 -- why a plan is cut short before its first window
 abbrev pub StopsBefore : Job → BuildFault → Type 0
-StopsBefore job why = (ahead : Ahead) (x : Option (List ℕ)) → IsCutPlan job ahead ahead x x why
+StopsBefore job why = (ahead : Ahead) (x : Option (List ℕ)) → IsCutPlan job (wire x ahead) (wire x ahead) why
 
 -- lines of the next window follow those before; at the chip's end there are none, and nothing changes
 abbrev pub GoesOn : Planning → Planning → Ahead → Ahead → Option (List PlanLine) → Type 0
@@ -87,7 +89,7 @@ GoesOn p q before after None = (q ≡ p) × (after ≡ before) × (p.at ≡ p.jo
 -- why there are no more: so a plan is cut short whose writer took the lines so far
 abbrev pub CutsPlan : Planning → Ahead → Ahead → BuildFault → Type 0
 CutsPlan p before after why =
-    (first : Ahead) (told : List PlanLine) (x y : Option (List ℕ)) → HasTold p first before told → Appends x y (lines_text told) → IsCutPlan p.job first after x y why
+    (first : Ahead) (told : List PlanLine) (x y : Option (List ℕ)) → HasTold p first before told → Appends x y (lines_text told) → IsCutPlan p.job (wire x first) (wire y after) why
 
 -- the inputs are accepted, the reader gave the whole content, work can be done on it, and these are the lines of the units of the
 -- planned work; the report is of these units and of the steps of that work
@@ -111,33 +113,33 @@ EndsPlan p report =
     (t : Task) (len : ℕ) (first now : Ahead) (lines : List PlanLine) → IsJob t len p.job → HasTold p first now lines → IsPlanned t len first now lines report
 
 -- all lines that a planner had left were put behind those before
-pub record PutsPlan (p q : Planning) (before after : Ahead) (held_before held_after : Option (List ℕ)) : Type 0 where
+pub record PutsPlan (p q : Planning) (before after : Wire) : Type 0 where
   pub ready : IsReady q
   pub job : q.job ≡ p.job
   pub whole : q.at ≡ q.job.meaning.size
-  pub put : (first : Ahead) (told : List PlanLine) (x : Option (List ℕ)) → HasTold p first before told → Appends x held_before (lines_text told)
-      → (lines : List PlanLine) × HasTold q first after lines × Appends x held_after (lines_text lines)
+  pub put : (first : Ahead) (told : List PlanLine) (x : Option (List ℕ)) → HasTold p first before.ahead told → Appends x before.held (lines_text told)
+      → (lines : List PlanLine) × HasTold q first after.ahead lines × Appends x after.held (lines_text lines)
 
 -- or some of them were
-abbrev pub CutsPut : Planning → Ahead → Ahead → Option (List ℕ) → Option (List ℕ) → BuildFault → Type 0
-CutsPut p before after held_before held_after why =
-    (first : Ahead) (told : List PlanLine) (x : Option (List ℕ)) → HasTold p first before told → Appends x held_before (lines_text told)
-    → IsCutPlan p.job first after x held_after why
+abbrev pub CutsPut : Planning → Wire → Wire → BuildFault → Type 0
+CutsPut p before after why =
+    (first : Ahead) (told : List PlanLine) (x : Option (List ℕ)) → HasTold p first before.ahead told → Appends x before.held (lines_text told)
+    → IsCutPlan p.job (wire x first) after why
 
 -- the lines of a plan were put, of whatever inputs the job is of
-abbrev pub PlansJob : Job → Ahead → Ahead → Option (List ℕ) → Option (List ℕ) → Report → Type 0
-PlansJob job before after held_before held_after report = (t : Task) (len : ℕ) → IsJob t len job → IsPlanOf t len before after held_before held_after report
+abbrev pub PlansJob : Job → Wire → Wire → Report → Type 0
+PlansJob job before after report = (t : Task) (len : ℕ) → IsJob t len job → IsPlanOf t len before after report
 
 -- a job's plan that is cut short is that of whatever inputs the job is of
 abbrev pub CutsInputs : Type 0
 CutsInputs = (t : Task) (len : ℕ) (job : Job) (before after : Ahead) (x y : Option (List ℕ)) (why : BuildFault) → IsJob t len job
-    → IsCutPlan job before after x y why → StopsPlan t len before after x y why
+    → IsCutPlan job (wire x before) (wire y after) why → StopsPlan t len (wire x before) (wire y after) why
 
 -- a plan is cut short wherever its writer stopped in the text of the lines so far, since it failed or a growth was refused
 abbrev pub CutsAnywhere : Type 0
 CutsAnywhere = (p : Planning) (first now : Ahead) (x y : Option (List ℕ)) (lines : List PlanLine) (front rest : List ℕ) (why : BuildFault)
     → IsReady p → HasTold p first now lines → lines_text lines ≡ front ++ rest → Appends x y front → (why ≡ fault.Write) ⊎ (why ≡ fault.Memory)
-    → IsCutPlan p.job first now x y why
+    → IsCutPlan p.job (wire x first) (wire y now) why
 
 -- of the lines so far that tell no reason there are at most 2^31 for each address
 abbrev pub AreFew : Type 0

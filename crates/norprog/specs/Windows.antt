@@ -14,6 +14,7 @@ use Rattle.nor_job.specs.declared.fault.BuildFault.TheVariants as fault
 use Rattle.nor_job.specs.declared.job.Job.{Job}
 use Rattle.nor_layout.specs.Chosen.{has}
 use Rattle.nor_outline.specs.Told.{unit_outline}
+use Rattle.nor_steps.specs.Stretch.{stretch}
 use Rattle.nor_steps.specs.declared.fault.StepsFault.{StepsFault}
 use Rattle.nor_steps.specs.declared.fault.StepsFault.TheVariants as steps
 use Rattle.nor_steps.specs.declared.tally.Tally.{Tally}
@@ -22,6 +23,7 @@ use Rattle.nor_steps.specs.Tally.{tally_with}
 use Rattle.nor_steps.specs.Texts.{UnitText, IsText, IsBegunText, WroteText, StopsText}
 use Rattle.nor_steps.specs.Work.{IsSound}
 use Rattle.nor_steps.specs.Writing.{Writing, fresh}
+use Rattle.nor_base.specs.Wire.{Wire}
 use Rattle.norprog.specs.declared.report.Report.{Report}
 use Rattle.nor_job.specs.Written.{AreBytes}
 use Rattle.nor_job.specs.Filled.{target_from}
@@ -35,41 +37,49 @@ lifted_steps (steps.Plan why) = fault.Plan why
 lifted_steps steps.Write = fault.Write
 lifted_steps steps.Memory = fault.Memory
 
+-- so many addresses from one on
+pub record Range : Type 0 where
+  pub at : ℕ
+  pub count : ℕ
+
+abbrev pub range : ℕ → ℕ → Range
+range at count = record { at = at; count = count }
+
 -- so many bytes of the content from an address on were read, and the text of the work on them was written
-pub record IsDone (unit_text : UnitText) (job : Job) (w v : Writing) (at count : ℕ) (before after : Ahead) (held_before held_after : Option (List ℕ)) (told : Tally) : Type 0 where
+pub record IsDone (unit_text : UnitText) (job : Job) (w v : Writing) (r : Range) (before after : Wire) (told : Tally) : Type 0 where
   pub part : List ℕ
-  pub size : length part ≡ count
-  pub given : Gives before part after
-  pub bytes : AreBytes (target_from job at part)
-  pub wrote : WroteText unit_text w v held_before held_after at part (target_from job at part) told
+  pub size : length part ≡ r.count
+  pub given : Gives before.ahead part after.ahead
+  pub bytes : AreBytes (target_from job r.at part)
+  pub wrote : WroteText unit_text w v before.held after.held (stretch r.at part (target_from job r.at part)) told
 
 -- all of it was
-abbrev pub IsAllDone : UnitText → Job → Writing → Ahead → Ahead → Option (List ℕ) → Option (List ℕ) → Tally → Type 0
-IsAllDone unit_text job v before after x y told = IsDone unit_text job (first_writing job) v 0 job.meaning.size before after x y told
+abbrev pub IsAllDone : UnitText → Job → Writing → Wire → Wire → Tally → Type 0
+IsAllDone unit_text job v before after told = IsDone unit_text job (first_writing job) v (range 0 job.meaning.size) before after told
 
 -- a window of so many bytes was read, and its text was not all written
-pub record IsUndone (unit_text : UnitText) (job : Job) (w : Writing) (at count : ℕ) (before after : Ahead) (held_before held_after : Option (List ℕ)) (why : StepsFault) : Type 0 where
+pub record IsUndone (unit_text : UnitText) (job : Job) (w : Writing) (at count : ℕ) (before after : Wire) (why : StepsFault) : Type 0 where
   pub part : List ℕ
   pub size : length part ≡ count
-  pub given : Gives before part after
+  pub given : Gives before.ahead part after.ahead
   pub bytes : AreBytes (target_from job at part)
-  pub stops : StopsText unit_text w held_before held_after at part (target_from job at part) why
+  pub stops : StopsText unit_text w before.held after.held (stretch at part (target_from job at part)) why
 
 -- less than a window was read, and nothing was written
-pub record IsUnread (count : ℕ) (before after : Ahead) (held_before held_after : Option (List ℕ)) : Type 0 where
+pub record IsUnread (count : ℕ) (before after : Wire) : Type 0 where
   pub part : List ℕ
   pub few : length part < count
-  pub given : Gives before part after
-  pub put : Appends held_before held_after []
+  pub given : Gives before.ahead part after.ahead
+  pub put : Appends before.held after.held []
 
 -- a window wasn't read, or it was, and its text was not all written
-abbrev pub StopsWindow : UnitText → Job → Writing → ℕ → ℕ → Ahead → Ahead → Option (List ℕ) → Option (List ℕ) → BuildFault → Type 0
-StopsWindow unit_text job w at count before after x y fault.ContentShort = IsUnread count before after x y × IsAtEnd after
-StopsWindow unit_text job w at count before after x y fault.Read = IsUnread count before after x y
-StopsWindow unit_text job w at count before after x y (fault.Plan why) = IsUndone unit_text job w at count before after x y (steps.Plan why)
-StopsWindow unit_text job w at count before after x y fault.Write = IsUndone unit_text job w at count before after x y steps.Write
-StopsWindow unit_text job w at count before after x y fault.Memory = IsUndone unit_text job w at count before after x y steps.Memory
-StopsWindow unit_text job w at count before after x y other = ⊥
+abbrev pub StopsWindow : UnitText → Job → Writing → ℕ → ℕ → Wire → Wire → BuildFault → Type 0
+StopsWindow unit_text job w at count before after fault.ContentShort = IsUnread count before after × IsAtEnd after.ahead
+StopsWindow unit_text job w at count before after fault.Read = IsUnread count before after
+StopsWindow unit_text job w at count before after (fault.Plan why) = IsUndone unit_text job w at count before after (steps.Plan why)
+StopsWindow unit_text job w at count before after fault.Write = IsUndone unit_text job w at count before after steps.Write
+StopsWindow unit_text job w at count before after fault.Memory = IsUndone unit_text job w at count before after steps.Memory
+StopsWindow unit_text job w at count before after other = ⊥
 
 -- why the work on a part of the content ended early
 abbrev pub CutCause : Job → List ℕ → Ahead → BuildFault → Type 0
@@ -100,9 +110,9 @@ pub record AreWindows (size window known read : ℕ) (why : BuildFault) : Type 0
 -- some of the text of a beginning of the content, from the text's beginning on: all of it but where the writer failed or a
 -- growth was refused
 abbrev pub BeginsText : UnitText → Writing → List ℕ → List ℕ → List ℕ → BuildFault → Type 0
-BeginsText unit_text w have want front fault.Write = IsBegunText unit_text w 0 have want front
-BeginsText unit_text w have want front fault.Memory = IsBegunText unit_text w 0 have want front
-BeginsText unit_text w have want front other = IsText unit_text w 0 have want front
+BeginsText unit_text w have want front fault.Write = IsBegunText unit_text w (stretch 0 have want) front
+BeginsText unit_text w have want front fault.Memory = IsBegunText unit_text w (stretch 0 have want) front
+BeginsText unit_text w have want front other = IsText unit_text w (stretch 0 have want) front
 
 -- so much of what was read is whole pages, and some of their text was written, from its beginning on
 pub record IsKnown (unit_text : UnitText) (job : Job) (known : ℕ) (part front : List ℕ) (why : BuildFault) : Type 0 where
@@ -111,18 +121,18 @@ pub record IsKnown (unit_text : UnitText) (job : Job) (known : ℕ) (part front 
   pub begun : BeginsText unit_text (first_writing job) (take known part) (target_from job 0 (take known part)) front why
 
 -- some of the content was read, and what was written is such a front of the text of its windows
-pub record IsCut (IsFront : ℕ → List ℕ → List ℕ → BuildFault → Type 0) (job : Job) (before after : Ahead) (held_before held_after : Option (List ℕ)) (why : BuildFault) : Type 0 where
+pub record IsCut (IsFront : ℕ → List ℕ → List ℕ → BuildFault → Type 0) (job : Job) (before after : Wire) (why : BuildFault) : Type 0 where
   pub part : List ℕ
   pub within : length part ≤ job.meaning.size
-  pub given : Gives before part after
-  pub cause : CutCause job part after why
+  pub given : Gives before.ahead part after.ahead
+  pub cause : CutCause job part after.ahead why
   pub window : ℕ
   pub its_size : IsWindowSize job.meaning window
   pub known : ℕ
   pub windows : AreWindows job.meaning.size window known (length part) why
   pub bytes : List ℕ
   pub front : IsFront known part bytes why
-  pub put : Appends held_before held_after bytes
+  pub put : Appends before.held after.held bytes
 
 -- the whole content was read, no address of the chip is at fault, and how much the steps of the work are is told
 pub record IsWorked (job : Job) (before after : Ahead) (told : Tally) : Type 0 where
@@ -134,9 +144,9 @@ pub record IsWorked (job : Job) (before after : Ahead) (told : Tally) : Type 0 w
   pub its_tally : told ≡ tally_with (length (planned job.meaning job.start job.verify part (target_from job 0 part))) (planned_ops job.meaning job.start job.verify part (target_from job 0 part))
 
 -- and the text of these steps was written
-pub record IsScripted (job : Job) (before after : Ahead) (held_before held_after : Option (List ℕ)) (told : Tally) : Type 0 where
-  pub work : IsWorked job before after told
-  pub put : Appends held_before held_after (script_text (steps_of (planned job.meaning job.start job.verify work.part (target_from job 0 work.part))))
+pub record IsScripted (job : Job) (before after : Wire) (told : Tally) : Type 0 where
+  pub work : IsWorked job before.ahead after.ahead told
+  pub put : Appends before.held after.held (script_text (steps_of (planned job.meaning job.start job.verify work.part (target_from job 0 work.part))))
 
 -- what was written is a front of the text of the steps of the work on a content and a target, with something left
 pub record IsTextFront (job : Job) (content target bytes : List ℕ) : Type 0 where
@@ -154,12 +164,12 @@ pub record IsScriptFront (job : Job) (known : ℕ) (part bytes : List ℕ) : Typ
       → IsSound (first_writing job) 0 known content target
 
 -- some of the content was read, and what was written is a front of the script of its windows
-abbrev pub IsCutScript : Job → Ahead → Ahead → Option (List ℕ) → Option (List ℕ) → BuildFault → Type 0
-IsCutScript job before after x y why = IsCut (λ known part bytes why. IsScriptFront job known part bytes) job before after x y why
+abbrev pub IsCutScript : Job → Wire → Wire → BuildFault → Type 0
+IsCutScript job before after why = IsCut (λ known part bytes why. IsScriptFront job known part bytes) job before after why
 
 -- some of the content was read, and what was written is lines of its windows, as many as why it ended early says
-abbrev pub IsCutPlan : Job → Ahead → Ahead → Option (List ℕ) → Option (List ℕ) → BuildFault → Type 0
-IsCutPlan job before after x y why = IsCut (IsKnown unit_outline job) job before after x y why
+abbrev pub IsCutPlan : Job → Wire → Wire → BuildFault → Type 0
+IsCutPlan job before after why = IsCut (IsKnown unit_outline job) job before after why
 
 -- the report of a job of which so much is told
 abbrev pub job_report : Job → Tally → Report

@@ -11,6 +11,7 @@ ghost use Rattle.norprog.specs.Build.{IsBuilt, StopsWork, IsLate};
 ghost use Rattle.norprog.specs.Laws.{Laws};
 ghost use Rattle.norprog.specs.Windows.{IsScripted, IsCutScript, job_report};
 ghost use Rattle.nor_job.specs.Written.{CountsReader, CountsWriter};
+ghost use Rattle.nor_base.specs.Wire.{wire};
 
 use crate::report::Report;
 use crate::windows::{lifted, room, write_windows};
@@ -40,13 +41,13 @@ pub fn build<R: ByteIn, W: ByteOut>(
     out: &mut W,
 ) -> Result<Report, BuildFault>
     ensures built { IfOk result
-        (IsBuilt inputs.now len (R.ahead content.old) (R.ahead content.new) (W.held out.old)
-        (W.held out.new)) }
+        (IsBuilt inputs.now len (wire (W.held out.old) (R.ahead content.old))
+        (wire (W.held out.new) (R.ahead content.new))) }
     ensures refused { IfErr result
         (λ why. (RefusesInputs inputs.now len why × (content.new ≡ content.old)
         × (out.new ≡ out.old))
-        ⊎ StopsWork inputs.now len (R.ahead content.old) (R.ahead content.new) (W.held out.old)
-        (W.held out.new) why) }
+        ⊎ StopsWork inputs.now len (wire (W.held out.old) (R.ahead content.old))
+        (wire (W.held out.new) (R.ahead content.new)) why) }
     ensures accepted { (image : Pairs) (regions : List Region) (m : Parameters)
         → AreAccepted inputs.now len image regions m
         → IfErr result IsLate }
@@ -84,11 +85,11 @@ fn write_script<R: ByteIn, W: ByteOut>(
 ) -> Result<Tally, BuildFault>
     requires accepted { IsAccepted job.now.meaning }
     ensures done { IfOk result
-        (IsScripted job.now (R.ahead content.old) (R.ahead content.new) (W.held out.old)
-        (W.held out.new)) }
+        (IsScripted job.now (wire (W.held out.old) (R.ahead content.old))
+        (wire (W.held out.new) (R.ahead content.new))) }
     ensures cut { IfErr result
-        (IsCutScript job.now (R.ahead content.old) (R.ahead content.new) (W.held out.old)
-        (W.held out.new)) }
+        (IsCutScript job.now (wire (W.held out.old) (R.ahead content.old))
+        (wire (W.held out.new) (R.ahead content.new))) }
     ensures counts { CountsReader (R.count content.old) (R.count content.new) result
         × CountsWriter (W.count out.old) (W.count out.new) result }
 {

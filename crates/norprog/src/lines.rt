@@ -12,12 +12,13 @@ ghost use Rattle.norprog.specs.Plan.{IsPlanOf, StopsPlan};
 ghost use Rattle.norprog.specs.Planner.{IsReady, PlansJob, PutsPlan, CutsPut};
 ghost use Rattle.norprog.specs.Windows.{IsCutPlan};
 ghost use Rattle.nor_job.specs.Written.{CountsReader, CountsWriter};
+ghost use Rattle.nor_base.specs.Wire.{wire};
 
 use crate::planner::Planner;
 use crate::report::Report;
 use nor_base::{ByteIn, ByteOut};
 use nor_job::{BuildFault, Inputs, Job, job_of};
-use nor_plan_read::write_lines;
+use nor_outline::write_lines;
 use std::alloc::Global;
 
 /// Writes the lines of the plan of the script that [`build`](crate::build) writes of the same
@@ -33,13 +34,13 @@ pub fn plan<R: ByteIn, W: ByteOut>(
     out: &mut W,
 ) -> Result<Report, BuildFault>
     ensures planned { IfOk result
-        (IsPlanOf inputs.now len (R.ahead content.old) (R.ahead content.new) (W.held out.old)
-        (W.held out.new)) }
+        (IsPlanOf inputs.now len (wire (W.held out.old) (R.ahead content.old))
+        (wire (W.held out.new) (R.ahead content.new))) }
     ensures refused { IfErr result
         (λ why. (RefusesInputs inputs.now len why × (content.new ≡ content.old)
         × (out.new ≡ out.old))
-        ⊎ StopsPlan inputs.now len (R.ahead content.old) (R.ahead content.new) (W.held out.old)
-        (W.held out.new) why) }
+        ⊎ StopsPlan inputs.now len (wire (W.held out.old) (R.ahead content.old))
+        (wire (W.held out.new) (R.ahead content.new)) why) }
     ensures accepted { (image : Pairs) (regions : List Region) (m : Parameters)
         → AreAccepted inputs.now len image regions m
         → IfErr result IsLate }
@@ -60,10 +61,11 @@ fn plan_job<R: ByteIn, W: ByteOut>(
     out: &mut W,
 ) -> Result<Report, BuildFault>
     requires accepted { IsAccepted job.now.meaning }
-    ensures planned { IfOk result (λ report. PlansJob job.now (R.ahead content.old)
-        (R.ahead content.new) (W.held out.old) (W.held out.new) report) }
-    ensures cut { IfErr result (IsCutPlan job.now (R.ahead content.old) (R.ahead content.new)
-        (W.held out.old) (W.held out.new)) }
+    ensures planned { IfOk result (λ report. PlansJob job.now
+        (wire (W.held out.old) (R.ahead content.old)) (wire (W.held out.new) (R.ahead content.new))
+        report) }
+    ensures cut { IfErr result (IsCutPlan job.now (wire (W.held out.old) (R.ahead content.old))
+        (wire (W.held out.new) (R.ahead content.new))) }
     ensures counts { CountsReader (R.count content.old) (R.count content.new) result
         × CountsWriter (W.count out.old) (W.count out.new) result }
 {
@@ -80,10 +82,11 @@ fn put_plan<R: ByteIn, W: ByteOut>(
     out: &mut W,
 ) -> Result<(), BuildFault>
     requires ready { IsReady planner.old }
-    ensures put { IfOk result (λ _. PutsPlan planner.old planner.new (R.ahead content.old)
-        (R.ahead content.new) (W.held out.old) (W.held out.new)) }
-    ensures cut { IfErr result (CutsPut planner.old (R.ahead content.old)
-        (R.ahead content.new) (W.held out.old) (W.held out.new)) }
+    ensures put { IfOk result (λ _. PutsPlan planner.old planner.new
+        (wire (W.held out.old) (R.ahead content.old))
+        (wire (W.held out.new) (R.ahead content.new))) }
+    ensures cut { IfErr result (CutsPut planner.old (wire (W.held out.old) (R.ahead content.old))
+        (wire (W.held out.new) (R.ahead content.new))) }
     ensures counts { CountsReader (R.count content.old) (R.count content.new) result
         × CountsWriter (W.count out.old) (W.count out.new) result }
 {

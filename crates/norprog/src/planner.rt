@@ -11,6 +11,7 @@ ghost use Rattle.nor_job.specs.declared.fault.BuildFault.TheVariants.{Memory};
 ghost use Rattle.norprog.specs.Planner.{IsReady, IsPlannedPart, HasTold, GoesOn};
 ghost use Rattle.norprog.specs.Planner.{CutsPlan, EndsPlan, StopsBefore, StopsPlanning};
 ghost use Rattle.norprog.specs.Planner.{AreFew, CutsAnywhere, CutsInputs};
+ghost use Rattle.norprog.specs.Windows.{range};
 
 use crate::builder::report_of;
 use crate::report::Report;
@@ -19,9 +20,8 @@ use nor_base::ByteIn;
 use nor_geometry::{strategy, window_size};
 use nor_job::{BuildFault, Job, fill_window};
 use nor_laws::spelling;
-use nor_outline::PlanWriter;
+use nor_outline::{PlanLine, PlanWriter};
 use nor_plan_laws::there_is_planned_work;
-use nor_plan_read::PlanLine;
 use nor_steps::Tally;
 use nor_target::fill;
 use std::alloc::Global;
@@ -160,7 +160,7 @@ fn part_plan<R: ByteIn>(
         × IsWindow job.now.meaning (driven_by job.now.meaning job.now.start) at count
         × (at + count ≤ 2 ^ 32) }
     ensures planned { IfOk result
-        (λ plan. IsPlannedPart job.now writer.old writer.new at count (R.ahead content.old)
+        (λ plan. IsPlannedPart job.now writer.old writer.new (range at count) (R.ahead content.old)
         (R.ahead content.new) plan.0 plan.1.items) }
     ensures stopped { IfErr result
         (StopsPlanning job.now writer.old at count (R.ahead content.old) (R.ahead content.new)) }
@@ -192,7 +192,7 @@ fn window_plan<R: ByteIn>(
         (length have.old)
         × (at + length have.old ≤ 2 ^ 32) }
     ensures planned { IfOk result
-        (λ plan. IsPlannedPart job.now writer.old writer.new at (length have.old)
+        (λ plan. IsPlannedPart job.now writer.old writer.new (range at (length have.old))
         (R.ahead content.old) (R.ahead content.new) plan.0 plan.1.items) }
     ensures stopped { IfErr result
         (StopsPlanning job.now writer.old at (length have.old) (R.ahead content.old)

@@ -5,9 +5,10 @@ ghost use Rattle.nor_base.specs.Accepted.{IsAccepted};
 ghost use Rattle.nor_base.specs.Strategies.{strategy as driven_by};
 ghost use Rattle.nor_geometry.specs.Plan.{IsWindow};
 ghost use Rattle.nor_geometry.specs.Window.{IsWindowSize};
-ghost use Rattle.norprog.specs.Windows.{first_writing, lifted_steps, StopsWindow, IsDone};
+ghost use Rattle.norprog.specs.Windows.{first_writing, lifted_steps, StopsWindow, IsDone, range};
 ghost use Rattle.norprog.specs.Windows.{IsAllDone, IsKnown, IsCut};
 ghost use Rattle.nor_job.specs.Written.{CountsReader, CountsWriter};
+ghost use Rattle.nor_base.specs.Wire.{wire};
 
 use nor_base::{ByteIn, ByteOut};
 use nor_job::{BuildFault, Job, fill_window};
@@ -41,9 +42,11 @@ pub(crate) fn write_windows<T: WorkWriter, R: ByteIn, W: ByteOut>(
     requires window { IsWindowSize job.now.meaning (length have.old)
         × (length want.old ≡ length have.old) }
     ensures done { IfOk result (IsAllDone (T.unit_text writer.old) job.now (T.writing writer.new)
-        (R.ahead content.old) (R.ahead content.new) (W.held out.old) (W.held out.new)) }
+        (wire (W.held out.old) (R.ahead content.old))
+        (wire (W.held out.new) (R.ahead content.new))) }
     ensures cut { IfErr result (IsCut (IsKnown (T.unit_text writer.old) job.now) job.now
-        (R.ahead content.old) (R.ahead content.new) (W.held out.old) (W.held out.new)) }
+        (wire (W.held out.old) (R.ahead content.old))
+        (wire (W.held out.new) (R.ahead content.new))) }
     ensures counts { CountsReader (R.count content.old) (R.count content.new) result
         × CountsWriter (W.count out.old) (W.count out.new) result }
 {
@@ -89,12 +92,13 @@ fn write_window<T: WorkWriter, R: ByteIn, W: ByteOut>(
         (length have.old)
         × (at + length have.old ≤ 2 ^ 32) }
     ensures done { IfOk result
-        (IsDone (T.unit_text writer.old) job.now (T.writing writer.old) (T.writing writer.new) at
-        (length have.old)
-        (R.ahead content.old) (R.ahead content.new) (W.held out.old) (W.held out.new)) }
+        (IsDone (T.unit_text writer.old) job.now (T.writing writer.old) (T.writing writer.new)
+        (range at (length have.old)) (wire (W.held out.old) (R.ahead content.old))
+        (wire (W.held out.new) (R.ahead content.new))) }
     ensures stopped { IfErr result
         (StopsWindow (T.unit_text writer.old) job.now (T.writing writer.old) at (length have.old)
-        (R.ahead content.old) (R.ahead content.new) (W.held out.old) (W.held out.new)) }
+        (wire (W.held out.old) (R.ahead content.old))
+        (wire (W.held out.new) (R.ahead content.new))) }
     ensures text { T.unit_text writer.new ≡ T.unit_text writer.old }
     ensures counts { CountsReader (R.count content.old) (R.count content.new) result
         × CountsWriter (W.count out.old) (W.count out.new) result }

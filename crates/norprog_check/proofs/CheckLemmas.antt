@@ -8,7 +8,7 @@ use Rattle.nor_base.specs.Run.{DoesTaskOnEvery}
 use Rattle.nor_check.specs.declared.verdict.Verdict.{Verdict}
 use Rattle.nor_check.specs.declared.verdict.Verdict.TheVariants.{Yes, No}
 use Rattle.nor_check.specs.declared.verdict.Why.{Why}
-use Rattle.nor_check.specs.Witness.{Witnesses, reads_before}
+use Rattle.nor_check.specs.Witness.{Witnesses, reads_before, even}
 use Rattle.nor_check.specs.Worst.{IsWorst}
 use Rattle.nor_job.specs.declared.job.Job.{Job}
 use Rattle.nor_job.specs.Job.{IsJob}
@@ -32,7 +32,7 @@ taken_of t len job is = record { image = job.image; regions = is.regions; m = jo
 abbrev pub Shows : Parameters → Start → List ℕ → List ℕ → Fed → Type 0
 Shows m start have want fed =
     (steps : List Step) (step : ℕ) (why : Why) (page reads : ℕ) → IsShown fed steps step why page reads → (n : ℕ) → reads < n
-    → Witnesses m start have want steps step why n (step == length steps) page
+    → Witnesses m start have want steps step why (even n (step == length steps) page)
 
 abbrev pub CountsReads : Fed → Type 0
 CountsReads fed = (steps : List Step) (step : ℕ) (why : Why) (page reads : ℕ) → IsShown fed steps step why page reads → reads ≡ reads_before step steps
@@ -53,8 +53,8 @@ shown_on m start have want fed steps said (No step why) (Some chip) shows counts
       busy = takes.busy ∙ ap (λ r. r + 1) same;
       keep = keep;
       page = takes.other;
-      shows = subst (λ b. Witnesses m start have want steps step why chip.each_busy b (unwrap_or chip.page m.page)) (sym keep)
-          (subst (λ page. Witnesses m start have want steps step why chip.each_busy (step == length steps) page) (sym takes.page)
+      shows = subst (λ b. Witnesses m start have want steps step why (even chip.each_busy b (unwrap_or chip.page m.page))) (sym keep)
+          (subst (λ page. Witnesses m start have want steps step why (even chip.each_busy (step == length steps) page)) (sym takes.page)
           (shows steps step why _ _ (shown step why refl) chip.each_busy busier));
     }
 

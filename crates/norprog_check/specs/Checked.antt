@@ -9,7 +9,7 @@ use Rattle.nor_base.specs.Script.{IsScript}
 use Rattle.nor_check.specs.declared.verdict.Verdict.{Verdict}
 use Rattle.nor_check.specs.declared.verdict.Verdict.TheVariants.{Yes, No}
 use Rattle.nor_check.specs.declared.verdict.Why.{Why}
-use Rattle.nor_check.specs.Witness.{Witnesses, reads_before}
+use Rattle.nor_check.specs.Witness.{Witnesses, reads_before, even}
 use Rattle.nor_check.specs.Worst.{IsWorst}
 use Rattle.nor_hex.specs.Image.{Pairs}
 use Rattle.nor_job.specs.declared.fault.BuildFault.{BuildFault}
@@ -45,7 +45,7 @@ pub record ShowsNo (t : Trial) (step : ℕ) (why : Why) (chip : ShowingChip) : T
   pub busy : chip.each_busy ≡ reads_before step t.steps + 1
   pub keep : chip.keep ≡ (step == length t.steps)
   pub page : chip.page ≢ Some t.m.page
-  pub shows : Witnesses t.m t.start t.have t.want t.steps step why chip.each_busy chip.keep (unwrap_or chip.page t.m.page)
+  pub shows : Witnesses t.m t.start t.have t.want t.steps step why (even chip.each_busy chip.keep (unwrap_or chip.page t.m.page))
 
 -- a no has such a chip where its number of status reads has 32 bits
 abbrev pub IsShownOn : Trial → Verdict → Option ShowingChip → Type 0

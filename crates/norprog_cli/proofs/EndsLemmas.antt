@@ -3,7 +3,7 @@ use Rattle.std.proofs.Common.{◌≡◌, ◌∙◌, ◌≤◌, ℕ, List, [], Op
 use Rattle.std.specs.Io.KnownBytes.{append_known, Keeps}
 use Rattle.nor_job.specs.declared.fault.BuildFault.TheVariants.{Write}
 use Rattle.norprog_cli.specs.Ends.{AsAnswered, AsBefore, EndsOnSystem, EndsProgram, IsAdded, IsLeft, NotAdded, Unaccounted}
-use Rattle.norprog_command.specs.Answers.{AnswersWords, screen}
+use Rattle.norprog_cli.specs.Answers.{AnswersWords, screen}
 use Rattle.norprog_common.specs.Told.{Ends, Output, Tells, between, output}
 use Rattle.norprog_common.specs.declared.faults.Refusal.{Refusal}
 use Rattle.norprog_common.specs.declared.faults.Refusal.TheVariants.{Build}

@@ -3,7 +3,7 @@ use Rattle.std.specs.Prelude.{◌≡◌, ◌≢◌, ◌⊎◌, ℕ, List, [], Al
 use Rattle.std.specs.Io.KnownBytes.{Keeps, append_known}
 use Rattle.nor_base.specs.Device.{one_more}
 use Rattle.nor_job.specs.declared.fault.BuildFault.TheVariants.{Memory, Write}
-use Rattle.norprog_command.specs.Answers.{AnswersWords, Screen, screen}
+use Rattle.norprog_cli.specs.Answers.{AnswersWords, Screen, screen}
 use Rattle.norprog_common.specs.Told.{Ends, Output, between}
 use Rattle.norprog_common.specs.declared.faults.Refusal.{Refusal}
 use Rattle.norprog_common.specs.declared.faults.Refusal.TheVariants.{Build, Usage}

@@ -6,8 +6,8 @@
 //! what a chip's tables mean, `norprog hex` writes a raw image as Intel HEX, `norprog script`
 //! writes the script of a log, `norprog explain` says what a printed text means.
 //!
-//! `norprog_command` does what the words spell; here they come from the process, and what is
-//! printed goes out.
+//! [`command`](command::command) does what the words spell; here they come from the process, and
+//! what is printed goes out.
 #![tactic(auto)]
 
 ghost use Rattle.std.specs.Prelude.{◌≡◌, ◌<◌, ◌≤◌, [], codes, drop, false, map};
@@ -16,24 +16,25 @@ ghost use Rattle.std.specs.Vec.Iter.{into_iter_items};
 ghost use Rattle.nor_job.specs.declared.fault.BuildFault.TheVariants.{Memory};
 ghost use Rattle.norprog_common.specs.Told.{output};
 ghost use Rattle.norprog_common.specs.declared.faults.Refusal.TheVariants.{Build};
-ghost use Rattle.norprog_command.specs.Answers.{screen};
+ghost use Rattle.norprog_cli.specs.Answers.{screen};
 ghost use Rattle.norprog_files.specs.Files.{Did};
 ghost use Rattle.norprog_files.specs.Trace.{reports};
 ghost use Rattle.norprog_cli.specs.Ends.{EndsGiven, EndsOnSystem, EndsProgram, EndsWords};
 ghost use Rattle.norprog_cli.specs.Ends.{IsAdded, IsWordless};
 ghost use Rattle.norprog_cli.specs.Ends.{changes_none, texts_in};
 
+mod command;
 mod gathered;
 mod noted;
 mod object;
 mod sheets;
 
+use crate::command::command;
 use crate::gathered::Gathered;
 use crate::noted::Noted;
 use crate::object::object_of;
 use crate::sheets::name_sheet;
 use nor_base::{ByteOut, Failed, IntoWrite, Nowhere, put_all};
-use norprog_command::command;
 use norprog_common::{Refusal, refuse};
 use norprog_details::Heard;
 use norprog_files::{Files, Places, System, Trail};

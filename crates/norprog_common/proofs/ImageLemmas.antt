@@ -3,7 +3,7 @@ use Rattle.std.proofs.Common.{◌≡◌, ◌≢◌, ◌⊎◌, inl, inr, ℕ, �
 use Rattle.std.specs.Prelude.{MatchResult}
 use Rattle.std.specs.List.{after_first, before_first, position_or_len}
 use Rattle.std.proofs.lemmas.Bool.{lt-ltb, le-ltb}
-use Rattle.nor_hex_out.specs.Segments.{hex_text}
+use Rattle.nor_hex.specs.WrittenSegments.{hex_text}
 use Rattle.nor_job.specs.declared.fault.BuildFault.TheVariants.{Memory}
 use Rattle.nor_layout.specs.Region.{Region}
 use Rattle.nor_layout.specs.Text.{IsLayout}

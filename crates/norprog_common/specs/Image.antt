@@ -6,7 +6,7 @@ use Rattle.nor_hex.specs.Image.{Pairs}
 use Rattle.nor_hex.specs.Union.{IsFirstClash, IsUnion}
 use Rattle.nor_hex.specs.declared.fault.HexFault.{HexFault}
 use Rattle.nor_hex.specs.declared.fault.HexFault.TheVariants as hex
-use Rattle.nor_hex_out.specs.Segments.{hex_text}
+use Rattle.nor_hex.specs.WrittenSegments.{hex_text}
 use Rattle.nor_job.specs.Causes.{LayoutSays}
 use Rattle.nor_job.specs.Lifted.{lifted_hex, lifted_layout}
 use Rattle.nor_job.specs.declared.fault.BuildFault.TheVariants as fault

@@ -1,4 +1,3 @@
-pub mod Wire
 pub mod Values
 pub mod Chip
 pub mod Lines

@@ -2,7 +2,7 @@
 
 ghost use Rattle.std.specs.Prelude.{◌≡◌, ◌≢◌, ◌⊎◌, ◌+◌, ◌-◌, ◌<◌, ◌≤◌, ◌^◌, length, option_map};
 ghost use Rattle.std.specs.Prelude.{◌++◌, IfErr, IfOk, MatchResult, map, slice_get};
-ghost use Rattle.nor_hex_out.specs.Segments.{hex_text};
+ghost use Rattle.nor_hex.specs.WrittenSegments.{hex_text};
 ghost use Rattle.nor_job.specs.declared.fault.BuildFault.TheVariants.{Memory};
 ghost use Rattle.nor_target.specs.Shares.{region_named};
 ghost use Rattle.norprog_common.specs.Image.{IsStart, IsTextOf, Misses, MissesIn, RefusesText};
@@ -15,7 +15,7 @@ ghost use Rattle.norprog_common.specs.declared.faults.Refusal.TheVariants.{Build
 use crate::faults::{Length, Refusal};
 use crate::given::ImageArgs;
 use crate::values::base as address;
-use nor_hex_out::{fits, hex_of};
+use nor_hex::{fits, hex_of};
 use nor_job::BuildFault;
 use nor_layout::Region;
 use std::alloc::{AllocError, Global};

@@ -1,1 +1,4 @@
+pub mod Explained
+pub mod Matching
+pub mod Topics
 pub mod Details

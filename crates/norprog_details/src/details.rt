@@ -7,12 +7,12 @@ ghost use Rattle.norprog_files.specs.Files.{Did};
 use crate::passage::{passage_of, shown_line};
 use crate::seems::add_advice;
 use crate::subject::{is_about, region_of};
+use crate::teller::write_topic;
 use crate::text::add;
 use crate::typed::{CommandLine, Typed, is_typed};
 use crate::usage::add_usage;
 use nor_base::{ByteOut, put_all};
 use norprog_common::FileName;
-use norprog_explain::write_topic;
 use norprog_files::{Files, Trail};
 use std::alloc::{AllocError, Global};
 

@@ -1,1 +1,2 @@
 pub mod PartLemmas
+mod LineLemmas

@@ -1,7 +1,7 @@
 -- Which exchange with a device ended the work on it (this project's).
 use Rattle.std.specs.Prelude.{Bool, true, false, Option, Some, None}
-use Rattle.nor_probe.specs.declared.difference.Mismatch.{Mismatch}
-use Rattle.nor_probe.specs.declared.difference.Mismatch.TheVariants as mismatch
+use Rattle.nor_reader.specs.declared.difference.Mismatch.{Mismatch}
+use Rattle.nor_reader.specs.declared.difference.Mismatch.TheVariants as mismatch
 use Rattle.nor_serprog.specs.declared.fault.Fault.{Fault}
 use Rattle.nor_serprog.specs.declared.fault.Fault.TheVariants.{Write}
 use Rattle.nor_serprog.specs.declared.fault.GreetFault.TheVariants.{Command, Version, NoOperation}

@@ -4,7 +4,7 @@ ghost use Rattle.std.specs.Prelude.{◌≡◌};
 ghost use Rattle.norprog_device.specs.Blame.{fault_of_greeting, fault_of_mismatch, is_cut};
 
 use crate::fault::DeviceFault;
-use nor_probe::Mismatch;
+use nor_reader::Mismatch;
 use nor_serprog::{Fault, GreetFault};
 
 /// How the exchange ended early for which a device can't be used. None where each came whole, and

@@ -6,18 +6,29 @@
 //! [`let_go`] lets the pins of the device's chip go. [`write_stty`] writes how the terminal of a
 //! device is set, [`write_waiting`] which one is waited for, and [`write_word`] a text as a shell
 //! reads it.
+//!
+//! [`Failure`] says why a device didn't do a step of a script: [`failure_of`] from what the
+//! exchange gave, [`failure_by`] of a read after all steps; [`fault_of_failure`] how the exchange
+//! ended that ended it. [`write_failure`] writes its line, [`write_wrong`] that of a number of what
+//! goes wrong.
 #![tactic(auto)]
 
 mod blame;
+mod failure;
+mod failure_line;
 mod fault;
 mod line;
 mod pins;
+mod reported;
 mod setting;
 mod shell;
 
 pub use blame::{fault_of_greeting, fault_of_mismatch, is_cut};
+pub use failure::{Failure, fault_of_failure};
+pub use failure_line::{write_failure, write_wrong};
 pub use fault::DeviceFault;
 pub use line::{refuse_device, word, write_device};
 pub use pins::let_go;
+pub use reported::{failure_by, failure_of};
 pub use setting::{write_stty, write_waiting};
 pub use shell::write_word;

@@ -1,6 +1,6 @@
 //! The pins of the chip behind a device.
 
-ghost use Rattle.norprog_common.specs.Wire.{wire};
+ghost use Rattle.nor_base.specs.Wire.{wire};
 ghost use Rattle.norprog_device.specs.Opened.{LetsGo};
 
 use nor_base::{ByteIn, ByteOut};

@@ -6,7 +6,7 @@ use Rattle.nor_job.specs.declared.fault.BuildFault.TheVariants as fault
 use Rattle.norprog_common.specs.declared.faults.FileName.{FileName}
 use Rattle.norprog_common.specs.declared.faults.Refusal.{Refusal}
 use Rattle.norprog_common.specs.declared.given.OutFile.{OutFile}
-use Rattle.norprog_common.specs.Wire.{Wire}
+use Rattle.nor_base.specs.Wire.{Wire}
 use Rattle.norprog_files.specs.declared.replaced.OutKind.{OutKind}
 use Rattle.norprog_common.specs.declared.faults.Refusal.TheVariants.{File, Build}
 

@@ -14,7 +14,7 @@ use Rattle.norprog_files.specs.declared.disk.FileId.{FileId}
 use Rattle.norprog_files.specs.declared.disk.How.TheVariants.{Anew}
 use Rattle.norprog_files.specs.Disk.{Call}
 use Rattle.norprog_files.specs.declared.replaced.OutKind.{OutKind}
-use Rattle.norprog_common.specs.Wire.{Wire, wire}
+use Rattle.nor_base.specs.Wire.{Wire, wire}
 use Rattle.norprog_files.specs.Files.{Asked, Denied, Event, Given, Lost, Made, New, Opened, Sent, Unwired, Wired}
 use Rattle.norprog_files.specs.Guards.{AreQuestions, EndsDevice, EndsInput, EndsOpen, EndsOutput, GoesOut}
 

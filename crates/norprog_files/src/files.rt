@@ -3,7 +3,7 @@
 ghost use Rattle.std.specs.Prelude.{◌≡◌, ◌<◌, [], ◌∷◌, List, IfErr, IfOk};
 ghost use Rattle.norprog_common.specs.declared.faults.FileName.TheVariants.{Device};
 ghost use Rattle.norprog_files.specs.Files.{Adds, Asked, Denied, Denies, Event, Given, Made, New};
-ghost use Rattle.norprog_common.specs.Wire.{wire};
+ghost use Rattle.nor_base.specs.Wire.{wire};
 ghost use Rattle.norprog_files.specs.Files.{Opened, Unwired, Wired, came, closing};
 ghost use Rattle.norprog_files.specs.Replaced.{name_of};
 

@@ -5,18 +5,18 @@ use Rattle.nor_base.specs.declared.step.Step.TheVariants.{Send, Poll, Verify}
 use Rattle.nor_base.specs.Device.{Ahead}
 use Rattle.nor_base.specs.Parameters.{Parameters}
 use Rattle.nor_base.specs.Step.{expected, step_clocks}
-use Rattle.nor_probe.specs.declared.difference.Mismatch.{Mismatch}
-use Rattle.nor_probe.specs.declared.difference.Mismatch.TheVariants as mismatch
+use Rattle.nor_reader.specs.declared.difference.Mismatch.{Mismatch}
+use Rattle.nor_reader.specs.declared.difference.Mismatch.TheVariants as mismatch
 use Rattle.nor_serprog.specs.declared.fault.Fault.TheVariants as fault
 use Rattle.nor_serprog.specs.declared.fault.Reason.{Reason}
 use Rattle.nor_serprog.specs.declared.fault.Reason.TheVariants as reason
 use Rattle.nor_serprog.specs.declared.limits.Limits.{Limits}
 use Rattle.nor_serprog.specs.Done.{HasStopped}
 use Rattle.nor_serprog.specs.Steps.{AreCarried, IsCarried}
-use Rattle.norprog_failure.specs.declared.failure.Failure.{Failure}
-use Rattle.norprog_failure.specs.declared.failure.Failure.TheVariants as failure
-use Rattle.norprog_failure.specs.Reported.{other_byte, read_address, FailsAs, failure_by}
-use Rattle.norprog_common.specs.Wire.{Wire}
+use Rattle.norprog_device.specs.declared.failure.Failure.{Failure}
+use Rattle.norprog_device.specs.declared.failure.Failure.TheVariants as failure
+use Rattle.norprog_device.specs.Reported.{other_byte, read_address, FailsAs, failure_by}
+use Rattle.nor_base.specs.Wire.{Wire, wire}
 use Rattle.norprog_flash.specs.Worked.{HasFailedAt, Session}
 
 tail_of : (P : Step → Type 0) (x : Step) (xs : List Step) → All P (x ∷ xs) → All P xs
@@ -29,7 +29,7 @@ one_after P (y ∷ done) rest x all = one_after P done rest x (tail_of P y (done
 
 -- a device never stops at an operation as if it were none
 never_none : (h i : Option (List ℕ)) (a b : Ahead) (limits : Limits) (turns : ℕ) (x : Step) → IsCarried limits x
-    → HasStopped h i a b limits turns reason.Carried x → ⊥
+    → HasStopped (wire h a) (wire i b) limits turns reason.Carried x → ⊥
 never_none h i a b limits turns (Send clocks) can stopped = stopped.none can.0 can.1 can.2
 never_none h i a b limits turns (Poll clocks) can stopped = stopped.1
 never_none h i a b limits turns (Verify clocks expect) can stopped = stopped.none can.0 can.1 can.2
@@ -60,7 +60,7 @@ never_fails s before after steps step why carried failed is =
     one_after (IsCarried s.limits) halted.done (halted.beyond ++ halted.rest) halted.at (subst (AreCarried s.limits) halted.those carried) in
     elim halted.stopped [
       | inl within ↦ never_none halted.held within.held halted.ahead after.ahead s.limits s.job.ask.turns halted.at can
-          (subst (λ (r : Reason). HasStopped halted.held within.held halted.ahead after.ahead s.limits s.job.ask.turns r halted.at) none within.stopped)
+          (subst (λ (r : Reason). HasStopped (wire halted.held halted.ahead) (wire within.held after.ahead) s.limits s.job.ask.turns r halted.at) none within.stopped)
       | inr cut ↦ let bad : reason.Carried ≡ reason.Exchange fault.Write = sym none ∙ cut.writer in cc
     ]
 

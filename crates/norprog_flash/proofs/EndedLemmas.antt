@@ -1,14 +1,15 @@
 -- How work that was planned ends.
 use Rattle.std.proofs.Common.{◌≡◌, ℕ, true, List, ◌∷◌, Option, Result, Ok, Err, IfOk, IfErr, refl, sym, subst}
-use Rattle.nor_flasher.specs.Apart.{BreaksApart}
+use Rattle.nor_reader.specs.AtOnce.{at_once}
+use Rattle.nor_flasher.specs.Apart.{BreaksApart, chip_read}
 use Rattle.nor_flasher.specs.Laws.{Closes, Breaks}
 use Rattle.nor_job.specs.Status.{start_of}
 use Rattle.nor_reader.specs.declared.by.ReadBy.{ReadBy}
 use Rattle.nor_reader.specs.Laws.{GivesBy}
 use Rattle.norprog_common.specs.declared.given.Aim.TheVariants as aim
-use Rattle.norprog_common.specs.Wire.{Wire}
+use Rattle.nor_base.specs.Wire.{Wire}
 use Rattle.nor_serprog.specs.Steps.{AreCarried}
-use Rattle.norprog_failure.specs.declared.failure.Failure.TheVariants.{Carried}
+use Rattle.norprog_device.specs.declared.failure.Failure.TheVariants.{Carried}
 use Rattle.norprog_flash.specs.declared.ending.Ending.{Ending}
 use Rattle.norprog_flash.specs.declared.ending.Ending.TheVariants.{Failed}
 use Rattle.norprog_flash.specs.declared.job.Job.{Job}
@@ -21,10 +22,10 @@ use Rattle.norprog_flash.specs.Task.{task_on}
 use Rattle.norprog_flash.specs.Worked.{Cannot, FailedAt, Goes, GoesOn, MissedIt, Session, Worked, WorksOut, back_of}
 use Rattle.norprog_flash.proofs.CarriedLemmas.{never_fails, never_misses}
 use Rattle.norprog_flash.proofs.PlannedLemmas.{every_flashes, every_keeps}
-use Rattle.norprog_work.specs.Work.{Plan}
+use Rattle.norprog_flash.specs.Work.{Plan}
 
 module _ (close : Closes) (break : Breaks) (s : Session) (before read : Wire) (p : Plan) (out : Printed) (whole : s.job.ask.content ≡ true)
-    (aims : s.job.aim ≡ aim.Work) (planned : HasPlanned s.limits.asked s.job before read s.reading p out) where
+    (aims : s.job.aim ≡ aim.Work) (planned : HasPlanned (at_once s.limits) s.job before read s.reading p out) where
   abbrev todo : IsToDo s before read p out
   todo = record { aim = aims; planned = planned }
 
@@ -32,16 +33,15 @@ module _ (close : Closes) (break : Breaks) (s : Session) (before read : Wire) (p
       → AreCarried s.limits p.steps → WorksOut s read last (back_of s.job by) p ending → EndsWork s before last out ending
   worked_ends last by ending way carried (Worked worked) =
       AllDone p read todo by way worked
-      (every_flashes s.limits.asked s.job before read s.reading p out planned whole close worked.done s.limits s.job.ask.turns worked.steps)
+      (every_flashes (at_once s.limits) s.job before read s.reading p out planned whole close worked.done s.limits s.job.ask.turns worked.steps)
   worked_ends last by ending way carried (FailedAt step why failed) =
       Halted p read todo step why (never_fails s read last p.steps step why carried failed) failed
-      (subst (λ (n : ℕ). BreaksApart planned.read.read.ready.held planned.read.read.held.held planned.read.read.ready.ahead planned.read.read.held.ahead
-      read.held read.ahead s.reading.meaning (start_of (task_on s.job s.reading)) s.reading.content.items p.goal p.steps n
+      (subst (λ (n : ℕ). BreaksApart planned.read.read.ready planned.read.read.held read (chip_read s.reading.meaning (start_of (task_on s.job s.reading)) s.reading.content.items) p.goal p.steps n
       (failed.halted.at ∷ failed.halted.beyond)) (sym failed.at)
-      (every_keeps s.limits.asked s.job before read s.reading p out planned whole break last s.limits s.job.ask.turns failed.halt failed.halted))
+      (every_keeps (at_once s.limits) s.job before read s.reading p out planned whole break last s.limits s.job.ask.turns failed.halt failed.halted))
   worked_ends last by ending way carried (MissedIt why missed) =
       Missed p read todo by why (never_misses missed.mismatch why missed.failed) way missed
-      (every_flashes s.limits.asked s.job before read s.reading p out planned whole close missed.worked.done s.limits s.job.ask.turns missed.worked.steps)
+      (every_flashes (at_once s.limits) s.job before read s.reading p out planned whole close missed.worked.done s.limits s.job.ask.turns missed.worked.steps)
 
   pub goes_ends : (last : Wire) (ending : Ending) → GoesOn s read last p ending → EndsWork s before last out ending
   goes_ends last ending (Goes by it way carried works) = worked_ends last by it way carried works
@@ -50,13 +50,13 @@ module _ (close : Closes) (break : Breaks) (s : Session) (before read : Wire) (p
 
 -- only the plan was printed
 pub plan_ends : (s : Session) (before read : Wire) (out : Printed) (result : Result Ending Refusal) → s.job.aim ≡ aim.Plan
-    → HasRead s.limits.asked s.job before read s.reading → IfOk result (IsPlanned s.job s.reading out) → IfOk result (EndsWork s before read out)
+    → HasRead (at_once s.limits) s.job before read s.reading → IfOk result (IsPlanned s.job s.reading out) → IfOk result (EndsWork s before read out)
 plan_ends s before read out (Ok ending) aims has (Planning p prints) = OnlyPlan p aims (record { read = has; plan = prints })
 plan_ends s before read out (Err why) aims has is = tt
 
 -- it was compared, or not
 pub compare_ends : (s : Session) (before read : Wire) (text : Option (List ℕ)) (result : Result Ending Refusal) → s.job.aim ≡ aim.Compare
-    → HasRead s.limits.asked s.job before read s.reading → IfOk result (IsCompared s.job s.reading) → IfOk result (EndsWork s before read (printed text text))
+    → HasRead (at_once s.limits) s.job before read s.reading → IfOk result (IsCompared s.job s.reading) → IfOk result (EndsWork s before read (printed text text))
 compare_ends s before read text (Ok ending) aims has is = OnlyCompared ending aims has refl is
 compare_ends s before read text (Err why) aims has is = tt
 

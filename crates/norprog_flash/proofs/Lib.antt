@@ -1,3 +1,9 @@
+mod SpanLemmas
+mod NarrowedLemmas
+mod GoalLemmas
+mod BuiltLemmas
+mod RefusedLemmas
+mod WorkLemmas
 mod PlannedLemmas
 mod CarriedLemmas
 mod EndedLemmas

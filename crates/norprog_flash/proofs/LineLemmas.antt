@@ -5,7 +5,7 @@ use Rattle.nor_base.specs.declared.meaning.Part.TheVariants.{Generic, W25q256jv}
 use Rattle.nor_base.specs.Script.{hex_pair}
 use Rattle.nor_script.specs.Hexadecimal.{hex_number}
 use Rattle.norprog_flash.specs.Line.{closed_line, comparison_line}
-use Rattle.norprog_work.specs.declared.compared.Comparison.TheVariants.{Differs}
+use Rattle.norprog_flash.specs.declared.compared.Comparison.TheVariants.{Differs}
 
 pub status_parts : (status : ℕ) (digits : List ℕ) → digits ≡ hex_pair (status % 256)
     → codes "unlike status " ++ (digits ++ codes "\n") ≡ closed_line Generic status

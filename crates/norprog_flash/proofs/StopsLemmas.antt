@@ -1,6 +1,7 @@
 -- Why work isn't begun on a chip that was read.
 use Rattle.std.proofs.Common.{◌≡◌, ◌⊎◌, ◌∙◌, ℕ, Bool, true, false, List, length, Option, unwrap_or, Result, Ok, Err, IfErr, inl, inr, refl, sym, ap, subst}
 use Rattle.std.specs.Prelude.{MatchResult}
+use Rattle.nor_reader.specs.AtOnce.{at_once}
 use Rattle.nor_base.specs.declared.meaning.Start.{Start}
 use Rattle.nor_hex.specs.Image.{Pairs}
 use Rattle.nor_job.specs.declared.fault.BuildFault.{BuildFault}
@@ -14,7 +15,7 @@ use Rattle.nor_serprog.specs.declared.limits.Limits.{Limits}
 use Rattle.norprog_common.specs.declared.faults.Refusal.{Refusal}
 use Rattle.norprog_common.specs.declared.faults.Refusal.TheVariants.{Build}
 use Rattle.norprog_common.specs.Rules.{BreaksRules}
-use Rattle.norprog_common.specs.Wire.{Wire}
+use Rattle.nor_base.specs.Wire.{Wire}
 use Rattle.norprog_flash.specs.declared.ending.Unflashed.{Unflashed}
 use Rattle.norprog_flash.specs.declared.ending.Unflashed.TheVariants.{Refused, Closed}
 use Rattle.norprog_flash.specs.declared.job.Job.{Job}
@@ -22,8 +23,8 @@ use Rattle.norprog_flash.specs.Begun.{is_closed, printed, rules_on, start_at}
 use Rattle.norprog_flash.specs.Early.{Breaking, BreaksEarly, RefusesEarly, early_task, file_tables, is_known}
 use Rattle.norprog_flash.specs.declared.ending.Ending.TheVariants.{Compared}
 use Rattle.norprog_flash.specs.Ended.{Comparing, IsCompared}
-use Rattle.norprog_work.specs.declared.compared.Comparison.{Comparison}
-use Rattle.norprog_work.specs.Compared.{IsComparison}
+use Rattle.norprog_flash.specs.declared.compared.Comparison.{Comparison}
+use Rattle.norprog_flash.specs.Compared.{IsComparison}
 use Rattle.nor_job.specs.Causes.{RefusesInputs}
 use Rattle.norprog_flash.specs.Opened.{AtChip, StopsHolding, Tests}
 use Rattle.norprog_flash.specs.Stops.{CantPlan, OtherSize, StopsBefore, Unplanned}
@@ -31,7 +32,7 @@ use Rattle.norprog_flash.specs.Task.{blank_image, dump_of, imaged_task, task_on}
 use Rattle.norprog_read.specs.declared.asked.Reading.{Reading}
 use Rattle.norprog_read.specs.Chip.{GivesContent, HasReadChip, way_by}
 use Rattle.norprog_read.specs.Way.{first_by, first_of, Way}
-use Rattle.norprog_work.specs.Refused.{RefusesWork}
+use Rattle.norprog_flash.specs.Refused.{RefusesWork}
 
 given_way : (w : Way) (before after : Wire) (wanted : Bool) (content : List ℕ) → wanted ≡ true → GivesContent w before after wanted content
     → GivesBy w.m w.start (first_of w)
@@ -64,7 +65,7 @@ or_memory P (Err why) is = inl is
 
 -- one of these, after the line was tested
 pub holds_not : {T : Type 0} (limits : Limits) (job : Job) (first ready last : Wire) (result : Result T Unflashed) → Tests limits first ready (Ok tt)
-    → IfErr result (StopsBefore limits.asked ready last job) → MatchResult result (λ _. HasSentHarmless ready.held last.held) (λ _. SendsHarmless ready.held last.held)
+    → IfErr result (StopsBefore (at_once limits) ready last job) → MatchResult result (λ _. HasSentHarmless ready.held last.held) (λ _. SendsHarmless ready.held last.held)
     → IfErr result (StopsHolding limits job first last)
 holds_not limits job first ready last (Ok held) tested stops harmless = tt
 holds_not limits job first ready last (Err why) tested stops harmless = AtChip ready why tested stops harmless

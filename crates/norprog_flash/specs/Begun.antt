@@ -2,7 +2,7 @@
 use Rattle.std.specs.Prelude.{◌≡◌, ◌||◌, ℕ, Bool, false, not, List, length, Option, unwrap_or}
 use Rattle.std.specs.Io.KnownBytes.{Appends}
 use Rattle.nor_base.specs.declared.meaning.Start.{Start}
-use Rattle.nor_probe.specs.Status.{suits}
+use Rattle.nor_reader.specs.Status.{suits}
 use Rattle.nor_sfdp.specs.Bits.{is_set}
 use Rattle.nor_base.specs.declared.meaning.Part.{Part}
 use Rattle.norprog_common.specs.declared.given.Aim.{Aim}
@@ -10,14 +10,14 @@ use Rattle.norprog_common.specs.declared.given.Aim.TheVariants.{Work, Compare}
 use Rattle.norprog_common.specs.declared.given.Aim.TheVariants as aim
 use Rattle.norprog_common.specs.Rules.{MeetsRules}
 use Rattle.norprog_common.specs.declared.rules.ImageRules.{ImageRules}
-use Rattle.norprog_common.specs.Wire.{Wire}
+use Rattle.nor_base.specs.Wire.{Wire}
 use Rattle.norprog_flash.specs.declared.job.Job.{Job}
 use Rattle.norprog_flash.specs.Resumed.{IsOfDump}
 use Rattle.norprog_flash.specs.Task.{dump_of, task_on}
 use Rattle.norprog_flash.specs.Way.{work_text}
 use Rattle.norprog_read.specs.declared.asked.Reading.{Reading}
 use Rattle.norprog_read.specs.Chip.{HasReadChip}
-use Rattle.norprog_work.specs.Work.{IsWork, Plan}
+use Rattle.norprog_flash.specs.Work.{IsWork, Plan}
 
 -- the mode that was said, and the quad setting that a status has (QE, S9)
 abbrev pub start_at : Job → ℕ → Start

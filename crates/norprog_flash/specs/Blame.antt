@@ -2,7 +2,7 @@
 use Rattle.std.specs.Prelude.{Option, None, Result, Ok, Err}
 use Rattle.nor_serprog.specs.declared.fault.Fault.{Fault}
 use Rattle.norprog_device.specs.Blame.{fault_of_greeting}
-use Rattle.norprog_failure.specs.Blame.{fault_of_failure}
+use Rattle.norprog_device.specs.FailureBlame.{fault_of_failure}
 use Rattle.norprog_flash.specs.declared.ending.Ending.{Ending}
 use Rattle.norprog_flash.specs.declared.ending.Ending.TheVariants.{Planned, Compared, Done, Failed}
 use Rattle.norprog_flash.specs.declared.ending.Unflashed.{Unflashed}

@@ -14,7 +14,7 @@ use Rattle.norprog_flash.specs.declared.job.Job.{Job}
 use Rattle.norprog_flash.specs.Task.{flash_task}
 use Rattle.norprog_read.specs.declared.asked.Known.{Known}
 use Rattle.norprog_read.specs.declared.asked.Known.TheVariants.{Own, Tables}
-use Rattle.norprog_work.specs.Early as work
+use Rattle.norprog_flash.specs.Looked as work
 
 -- a chip is known by a file of its tables, by its size or by its sheet, and not by its own tables
 abbrev pub is_known : Known → Bool

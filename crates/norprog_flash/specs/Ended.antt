@@ -1,15 +1,16 @@
 -- How work on the chip behind a device ends (this project's).
 use Rattle.std.specs.Prelude.{◌≡◌, ◌≢◌, ℕ, true, false, List, ◌∷◌, length, Ok}
+use Rattle.nor_reader.specs.AtOnce.{at_once}
 use Rattle.nor_base.specs.declared.step.Step.{Step}
-use Rattle.nor_flasher.specs.Apart.{ClosesApart, BreaksApart}
+use Rattle.nor_flasher.specs.Apart.{ClosesApart, BreaksApart, chip_read}
 use Rattle.nor_job.specs.Status.{start_of}
 use Rattle.nor_reader.specs.declared.by.ReadBy.{ReadBy}
 use Rattle.nor_reader.specs.Laws.{GivesBy}
 use Rattle.nor_serprog.specs.Steps.{IsFirstNotCarried}
 use Rattle.norprog_common.specs.declared.given.Aim.TheVariants as aim
-use Rattle.norprog_common.specs.Wire.{Wire}
-use Rattle.norprog_failure.specs.declared.failure.Failure.{Failure}
-use Rattle.norprog_failure.specs.declared.failure.Failure.TheVariants.{Carried}
+use Rattle.nor_base.specs.Wire.{Wire}
+use Rattle.norprog_device.specs.declared.failure.Failure.{Failure}
+use Rattle.norprog_device.specs.declared.failure.Failure.TheVariants.{Carried}
 use Rattle.norprog_flash.specs.declared.ending.Ending.{Ending}
 use Rattle.norprog_flash.specs.declared.ending.Ending.TheVariants.{Planned, Compared, Done, Failed}
 use Rattle.norprog_flash.specs.declared.job.Job.{Job}
@@ -17,14 +18,14 @@ use Rattle.norprog_flash.specs.Begun.{HasPlanned, HasRead, Printed, PrintsPlan}
 use Rattle.norprog_flash.specs.Task.{dump_of, goal_of, task_on}
 use Rattle.norprog_flash.specs.Worked.{HasFailedAt, HasMissed, HasWorked, Session, back_of}
 use Rattle.norprog_read.specs.declared.asked.Reading.{Reading}
-use Rattle.norprog_work.specs.declared.compared.Comparison.{Comparison}
-use Rattle.norprog_work.specs.Compared.{IsComparison}
-use Rattle.norprog_work.specs.Work.{Plan}
+use Rattle.norprog_flash.specs.declared.compared.Comparison.{Comparison}
+use Rattle.norprog_flash.specs.Compared.{IsComparison}
+use Rattle.norprog_flash.specs.Work.{Plan}
 
 -- the chip was read and planned for, and the plan is to be carried out, from these bytes of the wire on
 pub record IsToDo (s : Session) (before read : Wire) (p : Plan) (out : Printed) : Type 0 where
   pub aim : s.job.aim ≡ aim.Work
-  pub planned : HasPlanned s.limits.asked s.job before read s.reading p out
+  pub planned : HasPlanned (at_once s.limits) s.job before read s.reading p out
 
 -- what went over the wire as the content was read, and then in the work, is explained only by chips that end with the target of what
 -- they held, and by some chip
@@ -33,16 +34,14 @@ EveryChipFlashes {s = s} {read = read} {p = p} todo done =
     let t = task_on s.job s.reading in
     let chip = todo.planned.read.read in
     let work = todo.planned.plan.work in
-    ClosesApart chip.ready.held chip.held.held chip.ready.ahead chip.held.ahead read.held done.held read.ahead done.ahead s.reading.meaning (start_of t)
-    s.reading.content.items (goal_of t work.image work.regions (dump_of s.job)) p.steps
+    ClosesApart chip.ready chip.held read done (chip_read s.reading.meaning (start_of t) s.reading.content.items) (goal_of t work.image work.regions (dump_of s.job)) p.steps
 
 -- or, as far as the work came to a step, which begins a row, only by chips that held what was read, of which at most one unit of the work
 -- is in the making, also after they did some of the row
 abbrev pub EveryChipKeeps : {s : Session} {before read : Wire} {p : Plan} {out : Printed} → IsToDo s before read p out → ℕ → List Step → Type 0
 EveryChipKeeps {s = s} {read = read} {p = p} todo at row =
     let chip = todo.planned.read.read in
-    BreaksApart chip.ready.held chip.held.held chip.ready.ahead chip.held.ahead read.held read.ahead s.reading.meaning
-    (start_of (task_on s.job s.reading)) s.reading.content.items p.goal p.steps at row
+    BreaksApart chip.ready chip.held read (chip_read s.reading.meaning (start_of (task_on s.job s.reading)) s.reading.content.items) p.goal p.steps at row
 
 -- the work on a chip that gave this was only planned and printed
 pub data IsPlanned (job : Job) (r : Reading) (out : Printed) : Ending → Type 0 where
@@ -55,9 +54,9 @@ pub data IsCompared (job : Job) (r : Reading) : Ending → Type 0 where
 -- how the work on a chip ends, from its first reading on
 pub data EndsWork (s : Session) (before after : Wire) (out : Printed) : Ending → Type 0 where
   -- only the plan is wanted, and nothing was sent after the chip was read
-  OnlyPlan : (p : Plan) → s.job.aim ≡ aim.Plan → HasPlanned s.limits.asked s.job before after s.reading p out → EndsWork s before after out Planned
+  OnlyPlan : (p : Plan) → s.job.aim ≡ aim.Plan → HasPlanned (at_once s.limits) s.job before after s.reading p out → EndsWork s before after out Planned
   -- it is only compared, and nothing was sent after it was read
-  OnlyCompared : (ending : Ending) → s.job.aim ≡ aim.Compare → HasRead s.limits.asked s.job before after s.reading → out.after ≡ out.before
+  OnlyCompared : (ending : Ending) → s.job.aim ≡ aim.Compare → HasRead (at_once s.limits) s.job before after s.reading → out.after ≡ out.before
       → IsCompared s.job s.reading ending → EndsWork s before after out ending
   -- each step was done, and then the chip gave just what it must hold, and past its end what one that holds just this gives, unless it may be
   -- larger, by reads of no more bytes than the device gives at once

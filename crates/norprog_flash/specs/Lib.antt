@@ -1,3 +1,8 @@
+pub mod Work
+pub mod Narrowed
+pub mod Refused
+pub mod Looked
+pub mod Compared
 pub mod Task
 pub mod Resumed
 pub mod Early

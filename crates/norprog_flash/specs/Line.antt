@@ -4,13 +4,13 @@ use Rattle.nor_base.specs.declared.meaning.Part.{Part}
 use Rattle.nor_base.specs.declared.meaning.Part.TheVariants.{Generic, W25q256jv}
 use Rattle.nor_base.specs.Script.{hex_pair}
 use Rattle.nor_script.specs.Hexadecimal.{hex_number}
-use Rattle.norprog_failure.specs.declared.failure.Failure.{Failure}
-use Rattle.norprog_failure.specs.declared.failure.Failure.TheVariants.{Carried}
-use Rattle.norprog_failure.specs.Line.{failure_line}
+use Rattle.norprog_device.specs.declared.failure.Failure.{Failure}
+use Rattle.norprog_device.specs.declared.failure.Failure.TheVariants.{Carried}
+use Rattle.norprog_device.specs.FailureLine.{failure_line}
 use Rattle.norprog_flash.specs.declared.ending.Ending.{Ending}
 use Rattle.norprog_flash.specs.declared.ending.Ending.TheVariants.{Planned, Compared, Done, Failed}
-use Rattle.norprog_work.specs.declared.compared.Comparison.{Comparison}
-use Rattle.norprog_work.specs.declared.compared.Comparison.TheVariants.{Same, Differs}
+use Rattle.norprog_flash.specs.declared.compared.Comparison.{Comparison}
+use Rattle.norprog_flash.specs.declared.compared.Comparison.TheVariants.{Same, Differs}
 
 -- `same N`; or the lowest address that differs, with the byte of either side, and how many do
 abbrev pub comparison_line : Comparison → List ℕ

@@ -8,7 +8,7 @@ use Rattle.norprog_common.specs.declared.faults.FileName.TheVariants as file
 use Rattle.norprog_common.specs.declared.faults.Refusal.{Refusal}
 use Rattle.norprog_common.specs.declared.faults.Refusal.TheVariants.{Build, File}
 use Rattle.norprog_common.specs.Rules.{BreaksRules}
-use Rattle.norprog_common.specs.Wire.{Wire}
+use Rattle.nor_base.specs.Wire.{Wire}
 use Rattle.norprog_flash.specs.declared.ending.Unflashed.{Unflashed}
 use Rattle.norprog_flash.specs.declared.ending.Unflashed.TheVariants.{Refused, Device, Unlike, Closed}
 use Rattle.norprog_flash.specs.declared.job.Job.{Job}
@@ -22,8 +22,8 @@ use Rattle.norprog_read.specs.declared.fault.Unread.{Unread}
 use Rattle.norprog_read.specs.declared.fault.Unread.TheVariants as unread
 use Rattle.norprog_read.specs.Chip.{HasReadChip}
 use Rattle.norprog_read.specs.Stops.{StopsChip}
-use Rattle.norprog_work.specs.Refused.{RefusesWork}
-use Rattle.norprog_work.specs.Work.{Plan}
+use Rattle.norprog_flash.specs.Refused.{RefusesWork}
+use Rattle.norprog_flash.specs.Work.{Plan}
 
 -- why a chip isn't read is why work isn't begun
 abbrev pub of_reading : Unread → Unflashed

@@ -8,7 +8,7 @@ use Rattle.norprog_flash.specs.State.{way_on}
 use Rattle.norprog_flash.specs.Task.{works}
 use Rattle.norprog_read.specs.declared.asked.Reading.{Reading}
 use Rattle.norprog_read.specs.Line.{note_line}
-use Rattle.norprog_work.specs.Work.{Plan}
+use Rattle.norprog_flash.specs.Work.{Plan}
 
 -- what comes before the command
 abbrev pub way_front : List ℕ

@@ -1,9 +1,10 @@
 -- How work on a chip went (this project's).
 use Rattle.std.specs.Prelude.{◌≡◌, ◌⊎◌, ℕ, List, length, get_or, Result, Ok, Err}
+use Rattle.nor_reader.specs.AtOnce.{at_once}
 use Rattle.nor_base.specs.declared.step.Step.{Step}
 use Rattle.nor_base.specs.Parameters.{Parameters}
 use Rattle.nor_base.specs.Step.{expected, step_clocks}
-use Rattle.nor_probe.specs.declared.difference.Mismatch.{Mismatch}
+use Rattle.nor_reader.specs.declared.difference.Mismatch.{Mismatch}
 use Rattle.nor_reader.specs.declared.by.ReadBy.{ReadBy}
 use Rattle.nor_job.specs.Status.{start_of}
 use Rattle.nor_reader.specs.Laws.{GivesBy}
@@ -13,10 +14,10 @@ use Rattle.nor_serprog.specs.declared.limits.Limits.{Limits}
 use Rattle.nor_serprog.specs.Done.{HasDoneAll}
 use Rattle.nor_serprog.specs.Row.{HasHalted}
 use Rattle.nor_serprog.specs.Steps.{AreCarried, IsFirstNotCarried}
-use Rattle.norprog_common.specs.Wire.{Wire}
-use Rattle.norprog_failure.specs.declared.failure.Failure.{Failure}
-use Rattle.norprog_failure.specs.declared.failure.Failure.TheVariants.{Carried}
-use Rattle.norprog_failure.specs.Reported.{FailsAs, failure_by}
+use Rattle.nor_base.specs.Wire.{Wire}
+use Rattle.norprog_device.specs.declared.failure.Failure.{Failure}
+use Rattle.norprog_device.specs.declared.failure.Failure.TheVariants.{Carried}
+use Rattle.norprog_device.specs.Reported.{FailsAs, failure_by}
 use Rattle.norprog_flash.specs.declared.ending.Ending.{Ending}
 use Rattle.norprog_flash.specs.declared.ending.Ending.TheVariants.{Done, Failed}
 use Rattle.norprog_flash.specs.declared.job.Job.{Job}
@@ -24,7 +25,7 @@ use Rattle.norprog_flash.specs.declared.work.Back.{Back}
 use Rattle.norprog_flash.specs.Task.{task_on}
 use Rattle.norprog_read.specs.End.{past, EndsPast, GivesPast}
 use Rattle.norprog_read.specs.declared.asked.Reading.{Reading}
-use Rattle.norprog_work.specs.Work.{Plan}
+use Rattle.norprog_flash.specs.Work.{Plan}
 
 -- how the chip of a job is read back that is read so
 abbrev pub back_of : Job → ReadBy → Back
@@ -46,7 +47,7 @@ session job limits r = record { job = job; limits = limits; reading = r }
 
 -- the chip was read whole with this result, by reads of no more than so many bytes
 abbrev pub ReadsAll : ℕ → Wire → Wire → Result (Unit {0}) Mismatch → Back → List ℕ → Type 0
-ReadsAll most before after result back bytes = ReadsWhole most before.held after.held before.ahead after.ahead result back.by bytes
+ReadsAll most before after result back bytes = ReadsWhole most before after result back.by bytes
 
 -- the chip was read whole, and then past its end, unless it may be larger, and gave just these bytes; or one of the two readings ended so
 abbrev pub ReadsBack : ℕ → Wire → Wire → Result (Unit {0}) Mismatch → Back → List ℕ → Type 0
@@ -59,13 +60,13 @@ ReadsBack most before after (Err why) back bytes =
 -- all steps were done, and then the chip was read back with this result
 pub record HasWorked (s : Session) (before after : Wire) (back : Back) (p : Plan) (result : Result (Unit {0}) Mismatch) : Type 0 where
   pub done : Wire
-  pub steps : HasDoneAll before.held done.held before.ahead done.ahead s.limits s.job.ask.turns p.steps
-  pub gives : ReadsBack s.limits.asked done after result back p.goal
+  pub steps : HasDoneAll before done s.limits s.job.ask.turns p.steps
+  pub gives : ReadsBack (at_once s.limits) done after result back p.goal
 
 -- the steps before one were done, and the device halted at that one, which failed so
 pub record HasFailedAt (s : Session) (before after : Wire) (steps : List Step) (step : ℕ) (why : Failure) : Type 0 where
   pub halt : Halt
-  pub halted : HasHalted before.held after.held before.ahead after.ahead s.limits s.job.ask.turns steps halt
+  pub halted : HasHalted before after s.limits s.job.ask.turns steps halt
   pub at : step ≡ halt.step
   pub failed : IsFailureAt s.reading.meaning steps halt why
 

@@ -6,11 +6,12 @@ ghost use Rattle.nor_job.specs.Status.{start_of};
 ghost use Rattle.nor_job.specs.declared.fault.BuildFault.TheVariants.{Memory};
 ghost use Rattle.norprog_common.specs.declared.faults.Refusal.TheVariants.{Build};
 ghost use Rattle.norprog_common.specs.Rules.{BreaksRules, MeetsRules};
-ghost use Rattle.norprog_common.specs.Wire.{wire};
+ghost use Rattle.nor_base.specs.Wire.{wire};
 ghost use Rattle.norprog_flash.specs.Begun.{HasRead, IsPlanOf, PrintsPlan, is_closed, printed};
 ghost use Rattle.norprog_flash.specs.Begun.{rules_on, start_at};
 ghost use Rattle.norprog_flash.specs.Task.{dump_of, flash_task, task_on};
-ghost use Rattle.norprog_work.specs.Work.{plan_of};
+ghost use Rattle.norprog_flash.specs.Work.{plan_of};
+ghost use Rattle.nor_reader.specs.AtOnce.{at_once};
 ghost use Rattle.nor_reader.specs.Harmless.{HasSentHarmless, SendsHarmless};
 ghost use Rattle.nor_reader.specs.Laws.{GivesBy};
 ghost use Rattle.norprog_flash.specs.Opened.{HasHeld, StopsHolding};
@@ -19,17 +20,16 @@ ghost use Rattle.norprog_flash.specs.Stops.{CantPlan, StopsBefore};
 use crate::blank::blank_image;
 use crate::ending::Unflashed;
 use crate::job::{Job, inputs_for};
+use crate::planned::{Work, work_for};
 use crate::resumed::is_of_dump;
 use crate::way::{write_last, write_plan};
 use nor_base::{ByteIn, ByteOut, Start};
 use nor_job::BuildFault;
-use nor_probe::suits;
-use nor_reader::ReadBy;
+use nor_reader::{ReadBy, suits};
 use nor_serprog::{Limits, test_line};
 use norprog_common::{Aim, FileName, ImageRules, Refusal, refuse_image};
 use norprog_device::DeviceFault;
 use norprog_read::{Reading, first_by, read_chip};
-use norprog_work::{Work, work_for};
 use std::alloc::Global;
 
 /// A chip that was read.
@@ -40,14 +40,15 @@ pub struct Held {
     pub by: ReadBy,
 }
 
-/// Tests the line to a device, and reads its chip, which has to be able to take the work. Nothing
-/// is sent that changes the chip.
-pub fn hold<R: ByteIn, W: ByteOut>(
+/// Tests the line to a device, and reads its chip, which has to be able to take the work. How far
+/// the readings are goes to `progress`. Nothing is sent that changes the chip.
+pub fn hold<R: ByteIn, W: ByteOut, P: ByteOut>(
     alloc: Global,
     from: &mut R,
     to: &mut W,
     limits: &Limits,
     job: &Job<'_>,
+    progress: &mut P,
 ) -> Result<Held, Unflashed>
     requires asked { (job.now.ask.content ≡ true) }
     ensures held { IfOk result (λ held. HasHeld limits.now job.now
@@ -60,7 +61,7 @@ pub fn hold<R: ByteIn, W: ByteOut>(
         (wire (W.held to.new) (R.ahead from.new))) }
 {
     match test_line(from, to, limits) {
-        Ok(()) => read_suited(alloc, from, to, limits, job),
+        Ok(()) => read_suited(alloc, from, to, limits, job, progress),
         Err(why) => Err(Unflashed::Device(DeviceFault::Line(why))),
     }
 }
@@ -131,27 +132,28 @@ fn older<'a>(job: &Job<'a>, content: &'a [u8]) -> &'a [u8]
 
 /// Reads the chip, whose status has to show that it can take the work. The image has to keep the
 /// job's rules.
-fn read_suited<R: ByteIn, W: ByteOut>(
+fn read_suited<R: ByteIn, W: ByteOut, P: ByteOut>(
     alloc: Global,
     from: &mut R,
     to: &mut W,
     limits: &Limits,
     job: &Job<'_>,
+    progress: &mut P,
 ) -> Result<Held, Unflashed>
     requires asked { (job.now.ask.content ≡ true) }
     ensures read { IfOk result
-        (λ held. HasRead limits.now.asked job.now (wire (W.held to.old) (R.ahead from.old))
+        (λ held. HasRead (at_once limits.now) job.now (wire (W.held to.old) (R.ahead from.old))
         (wire (W.held to.new) (R.ahead from.new)) held.reading) }
     ensures way { IfOk result
         (λ held. GivesBy held.reading.meaning
         (start_of (task_on job.now held.reading)) held.by) }
     ensures stops { IfErr result
-        (StopsBefore limits.now.asked (wire (W.held to.old) (R.ahead from.old))
+        (StopsBefore (at_once limits.now) (wire (W.held to.old) (R.ahead from.old))
         (wire (W.held to.new) (R.ahead from.new)) job.now) }
     ensures harmless { MatchResult result (λ _. HasSentHarmless (W.held to.old) (W.held to.new))
         (λ _. SendsHarmless (W.held to.old) (W.held to.new)) }
 {
-    let reading = read_chip(alloc, from, to, limits, &job.ask)?;
+    let reading = read_chip(alloc, from, to, limits, &job.ask, progress)?;
     let start = start_at(job, reading.status);
     if is_closed(job, start, reading.status) {
         return Err(Unflashed::Closed(reading.status));

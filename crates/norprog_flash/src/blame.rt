@@ -5,8 +5,7 @@ ghost use Rattle.norprog_flash.specs.Blame.{fault_in, fault_of_ending, fault_of_
 
 use crate::ending::{Ending, Unflashed};
 use nor_serprog::Fault;
-use norprog_device::fault_of_greeting;
-use norprog_failure::fault_of_failure;
+use norprog_device::{fault_of_failure, fault_of_greeting};
 use norprog_read::fault_of_unlike;
 
 /// How the exchange ended early for which a job isn't done. None where it is done, and where no

@@ -3,28 +3,30 @@
 ghost use Rattle.std.specs.Prelude.{◌≡◌, true};
 ghost use Rattle.std.specs.Prelude.{IfOk, IfErr, List, Option, ℕ};
 ghost use Rattle.nor_job.specs.Status.{start_of};
+ghost use Rattle.nor_reader.specs.AtOnce.{at_once};
 ghost use Rattle.nor_reader.specs.Laws.{GivesBy};
 ghost use Rattle.norprog_flash.specs.Begun.{HasRead, IsPlannedOn, IsReadOn, printed};
 ghost use Rattle.norprog_flash.specs.Ended.{EndsWork, IsCompared, IsPlanned};
 ghost use Rattle.norprog_common.specs.declared.given.Aim.TheVariants as aim;
 ghost use Rattle.norprog_flash.specs.Stops.{CantPlan};
 ghost use Rattle.norprog_flash.specs.Task.{task_on};
-ghost use Rattle.norprog_common.specs.Wire.{Wire, wire};
+ghost use Rattle.nor_base.specs.Wire.{Wire, wire};
 ghost use Rattle.norprog_flash.specs.Worked.{GoesOn, session};
-ghost use Rattle.norprog_work.specs.Work.{plan_of};
+ghost use Rattle.norprog_flash.specs.Work.{plan_of};
 
 use crate::begun::{Held, print_plan};
 use crate::blank::blank_image;
+use crate::compared::compare;
 use crate::ending::Ending;
 use crate::job::{Job, inputs_for};
+use crate::planned::Work;
 use crate::work::do_work;
 use nor_base::{ByteIn, ByteOut};
 use nor_flasher::{breaks, closes, doable};
 use nor_serprog::{Limits, carried};
 use norprog_common::{Aim, Refusal};
-use norprog_failure::Failure;
+use norprog_device::Failure;
 use norprog_read::Reading;
-use norprog_work::{Work, compare};
 use std::alloc::Global;
 
 /// Plans for a chip that was read, and prints the plan. Then, where the work is wanted, it has the
@@ -42,10 +44,10 @@ pub fn go_on<R: ByteIn, W: ByteOut, O: ByteOut, P: ByteOut>(
     progress: &mut P,
 ) -> Result<Ending, Refusal>
     requires whole { job.now.ask.content ≡ true }
-    requires read { IsReadOn limits.now.asked job.now held.now.reading
+    requires read { IsReadOn (at_once limits.now) job.now held.now.reading
         × GivesBy held.now.reading.meaning
         (start_of (task_on job.now held.now.reading)) held.now.by }
-    ensures ends { (first : Wire) → HasRead limits.now.asked job.now first
+    ensures ends { (first : Wire) → HasRead (at_once limits.now) job.now first
         (wire (W.held to.old) (R.ahead from.old)) held.now.reading
         → IfOk result (EndsWork (session job.now limits.now held.now.reading) first
         (wire (W.held to.new) (R.ahead from.new)) (printed (O.held out.old) (O.held out.new))) }
@@ -74,10 +76,10 @@ fn work_through<R: ByteIn, W: ByteOut, O: ByteOut, P: ByteOut>(
     progress: &mut P,
 ) -> Result<Ending, Refusal>
     requires whole { (job.now.aim ≡ aim.Work) × (job.now.ask.content ≡ true) }
-    requires read { IsReadOn limits.now.asked job.now held.now.reading
+    requires read { IsReadOn (at_once limits.now) job.now held.now.reading
         × GivesBy held.now.reading.meaning
         (start_of (task_on job.now held.now.reading)) held.now.by }
-    ensures ends { (first : Wire) → HasRead limits.now.asked job.now first
+    ensures ends { (first : Wire) → HasRead (at_once limits.now) job.now first
         (wire (W.held to.old) (R.ahead from.old)) held.now.reading
         → IfOk result (EndsWork (session job.now limits.now held.now.reading) first
         (wire (W.held to.new) (R.ahead from.new)) (printed (O.held out.old) (O.held out.new))) }
@@ -134,7 +136,7 @@ fn work_on<R: ByteIn, W: ByteOut, P: ByteOut>(
     work: &Work,
     progress: &mut P,
 ) -> Ending
-    requires planned { IsPlannedOn limits.now.asked job.now held.now.reading
+    requires planned { IsPlannedOn (at_once limits.now) job.now held.now.reading
         (plan_of work.now) }
     requires way { GivesBy held.now.reading.meaning
         (start_of (task_on job.now held.now.reading)) held.now.by }

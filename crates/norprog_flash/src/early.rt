@@ -7,10 +7,10 @@ ghost use Rattle.norprog_flash.specs.Early.{IsSoundEarly, MeetsEarly, RefusesEar
 
 use crate::blank::blank_image;
 use crate::job::{Job, inputs_for};
+use crate::looked::look;
 use nor_job::{BuildFault, Inputs, chip_of};
 use norprog_common::{ImageRules, Refusal, refuse_image, refuse_partial};
 use norprog_read::Known;
-use norprog_work::look;
 use std::alloc::Global;
 
 /// A layout of which no region is named.

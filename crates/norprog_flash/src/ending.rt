@@ -6,10 +6,10 @@ ghost use Rattle.norprog_common.specs.declared.faults.Refusal.TheVariants.{Build
 ghost use Rattle.norprog_flash.specs.Stops.{of_reading};
 ghost use Rattle.norprog_flash.specs.declared.ending.Unflashed.TheVariants as unflashed;
 
+use crate::compared::Comparison;
 use norprog_common::Refusal;
-use norprog_failure::Failure;
+use norprog_device::Failure;
 use norprog_read::{DeviceFault, Unlike, Unread};
-use norprog_work::Comparison;
 
 /// How work on a chip ends.
 #[derive(Clone, Copy, PartialEq, Eq, Drop)]

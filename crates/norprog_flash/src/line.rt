@@ -3,14 +3,14 @@
 ghost use Rattle.nor_base.specs.Device.{Counts, Writes};
 ghost use Rattle.nor_base.specs.declared.meaning.Part.TheVariants.{Generic, W25q256jv};
 ghost use Rattle.norprog_flash.specs.Line.{closed_line, comparison_line, ending_line};
-ghost use Rattle.norprog_work.specs.declared.compared.Comparison.TheVariants.{Differs};
+ghost use Rattle.norprog_flash.specs.declared.compared.Comparison.TheVariants.{Differs};
 
+use crate::compared::Comparison;
 use crate::ending::Ending;
 use itoa::Buffer;
 use nor_base::{ByteOut, Failed, Part, put_parts};
 use nor_script::{hex_number, hex_pair};
-use norprog_failure::write_failure;
-use norprog_work::Comparison;
+use norprog_device::write_failure;
 
 /// Writes the line of an ending, closed by LF: `ok N` with the number of steps, or why one wasn't
 /// done, as [`write_failure`] does; `same N`, or in two lines what differs; of a plan nothing. It

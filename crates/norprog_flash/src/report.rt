@@ -7,13 +7,13 @@ ghost use Rattle.norprog_flash.specs.Answer.{family_of, state_told};
 ghost use Rattle.norprog_flash.specs.Line.{ending_line, is_partial, is_sent, status_of};
 ghost use Rattle.norprog_flash.specs.State.{state_front, state_line};
 
+use crate::compared::Comparison;
 use crate::ending::Ending;
 use crate::line::write_ending;
 use crate::options::{first_name, write_way_on};
 use nor_base::{ByteOut, Failed, Part, put_all, put_parts};
 use norprog_common::{FlashArgs, part, refuse_lines};
-use norprog_failure::Failure;
-use norprog_work::Comparison;
+use norprog_device::Failure;
 
 /// What is written around the name of the file that has what the chip held before the first try.
 const HALF_DONE: &[u8] = b"norprog: the chip is half done, and what it held is in ";

@@ -6,16 +6,16 @@ ghost use Rattle.nor_base.specs.Device.{Counts, Writes};
 ghost use Rattle.norprog_flash.specs.Way.{is_listed, last_text, lines_text, plan_text, way_line};
 ghost use Rattle.norprog_flash.specs.Task.{works};
 ghost use Rattle.norprog_flash.specs.Way.{way_text};
-ghost use Rattle.norprog_work.specs.Work.{plan_of};
+ghost use Rattle.norprog_flash.specs.Work.{plan_of};
 
 use crate::job::{Job, works};
 use crate::options::write_way_on;
+use crate::planned::Work;
 use itoa::Buffer;
 use nor_base::{ByteOut, Failed, Step, put_all, put_parts};
 use norprog::write_report;
 use norprog_common::FlashArgs;
 use norprog_read::{Reading, write_note};
-use norprog_work::Work;
 
 /// What comes before the command.
 const FRONT: &[u8] =

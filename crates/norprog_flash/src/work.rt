@@ -3,20 +3,19 @@
 ghost use Rattle.std.specs.Prelude.{◌≡◌, ◌<◌, ◌≤◌, ◌^◌, All, length};
 ghost use Rattle.nor_base.specs.Step.{expected};
 ghost use Rattle.nor_serprog.specs.Done.{IsDoable};
-ghost use Rattle.norprog_common.specs.Wire.{wire};
+ghost use Rattle.nor_base.specs.Wire.{wire};
 ghost use Rattle.norprog_flash.specs.Worked.{IsFailureAt, ReadsBack, WorksOut, back_of, session};
-ghost use Rattle.norprog_work.specs.Work.{plan_of};
+ghost use Rattle.norprog_flash.specs.Work.{plan_of};
 
 use crate::begun::Held;
 use crate::ending::Ending;
 use crate::job::Job;
+use crate::planned::Work;
 use nor_base::{ByteIn, ByteOut, Meaning, Step};
 use nor_flasher::{Halt, do_steps};
-use nor_probe::Mismatch;
-use nor_reader::{ReadBy, read_again, read_past};
+use nor_reader::{Mismatch, Pass, ReadBy, for_reading, read_again, read_past};
 use nor_serprog::Limits;
-use norprog_failure::{Failure, failure_by, failure_of};
-use norprog_work::Work;
+use norprog_device::{Failure, failure_by, failure_of};
 
 /// How a chip is read back.
 #[derive(Clone, Copy)]
@@ -57,7 +56,8 @@ pub(crate) fn do_work<R: ByteIn, W: ByteOut, P: ByteOut>(
         by: held.by,
         larger: job.ask.any_size,
     };
-    match read_back(from, to, limits, back, work.goal.as_slice()) {
+    let reading = for_reading(limits);
+    match read_back(from, to, &reading, back, work.goal.as_slice(), progress) {
         Ok(()) => Ending::Done { transactions },
         Err(why) => Ending::Failed {
             step: transactions,
@@ -68,18 +68,19 @@ pub(crate) fn do_work<R: ByteIn, W: ByteOut, P: ByteOut>(
 
 /// Has the device read the chip, which must give these bytes, and past its end what one that holds
 /// just these gives there, unless it may be larger.
-fn read_back<R: ByteIn, W: ByteOut>(
+fn read_back<R: ByteIn, W: ByteOut, P: ByteOut>(
     from: &mut R,
     to: &mut W,
     limits: &Limits,
     back: Back,
     bytes: &[u8],
+    progress: &mut P,
 ) -> Result<(), Mismatch>
     requires size { length bytes.now ≤ 2 ^ 32 }
     ensures back { ReadsBack limits.now.asked (wire (W.held to.old) (R.ahead from.old))
         (wire (W.held to.new) (R.ahead from.new)) result back bytes.now }
 {
-    read_again(from, to, limits, back.by, bytes)?;
+    read_again(from, to, limits, back.by, bytes, Pass::Last, progress)?;
     if back.larger {
         return Ok(());
     }

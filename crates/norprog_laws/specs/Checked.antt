@@ -9,6 +9,7 @@ use Rattle.nor_check.specs.Worst.{IsWorst}
 use Rattle.nor_job.specs.Status.{start_of}
 use Rattle.nor_job.specs.Task.{Task}
 use Rattle.nor_job.specs.Wanted.{wanted}
+use Rattle.nor_base.specs.Wire.{wire}
 use Rattle.norprog.specs.Build.{WroteScript}
 use Rattle.norprog_check.specs.declared.finding.Finding.{Finding}
 use Rattle.norprog_check.specs.Checked.{IsChecked, checking}
@@ -16,7 +17,7 @@ use Rattle.norprog_check.specs.Checked.{IsChecked, checking}
 -- whatever steps the text that was appended spells, the worst verdict on them is Yes
 abbrev pub BuiltIsRight : Type 0
 BuiltIsRight = (t : Task) (len : ℕ) (before after : Ahead) (x y : Option (List ℕ))
-    → (wrote : WroteScript t len before after x y) → (steps : List Step) (v : Verdict) → IsScript wrote.text steps
+    → (wrote : WroteScript t len (wire x before) (wire y after)) → (steps : List Step) (v : Verdict) → IsScript wrote.text steps
     → IsWorst wrote.m (start_of t) wrote.content (wanted t wrote.image wrote.regions wrote.content) steps v → v ≡ Yes
 
 -- the reader tells its bytes
@@ -28,4 +29,4 @@ Tells (Endless byte_at) = ⊤
 -- a check of that text, for the same inputs and with the same bytes ahead, finds Yes
 abbrev pub BuiltIsChecked : Type 0
 BuiltIsChecked = (t : Task) (len : ℕ) (before after rest : Ahead) (x y : Option (List ℕ)) (found : Finding)
-    → (wrote : WroteScript t len before after x y) → Tells before → IsChecked (checking t len before rest) wrote.text found → found.verdict ≡ Yes
+    → (wrote : WroteScript t len (wire x before) (wire y after)) → Tells before → IsChecked (checking t len before rest) wrote.text found → found.verdict ≡ Yes

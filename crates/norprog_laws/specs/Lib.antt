@@ -3,3 +3,4 @@ pub mod Checked
 pub mod Played
 pub mod Read
 pub mod Shown
+pub mod Laws

@@ -7,7 +7,7 @@ use Rattle.nor_base.specs.Chip.{Chip, ready}
 use Rattle.nor_base.specs.Run.{Stop}
 use Rattle.nor_check.specs.declared.verdict.Why.{Why}
 use Rattle.nor_check.specs.declared.verdict.Why.TheVariants as why
-use Rattle.nor_check.specs.Witness.{Witnesses, even_chip}
+use Rattle.nor_check.specs.Witness.{Witnesses, even_chip, even}
 use Rattle.nor_play.specs.Play.{play}
 
 -- a play goes wrong at this step for this cause; or it ends well, after as many steps, with another byte there than the target
@@ -20,5 +20,5 @@ ShowsSo (why.Differs a) step count want (Err stop) = ⊥
 -- with any limit on polls above its number of status reads
 abbrev pub NoIsReplayed : Type 0
 NoIsReplayed = (m : Parameters) (start : Start) (have want : List ℕ) (steps : List Step) (step : ℕ) (why : Why) (n page limit many : ℕ) (keeps : Bool)
-    → Witnesses m start have want steps step why n keeps page → n < limit → length steps ≤ many
+    → Witnesses m start have want steps step why (even n keeps page) → n < limit → length steps ≤ many
     → ShowsSo why step (length steps) want (play (even_chip m start many n keeps page) limit (ready (even_chip m start many n keeps page) have) steps)

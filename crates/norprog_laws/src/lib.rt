@@ -1,7 +1,9 @@
-//! What a build, a check and a play say of each other. Each function asks for laws of the
+//! What a build, a check and a play say of each other, and a sheet and what `sfdp` prints. Each
+//! function asks for laws of the
 //! definitions and does nothing else: its contract is the law.
 #![tactic(auto)]
 
+mod sheets;
 pub mod worked;
 
 ghost use Rattle.norprog_laws.specs.Checked.{BuiltIsRight, BuiltIsChecked};
@@ -10,6 +12,7 @@ ghost use Rattle.norprog_laws.specs.Replay.{NoIsReplayed};
 ghost use Rattle.norprog_laws.specs.Shown.{NoIsRun};
 
 use nor_laws::{bounded_runs, script_texts};
+pub use sheets::printed_sheets;
 
 /// Of what a build wrote, a check says yes: whatever steps the text that it appended spells, the
 /// worst verdict on them, on the chips, content and target of the build, is Yes; and Yes is what a

@@ -1,9 +1,9 @@
 -- How the steps of `hex` that end it do.
 use Rattle.std.proofs.Common.{◌≡◌, ◌⊎◌, ℕ, inl, inr, List, [], ◌∷◌, Option, Ok, Err, subst, sym, take}
 use Rattle.nor_base.specs.Device.{Ahead}
-use Rattle.nor_hex_out.specs.Converted as hex
-use Rattle.nor_hex_out.specs.Segments.{hex_text}
-use Rattle.nor_hex_out.specs.declared.image.Unconverted.{Unconverted}
+use Rattle.nor_hex.specs.Converted as hex
+use Rattle.nor_hex.specs.WrittenSegments.{hex_text}
+use Rattle.nor_hex.specs.declared.converted.Unconverted.{Unconverted}
 use Rattle.norprog_files.specs.Files.{Event, IsClosed, Leaves_it, Loses, Loses_some, Lost, Made, Opened, Sends_all, Sent}
 use Rattle.norprog_files.specs.declared.replaced.OutKind.TheVariants.{Hex}
 use Rattle.norprog_named.specs.Hex.{BadImage, BadOutput, Converted, Cut, EndsHex, IsUnended, NoMemory, refusal_of}

@@ -11,6 +11,7 @@ use Rattle.nor_listing.specs.declared.stream.Stop.TheVariants as stop
 use Rattle.nor_script.specs.Stream.{IsTextOf}
 use Rattle.nor_script.specs.declared.fault.ReadFault.TheVariants as read
 use Rattle.nor_script.specs.declared.fault.ScriptFault.TheVariants as script
+use Rattle.nor_base.specs.Wire.{wire}
 use Rattle.norprog_common.specs.Chip.{origin_of}
 use Rattle.norprog_common.specs.Setup.{IsKnown, setup_task}
 use Rattle.norprog_files.specs.Files.{Event, Opened}
@@ -31,11 +32,11 @@ module _ {t : Task} {m : Parameters} {four : Bool} {ahead : Ahead} (Unread : Typ
   of : (text : List ℕ) → IsTextOf ahead rest text → IsListingOf r (record { chip = m; four = four; text = text }) log
   of text had = record { task = t; script = ahead; rest = rest; opens = opened; known = known; begins = begins; text = had }
 
-  pub listed : Lists m four ahead rest out.before out.after (Ok tt) → EndsList Unread r out log (Ok 0)
+  pub listed : Lists m four (wire out.before ahead) (wire out.after rest) (Ok tt) → EndsList Unread r out log (Ok 0)
   listed did = Listed _ log (of did.0 did.1) did.2
 
   -- its reader failed, or the output did, where its count of failures rose
-  pub stopped : (n n' k k' : ℕ) (s : Stop) → Lists m four ahead rest out.before out.after (Err s) → CountsStop n n' (Err s) → CountsOut {T = Unit {0}} k k' (Err s)
+  pub stopped : (n n' k k' : ℕ) (s : Stop) → Lists m four (wire out.before ahead) (wire out.after rest) (Err s) → CountsStop n n' (Err s) → CountsOut {T = Unit {0}} k k' (Err s)
       → (n' ≡ one_more n → Unread) → (k' ≡ one_more k → Fails out) → EndsList Unread r out log (Err (refusal_of s))
   stopped n n' k k' (stop.Script (read.Script (script.Header i))) did reads writes unread broke = BadScript _ log (script.Header i) (of did.0 did.1) did.2
   stopped n n' k k' (stop.Script (read.Script (script.BadLine i))) did reads writes unread broke = BadScript _ log (script.BadLine i) (of did.0 did.1) did.2

@@ -13,7 +13,7 @@ use Rattle.norprog_common.specs.Content.{of_reader}
 use Rattle.norprog_common.specs.declared.faults.FileName.TheVariants as file
 use Rattle.norprog_common.specs.declared.faults.Refusal.{Refusal}
 use Rattle.norprog_common.specs.declared.faults.Refusal.TheVariants.{Build, File}
-use Rattle.norprog_common.specs.Wire.{Wire}
+use Rattle.nor_base.specs.Wire.{Wire}
 use Rattle.norprog_files.specs.Files.{Unwired, Wired}
 use Rattle.norprog_named.specs.Play.{EndsPlaying, OnDevice, Stopped, begun}
 use Rattle.norprog_player.specs.Expected.{Expectation, Play}

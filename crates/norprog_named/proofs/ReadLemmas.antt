@@ -1,6 +1,6 @@
 -- A chip that was read, or wasn't.
 use Rattle.std.proofs.Common.{ℕ, List, [], ◌∷◌, Result, Ok, Err, IfOk, IfErr}
-use Rattle.norprog_common.specs.Wire.{Wire}
+use Rattle.nor_base.specs.Wire.{Wire}
 use Rattle.norprog_files.specs.Files.{Unwired, Wired}
 use Rattle.norprog_read.specs.Opened.{HasReadOpened, StopsOpened}
 use Rattle.norprog_read.specs.declared.asked.Ask.{Ask}

@@ -34,7 +34,7 @@ use Rattle.norprog_named.specs.Plan.{AsksPlan, EndsPlan}
 use Rattle.norprog_named.specs.Run.{EndsRun}
 use Rattle.norprog_named.specs.Script.{EndsScript}
 use Rattle.norprog_named.specs.Sfdp.{EndsSfdp}
-use Rattle.norprog_draw.specs.Request as draw
+use Rattle.norprog_script.specs.DrawRequest as draw
 use Rattle.norprog_run.specs.Request as run
 use Rattle.norprog_run.specs.Verdict.{status_of, verdict_line}
 use Rattle.norprog_run.specs.declared.request.RunRequest.{RunRequest}

@@ -6,6 +6,7 @@ use Rattle.nor_job.specs.declared.fault.BuildFault.{BuildFault}
 use Rattle.nor_job.specs.declared.fault.BuildFault.TheVariants as fault
 use Rattle.nor_job.specs.Causes.{RefusesInputs}
 use Rattle.nor_job.specs.Task.{Task}
+use Rattle.nor_base.specs.Wire.{wire}
 use Rattle.norprog.specs.Build.{IsBuilt, StopsWork}
 use Rattle.norprog.specs.declared.report.Report.{Report}
 use Rattle.norprog_common.specs.Rules.{BreaksRules, MeetsRules}
@@ -34,7 +35,7 @@ work t len by = record { task = t; len = len; content = by.ahead; rest = by.rest
 
 -- the headline's: the script of the task was written whole, and this is its report
 abbrev pub IsBuiltBy : Work → Report → Type 0
-IsBuiltBy w report = IsBuilt w.task w.len w.content w.rest w.begun w.ended report
+IsBuiltBy w report = IsBuilt w.task w.len (wire w.begun w.content) (wire w.ended w.rest) report
 
 -- why a job isn't done: its image breaks a rule, the inputs are refused, or the work stops so (`Stops`), where the reader (`Unread`) or the
 -- writer (`Unwritten`) failed if that is told
@@ -46,7 +47,7 @@ pub data Undone (rules : ImageRules) (w : Work) (Stops : BuildFault → Type 0) 
 
 -- why nothing is built: the work stops, and what the output took is no whole script
 abbrev pub Unbuilt : ImageRules → Work → Type 0 → Type 0 → Refusal → Type 0
-Unbuilt rules w = Undone rules w (StopsWork w.task w.len w.content w.rest w.begun w.ended)
+Unbuilt rules w = Undone rules w (StopsWork w.task w.len (wire w.begun w.content) (wire w.ended w.rest))
 
 -- how `build` ends, and what was done with files by then
 pub data EndsBuild (Unread : Type 0) (r : Request) (out : OutFile) : List Event → Result Report Refusal → Type 0 where

@@ -7,8 +7,8 @@ use Rattle.nor_waves.specs.Waves.{waves}
 use Rattle.norprog_common.specs.declared.faults.FileName.TheVariants as file
 use Rattle.norprog_common.specs.declared.faults.Refusal.{Refusal}
 use Rattle.norprog_common.specs.declared.faults.Refusal.TheVariants.{Build}
-use Rattle.norprog_draw.specs.Drawn.{IsThere, RefusesSteps, part}
-use Rattle.norprog_draw.specs.declared.request.DrawRequest.{DrawRequest}
+use Rattle.norprog_script.specs.Drawn.{IsThere, RefusesSteps, part}
+use Rattle.norprog_script.specs.declared.draw_request.DrawRequest.{DrawRequest}
 use Rattle.norprog_files.specs.Files.{Event, Denied, Denies, Given, Loses, Sends}
 use Rattle.norprog_files.specs.declared.replaced.OutKind.TheVariants as kind
 

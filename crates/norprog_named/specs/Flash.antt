@@ -11,7 +11,7 @@ use Rattle.norprog_common.specs.declared.faults.Refusal.{Refusal}
 use Rattle.norprog_device.specs.Blame.{is_cut}
 use Rattle.norprog_device.specs.Opened.{LetsGo}
 use Rattle.norprog_device.specs.declared.fault.DeviceFault.TheVariants.{Greet}
-use Rattle.norprog_common.specs.Wire.{Wire}
+use Rattle.nor_base.specs.Wire.{Wire}
 use Rattle.norprog_files.specs.Files.{Event, Denied, Denies, Given, StopsOpening, Unwired, Wired}
 use Rattle.norprog_flash.specs.Begun.{Printed}
 use Rattle.norprog_flash.specs.Blame.{fault_in}
@@ -148,10 +148,10 @@ pub data EndsHeld (limits : Limits) (name : List ℕ) (job : Job) (begun done : 
 pub data EndsGreeted (name : List ℕ) (job : Job) (first last : Wire) (out : Printed) : List Event → Result Ending Unflashed → Type 0 where
   -- the device reported these limits, and the job ended so; then the pins were let go, unless a request was cut
   Session : (limits : Limits) (begun done : Wire) (log : List Event) (answer : Result Ending Unflashed)
-      → Greeted first.held begun.held first.ahead begun.ahead (Ok limits) → EndsHeld limits name job begun done out log answer
+      → Greeted first begun (Ok limits) → EndsHeld limits name job begun done out log answer
       → LetsGo done last (limits.pins && not (is_cut (fault_in answer))) → EndsGreeted name job first last out log answer
   -- the handshake ended early
-  NotGreeted : (why : GreetFault) → Greeted first.held last.held first.ahead last.ahead (Err why) → out.after ≡ out.before
+  NotGreeted : (why : GreetFault) → Greeted first last (Err why) → out.after ≡ out.before
       → EndsGreeted name job first last out [] (Err (Device (Greet why)))
 
 -- of a job on the device of a name

@@ -1,10 +1,10 @@
 -- How `hex` ends (this project's).
 use Rattle.std.specs.Prelude.{◌⊎◌, ℕ, ◌+◌, ◌<◌, ◌≤◌, ◌^◌, List, [], ◌∷◌, length, take, Result, Ok, Err}
 use Rattle.nor_base.specs.Device.{Ahead}
-use Rattle.nor_hex_out.specs.Converted.{HasOtherLength, IsWhole}
-use Rattle.nor_hex_out.specs.Segments.{hex_text}
-use Rattle.nor_hex_out.specs.declared.image.Unconverted.{Unconverted}
-use Rattle.nor_hex_out.specs.declared.image.Unconverted.TheVariants.{Image, Output, Memory}
+use Rattle.nor_hex.specs.Converted.{HasOtherLength, IsWhole}
+use Rattle.nor_hex.specs.WrittenSegments.{hex_text}
+use Rattle.nor_hex.specs.declared.converted.Unconverted.{Unconverted}
+use Rattle.nor_hex.specs.declared.converted.Unconverted.TheVariants.{Image, Output, Memory}
 use Rattle.nor_job.specs.declared.fault.BuildFault.TheVariants as fault
 use Rattle.norprog_common.specs.declared.faults.FileName.TheVariants as file
 use Rattle.norprog_common.specs.declared.faults.Refusal.{Refusal}

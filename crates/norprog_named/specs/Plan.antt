@@ -5,6 +5,7 @@ use Rattle.nor_job.specs.Written.{passed}
 use Rattle.nor_base.specs.Device.{Ahead, Cuts}
 use Rattle.nor_job.specs.Task.{Task}
 use Rattle.nor_job.specs.declared.fault.BuildFault.TheVariants as fault
+use Rattle.nor_base.specs.Wire.{wire}
 use Rattle.norprog.specs.Plan.{StopsPlan}
 use Rattle.norprog_common.specs.Request as job
 use Rattle.norprog_common.specs.Rules.{MeetsRules}
@@ -69,7 +70,7 @@ pub record TellsJob (r : PlanRequest) (o : Outline) (job : List Event) : Type 0 
 
 -- why a plan isn't told: it stops, and just the lines before that were printed
 abbrev pub Untold : ImageRules → Work → Type 0 → Type 0 → Refusal → Type 0
-Untold rules w = Undone rules w (StopsPlan w.task w.len w.content w.rest w.begun w.ended)
+Untold rules w = Undone rules w (StopsPlan w.task w.len (wire w.begun w.content) (wire w.ended w.rest))
 
 -- how `plan` ends, and what was done with files by then
 pub data EndsPlan (Unread : Type 0) (r : PlanRequest) (out : Output) : List Event → Result ℕ Refusal → Type 0 where

@@ -10,7 +10,7 @@ use Rattle.norprog_common.specs.declared.faults.FileName.{FileName}
 use Rattle.norprog_common.specs.declared.faults.FileName.TheVariants as file
 use Rattle.norprog_common.specs.declared.faults.Refusal.{Refusal}
 use Rattle.norprog_common.specs.declared.faults.Refusal.TheVariants.{Build, File}
-use Rattle.norprog_common.specs.Wire.{Wire}
+use Rattle.nor_base.specs.Wire.{Wire}
 use Rattle.norprog_files.specs.Files.{Event, Denied, Denies, Opened, StopsOpening, Unwired, Wired}
 use Rattle.norprog_named.specs.Job.{ReadsTables, origin_files}
 use Rattle.norprog_player.specs.Early.{EndsInMemory, MayPlay}

@@ -3,7 +3,7 @@ use Rattle.std.specs.Prelude.{ℕ, List, [], ◌∷◌, ◌++◌, option_map, Re
 use Rattle.norprog_common.specs.Chip.{origin_of}
 use Rattle.norprog_common.specs.declared.faults.FileName.TheVariants as file
 use Rattle.norprog_common.specs.declared.faults.Refusal.{Refusal}
-use Rattle.norprog_common.specs.Wire.{Wire}
+use Rattle.nor_base.specs.Wire.{Wire}
 use Rattle.norprog_files.specs.Files.{Event, Denied, Denies, StopsOpening, Unwired, Wired}
 use Rattle.norprog_named.specs.Job.{ReadsNamed, chip_files}
 use Rattle.norprog_named.specs.Saved.{SavesIf}

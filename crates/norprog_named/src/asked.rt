@@ -25,10 +25,9 @@ use norprog_common::{
     BuildArgs, CheckArgs, ChipArgs, DrawArgs, HexArgs, ListArgs, PlanArgs, Refusal, RunArgs,
     ScriptArgs, SetupArgs, request_of as job_of, setup_of,
 };
-use norprog_draw::request_of as drawing_of;
 use norprog_files::{Files, Trail};
 use norprog_run::{request_of as play_of, status_of, write_verdict};
-use norprog_script::{request_of as log_of, write_tally};
+use norprog_script::{drawing_of, request_of as log_of, write_tally};
 use std::alloc::Global;
 
 /// Does what the values of a command line of `hex` ask for. Returns the status, 0.

@@ -28,14 +28,15 @@ use norprog_read::{Reading, Unread, request_of as reading_of, write_reading, wri
 use std::alloc::Global;
 
 /// Does what the values of a command line of `read` ask for. The lines go to `out`, a refusal to
-/// `err`. Returns the status: 0 read, 1 not so or refused, 2 usage.
-pub fn read_asked<F: Files, O: ByteOut, E: ByteOut>(
+/// `err`; how far it is to `progress`. Returns the status: 0 read, 1 not so or refused, 2 usage.
+pub fn read_asked<F: Files, O: ByteOut, E: ByteOut, P: ByteOut>(
     alloc: Global,
     files: &F,
     trail: &mut F::Trail,
     given: ReadArgs<'_>,
     out: &mut O,
     err: &mut E,
+    progress: &mut P,
 ) -> u8
     ensures status { result ≤ 3 }
     ensures quiet { result ≡ 0 → err.new ≡ err.old }
@@ -44,21 +45,22 @@ pub fn read_asked<F: Files, O: ByteOut, E: ByteOut>(
         (output O.held O.count out.old out.new) (output E.held E.count err.old err.new)
         result)) }
 {
-    report_read(read_given(alloc, files, trail, given), out, err)
+    report_read(read_given(alloc, files, trail, given, progress), out, err)
 }
 
 /// Reads.
-fn read_given<F: Files>(
+fn read_given<F: Files, P: ByteOut>(
     alloc: Global,
     files: &F,
     trail: &mut F::Trail,
     given: ReadArgs<'_>,
+    progress: &mut P,
 ) -> Result<Reading, Unread>
     ensures { Did (F.Trail.did trail.old) (F.Trail.did trail.new)
         (λ log. EndsReadAsked given.entry log result) }
 {
     match reading_of(given) {
-        Some(request) => read(alloc, files, trail, request),
+        Some(request) => read(alloc, files, trail, request, progress),
         None => Err(Unread::Refused(Refusal::Usage)),
     }
 }

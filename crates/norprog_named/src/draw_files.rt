@@ -4,8 +4,8 @@ ghost use Rattle.norprog_files.specs.Files.{Did};
 ghost use Rattle.norprog_named.specs.Draw.{EndsDraw};
 
 use norprog_common::{FileName, Refusal};
-use norprog_draw::{DrawRequest, draw_steps, steps_of};
 use norprog_files::{Files, OutKind, Trail};
+use norprog_script::{DrawRequest, draw_steps, steps_of};
 use std::alloc::Global;
 
 /// Draws the steps of a script that are asked for (docs/FORMATS.md, section 9). Returns the status,

@@ -3,7 +3,7 @@
 ghost use Rattle.std.specs.Prelude.{◌≡◌, ◌&&◌, not, true, IfErr, IfOk, option_map};
 ghost use Rattle.norprog_common.specs.Image.{image_in};
 ghost use Rattle.norprog_device.specs.Blame.{is_cut};
-ghost use Rattle.norprog_common.specs.Wire.{wire};
+ghost use Rattle.nor_base.specs.Wire.{wire};
 ghost use Rattle.norprog_files.specs.Files.{Did};
 ghost use Rattle.norprog_flash.specs.Blame.{fault_in as told_in};
 ghost use Rattle.norprog_named.specs.Flash.{EndsFlash, EndsGreeted, EndsHeld, EndsJob};
@@ -323,7 +323,7 @@ fn flash_held<F: Files, O: ByteOut, P: ByteOut>(
         (printed (O.held out.old) (O.held out.new)) log result) }
     ensures works { StillWorks result (O.count out.old) (O.count out.new) }
 {
-    let held = hold(alloc, from, to, limits, job)?;
+    let held = hold(alloc, from, to, limits, job, progress)?;
     let content = held.reading.content.as_slice();
     let path = file_for(job, before);
     save_if(alloc, files, trail, path, FileName::Before, content)?;

@@ -5,7 +5,7 @@ ghost use Rattle.norprog_files.specs.Files.{Did};
 ghost use Rattle.norprog_named.specs.Hex.{EndsHex, refusal_of as told_of};
 
 use crate::hex_request::HexRequest;
-use nor_hex_out::{Unconverted, convert, fits};
+use nor_hex::{Unconverted, convert, fits};
 use norprog_common::{FileName, Refusal};
 use norprog_files::{Files, OutKind, Trail};
 use std::alloc::Global;

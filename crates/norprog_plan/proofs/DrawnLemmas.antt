@@ -6,7 +6,7 @@ use Rattle.nor_job.specs.declared.job.Job.{Job}
 use Rattle.nor_map.specs.Cells.{Wanted}
 use Rattle.nor_map.specs.Marks.{Marks, marks_of}
 use Rattle.nor_map.specs.Totals.{Prints, totals_text}
-use Rattle.nor_plan_read.specs.declared.line.PlanLine.{PlanLine}
+use Rattle.nor_outline.specs.declared.line.PlanLine.{PlanLine}
 use Rattle.norprog_plan.specs.Outline.{IsDrawn, IsPicture}
 use Rattle.norprog_plan.specs.Sums.{wanted_of}
 

@@ -10,7 +10,7 @@ use Rattle.nor_job.specs.Written.{CountsReader, CountsWriter, passed}
 use Rattle.nor_job.specs.declared.fault.BuildFault.{BuildFault}
 use Rattle.nor_job.specs.declared.fault.BuildFault.TheVariants.{Memory}
 use Rattle.nor_job.specs.declared.job.Job.{Job}
-use Rattle.nor_plan_read.specs.Lines.{lines_text}
+use Rattle.nor_outline.specs.Lines.{lines_text}
 use Rattle.norprog.specs.declared.report.Report.{Report}
 use Rattle.norprog_plan.specs.Outline.{IsOutline, IsPicture, behind_lines, outline}
 use Rattle.norprog_plan.specs.Regions.{EndsWith}

@@ -16,11 +16,12 @@ use Rattle.nor_job.specs.Job.{IsJob}
 use Rattle.nor_job.specs.Task.{Task}
 use Rattle.nor_map.specs.Cells.{Wanted}
 use Rattle.nor_map.specs.Marks.{Marks, erases, marks_of, programs}
-use Rattle.nor_plan_read.specs.Lines.{line_words, lines_text}
-use Rattle.nor_plan_read.specs.declared.line.PlanLine.{PlanLine}
-use Rattle.nor_plan_read.specs.declared.line.PlanLine.TheVariants.{Because}
+use Rattle.nor_outline.specs.Lines.{line_words, lines_text}
+use Rattle.nor_outline.specs.declared.line.PlanLine.{PlanLine}
+use Rattle.nor_outline.specs.declared.line.PlanLine.TheVariants.{Because}
 use Rattle.nor_times.specs.Bus.{is_work}
 use Rattle.nor_times.specs.declared.times.Times.{Times}
+use Rattle.nor_base.specs.Wire.{wire}
 use Rattle.norprog.specs.Planner.{Planning, IsReady, HasTold, GoesOn, EndsPlan, AreFew, CutsAnywhere, CutsPlan as StopsLines}
 use Rattle.norprog.specs.Windows.{IsCutPlan}
 use Rattle.norprog.specs.declared.report.Report.{Report}
@@ -66,11 +67,11 @@ prints_lines p q job begun done a b x y (Err why) same all ends = tt
 
 -- or it isn't closed
 pub cuts_lines : (p q : Planning) (job : Job) (begun done : Sums) (a b : Ahead) (x y : Option (List ℕ)) (r : Result Report BuildFault) → p.job ≡ job
-    → PrintsAll p q begun done (passed a b x y) → IfErr r (λ why. (ahead : Ahead) → StopsLines q ahead ahead why) → IfErr r (IsCutPlan job a b x y)
+    → PrintsAll p q begun done (passed a b x y) → IfErr r (λ why. (ahead : Ahead) → StopsLines q ahead ahead why) → IfErr r (IsCutPlan job (wire x a) (wire y b))
 cuts_lines p q job begun done a b x y (Ok report) same all stops = tt
 cuts_lines p q job begun done a b x y (Err why) same all stops =
     let so = all.printed in
-    subst (λ (j : Job). IsCutPlan j a b x y why) (all.job ∙ same) (stops b a so.lines x y so.told so.put)
+    subst (λ (j : Job). IsCutPlan j (wire x a) (wire y b) why) (all.job ∙ same) (stops b a so.lines x y so.told so.put)
 
 pub lines_two : (these more : List PlanLine) → lines_text (these ++ more) ≡ lines_text these ++ lines_text more
 lines_two these more = flat_map-append (λ (l : PlanLine). closed (line_words l)) these more
@@ -88,7 +89,7 @@ adds_window p q begun done more a b c x y z lines so same told added put = recor
 
 -- the writer stopped at the lines of a window
 pub cut_window : CutsAnywhere → (p q : Planning) (begun done : Sums) (a b c : Ahead) (x y z : Option (List ℕ)) (lines : List PlanLine) → (so : HasPrinted p begun done (passed a b x y))
-    → IsReady q → HasTold q a c (so.lines ++ lines) → Cuts y z (lines_text lines) → IsCutPlan q.job a c x z fault.Write
+    → IsReady q → HasTold q a c (so.lines ++ lines) → Cuts y z (lines_text lines) → IsCutPlan q.job (wire x a) (wire z c) fault.Write
 cut_window anywhere p q begun done a b c x y z lines so ready told cut =
     let text = lines_text lines in
     let front = lines_text so.lines ++ take cut.0 text in
@@ -98,7 +99,7 @@ cut_window anywhere p q begun done a b c x y z lines so ready told cut =
 
 -- or nothing of them was written, since a growth was refused
 pub cut_before : CutsAnywhere → (p q : Planning) (begun done : Sums) (a b c : Ahead) (x y : Option (List ℕ)) (lines : List PlanLine) → (so : HasPrinted p begun done (passed a b x y))
-    → IsReady q → HasTold q a c (so.lines ++ lines) → IsCutPlan q.job a c x y fault.Memory
+    → IsReady q → HasTold q a c (so.lines ++ lines) → IsCutPlan q.job (wire x a) (wire y c) fault.Memory
 cut_before anywhere p q begun done a b c x y lines so ready told =
     anywhere q a c x y (so.lines ++ lines) (lines_text so.lines) (lines_text lines) fault.Memory ready told (lines_two so.lines lines) so.put (inr refl)
 
@@ -116,9 +117,9 @@ prints_all p l q begun done a b c x y ready job so same still whole =
 
 -- all were, and memory may run out after them
 pub cut_after : {T : Type 0} → CutsAnywhere → (p q : Planning) (job : Job) (begun done : Sums) (a b : Ahead) (x y : Option (List ℕ)) (r : Result T BuildFault) → p.job ≡ job
-    → PrintsAll p q begun done (passed a b x y) → IfOk r (λ _. IsCutPlan job a b x y fault.Memory)
+    → PrintsAll p q begun done (passed a b x y) → IfOk r (λ _. IsCutPlan job (wire x a) (wire y b) fault.Memory)
 cut_after anywhere p q job begun done a b x y (Err why) same all = tt
 cut_after anywhere p q job begun done a b x y (Ok report) same all =
     let so = all.printed in
-    subst (λ (j : Job). IsCutPlan j a b x y fault.Memory) (all.job ∙ same)
+    subst (λ (j : Job). IsCutPlan j (wire x a) (wire y b) fault.Memory) (all.job ∙ same)
     (anywhere q a b x y so.lines (lines_text so.lines) [] fault.Memory all.ready so.told (sym (append-nil (lines_text so.lines))) so.put (inr refl))

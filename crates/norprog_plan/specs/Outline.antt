@@ -11,8 +11,8 @@ use Rattle.nor_layout.specs.declared.chosen.Interval.{Interval}
 use Rattle.nor_layout.specs.Region.{Region}
 use Rattle.nor_map.specs.Marks.{Marks, marks_of}
 use Rattle.nor_map.specs.Totals.{Prints, totals_text}
-use Rattle.nor_plan_read.specs.Lines.{lines_text}
-use Rattle.nor_plan_read.specs.declared.line.PlanLine.{PlanLine}
+use Rattle.nor_outline.specs.Lines.{lines_text}
+use Rattle.nor_outline.specs.declared.line.PlanLine.{PlanLine}
 use Rattle.nor_times.specs.declared.times.Times.{Times}
 use Rattle.nor_times.specs.Times.{times_of}
 use Rattle.nor_times.specs.Busy.{busy_of}

@@ -7,8 +7,8 @@ use Rattle.nor_job.specs.Task.{Task}
 use Rattle.nor_job.specs.Written.{Passed}
 use Rattle.nor_map.specs.Cells.{Wanted}
 use Rattle.nor_map.specs.Marks.{erases, marks_of, programs}
-use Rattle.nor_plan_read.specs.Lines.{lines_text}
-use Rattle.nor_plan_read.specs.declared.line.PlanLine.{PlanLine}
+use Rattle.nor_outline.specs.Lines.{lines_text}
+use Rattle.nor_outline.specs.declared.line.PlanLine.{PlanLine}
 use Rattle.nor_times.specs.Bus.{is_work}
 use Rattle.nor_times.specs.Timing.{timing_of}
 use Rattle.nor_times.specs.declared.times.Times.{Times}

@@ -12,7 +12,7 @@ ghost use Rattle.nor_job.specs.Status.{start_of};
 ghost use Rattle.nor_job.specs.Task.{Task};
 ghost use Rattle.nor_job.specs.Written.{CountsReader, CountsWriter, passed};
 ghost use Rattle.nor_job.specs.declared.fault.BuildFault.TheVariants.{Memory};
-ghost use Rattle.nor_plan_read.specs.declared.line.PlanLine.{PlanLine as Line};
+ghost use Rattle.nor_outline.specs.declared.line.PlanLine.{PlanLine as Line};
 ghost use Rattle.nor_times.specs.Timing.{timing_of};
 ghost use Rattle.nor_times.specs.declared.times.Times.{Times as KnownTimes};
 ghost use Rattle.norprog.specs.Plan.{StopsPlan};
@@ -22,6 +22,7 @@ ghost use Rattle.norprog_plan.specs.Outline.{IsOutline, IsPicture, behind_lines,
 ghost use Rattle.norprog_plan.specs.Outline.{tables_times};
 ghost use Rattle.norprog_plan.specs.Regions.{EndsWith};
 ghost use Rattle.norprog_plan.specs.Sums.{AreSums, PrintsAll, PrintsLines};
+ghost use Rattle.nor_base.specs.Wire.{wire};
 
 use crate::drawing::draw_where_asked;
 use crate::regions::with_regions;
@@ -29,7 +30,7 @@ use crate::sums::Sums;
 use nor_base::{ByteIn, ByteOut, Failed, IntoWrite};
 use nor_job::{BuildFault, Inputs, Job, job_of};
 use nor_map::Title;
-use nor_plan_read::write_lines;
+use nor_outline::write_lines;
 use nor_times::PlanTimes;
 use norprog::{Planner, Report, planned_lines, write_report};
 use std::alloc::Global;
@@ -74,8 +75,8 @@ pub fn tell<R: ByteIn, O: ByteOut>(
     ensures refused { IfErr result
         (λ why. (RefusesInputs inputs.now len why × (content.new ≡ content.old)
         × (out.new ≡ out.old))
-        ⊎ StopsPlan inputs.now len (R.ahead content.old) (R.ahead content.new) (O.held out.old)
-        (O.held out.new) why) }
+        ⊎ StopsPlan inputs.now len (wire (O.held out.old) (R.ahead content.old))
+        (wire (O.held out.new) (R.ahead content.new)) why) }
     ensures counts { CountsReader (R.count content.old) (R.count content.new) result
         × CountsWriter (O.count out.old) (O.count out.new) result }
 {
@@ -102,10 +103,10 @@ fn print_lines<R: ByteIn, O: ByteOut>(
     requires sums { (times : Option KnownTimes) × AreSums job.now times sums.old [] }
     ensures printed { IfOk result (PrintsLines job.now sums.old sums.new
         (passed (R.ahead content.old) (R.ahead content.new) (O.held out.old) (O.held out.new))) }
-    ensures cut { IfErr result (IsCutPlan job.now (R.ahead content.old) (R.ahead content.new)
-        (O.held out.old) (O.held out.new)) }
-    ensures memory { IfOk result (λ _. IsCutPlan job.now (R.ahead content.old)
-        (R.ahead content.new) (O.held out.old) (O.held out.new) Memory) }
+    ensures cut { IfErr result (IsCutPlan job.now (wire (O.held out.old) (R.ahead content.old))
+        (wire (O.held out.new) (R.ahead content.new))) }
+    ensures memory { IfOk result (λ _. IsCutPlan job.now (wire (O.held out.old)
+        (R.ahead content.old)) (wire (O.held out.new) (R.ahead content.new)) Memory) }
     ensures counts { CountsReader (R.count content.old) (R.count content.new) result
         × CountsWriter (O.count out.old) (O.count out.new) result
         × (is_some sums.new.marks ≡ is_some sums.old.marks) }
@@ -129,8 +130,8 @@ fn print_windows<R: ByteIn, O: ByteOut>(
     requires sums { (times : Option KnownTimes) × AreSums planner.old.job times sums.old [] }
     ensures printed { IfOk result (λ _. PrintsAll planner.old planner.new sums.old sums.new
         (passed (R.ahead content.old) (R.ahead content.new) (O.held out.old) (O.held out.new))) }
-    ensures cut { IfErr result (IsCutPlan planner.old.job (R.ahead content.old)
-        (R.ahead content.new) (O.held out.old) (O.held out.new)) }
+    ensures cut { IfErr result (IsCutPlan planner.old.job (wire (O.held out.old)
+        (R.ahead content.old)) (wire (O.held out.new) (R.ahead content.new))) }
     ensures counts { CountsReader (R.count content.old) (R.count content.new) result
         × CountsWriter (O.count out.old) (O.count out.new) result
         × (is_some sums.new.marks ≡ is_some sums.old.marks) }

@@ -2,14 +2,14 @@
 
 ghost use Rattle.std.specs.Prelude.{◌≡◌, ◌++◌, ℕ, List, [], Option, is_some, IfOk};
 ghost use Rattle.nor_job.specs.declared.job.Job.{Job as Work};
-ghost use Rattle.nor_plan_read.specs.declared.line.PlanLine.{PlanLine as Line};
+ghost use Rattle.nor_outline.specs.declared.line.PlanLine.{PlanLine as Line};
 ghost use Rattle.nor_times.specs.declared.times.Times.{Times as KnownTimes};
 ghost use Rattle.norprog_plan.specs.Outline.{tables_times};
 ghost use Rattle.norprog_plan.specs.Sums.{AreSums, HasRoom};
 
 use nor_job::{Inputs, Job, Source};
 use nor_map::{PlanMarks, Wanted};
-use nor_plan_read::PlanLine;
+use nor_outline::PlanLine;
 use nor_times::{PlanTimes, Times, read_times};
 use std::alloc::{AllocError, Global};
 

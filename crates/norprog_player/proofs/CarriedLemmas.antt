@@ -10,19 +10,19 @@ use Rattle.nor_serprog.specs.declared.fault.Fault.TheVariants as fault
 use Rattle.nor_serprog.specs.declared.fault.Reason.{Reason}
 use Rattle.nor_serprog.specs.declared.fault.Reason.TheVariants as reason
 use Rattle.nor_serprog.specs.Follow.{Follows}
-use Rattle.nor_probe.specs.declared.difference.Mismatch.{Mismatch}
-use Rattle.nor_probe.specs.declared.difference.Mismatch.TheVariants as mismatch
+use Rattle.nor_reader.specs.declared.difference.Mismatch.{Mismatch}
+use Rattle.nor_reader.specs.declared.difference.Mismatch.TheVariants as mismatch
 use Rattle.nor_base.specs.Parameters.{Parameters}
 use Rattle.norprog_player.specs.declared.ending.Ending.TheVariants.{Failed}
-use Rattle.norprog_failure.specs.declared.failure.Failure.{Failure}
-use Rattle.norprog_failure.specs.declared.failure.Failure.TheVariants as failure
+use Rattle.norprog_device.specs.declared.failure.Failure.{Failure}
+use Rattle.norprog_device.specs.declared.failure.Failure.TheVariants as failure
 use Rattle.nor_base.specs.Sample.{sampled_count}
 use Rattle.nor_base.specs.Step.{step_clocks}
 use Rattle.norprog_player.specs.Carried.{IsCarried, AreCarried, IsFirstNotCarried}
 use Rattle.norprog_player.specs.Asked.{Begins}
-use Rattle.norprog_failure.specs.Reported.{FailsAs, read_address, other_byte, failure_by}
+use Rattle.norprog_device.specs.Reported.{FailsAs, read_address, other_byte, failure_by}
 use Rattle.norprog_player.specs.Ending.{asks, first, Course, EndsComparing, IsUnlikeAfter, MayBegin}
-use Rattle.norprog_common.specs.Wire.{wire, Wire}
+use Rattle.nor_base.specs.Wire.{Wire, wire}
 use Rattle.norprog_player.specs.declared.follow.Halt.{Halt}
 use Rattle.norprog_player.specs.Moment.{halt_at, rules_of, DoesAll, Moment, Rules, StopsAt}
 use Rattle.norprog_player.proofs.TogetherLemmas.{head_of, all_right}
@@ -41,12 +41,12 @@ one_of P steps at x within is all = subst P (sym is) (All-get_or P steps at x wi
 
 -- clocks that are an operation are never refused as none
 never_none : (limits : Limits) (turns : ℕ) (u v : Wire) (x : Step) (given : List ℕ) → IsCarried limits x
-    → Follows u.held v.held u.ahead v.ahead (Err reason.Carried) limits turns (step_clocks x) given → ⊥
+    → Follows u v (Err reason.Carried) limits turns (step_clocks x) given → ⊥
 never_none limits turns u v x given can follows = (follows.other (λ is. follows.poll is)).none can.0 can.1 can.2
 
 -- a step that may be sent never fails as none
 not_none : (r : Rules) (u v : Wire) (x : Step) (given : List ℕ) (why : Reason) → IsCarried r.limits x
-    → Follows u.held v.held u.ahead v.ahead (Err why) r.limits r.turns (step_clocks x) given → FailsAs r.m (step_clocks x) given why failure.Carried → ⊥
+    → Follows u v (Err why) r.limits r.turns (step_clocks x) given → FailsAs r.m (step_clocks x) given why failure.Carried → ⊥
 not_none r u v x given (reason.Exchange why) can follows fails = cc
 not_none r u v x given reason.Busy can follows fails = cc
 not_none r u v x given reason.Carried can follows fails = never_none r.limits r.turns u v x given can follows

@@ -4,10 +4,10 @@ use Rattle.std.specs.Prelude.{flat_map, ◌↔◌}
 use Rattle.std.specs.List.{slice_range}
 use Rattle.std.proofs.lemmas.Bool.{cases_lt}
 use Rattle.std.proofs.lemmas.Grind.{flat_map-append}
-use Rattle.nor_probe.specs.declared.difference.Mismatch.{Mismatch}
+use Rattle.nor_reader.specs.declared.difference.Mismatch.{Mismatch}
 use Rattle.nor_serprog.specs.declared.limits.Limits.{Limits}
 use Rattle.nor_loop.proofs.DeviceLemmas.{logged_none, logged_both}
-use Rattle.norprog_common.specs.Wire.{Wire}
+use Rattle.nor_base.specs.Wire.{Wire}
 use Rattle.norprog_player.specs.declared.access.Access.{Access}
 use Rattle.norprog_player.specs.Access.{read_ops}
 use Rattle.norprog_player.specs.Compared.{comparison, piece_at, range_ops, AreInOrder, Comparison, HasCompared, HasComparedTo, HasDone, IsOneSided, IsOneSidedPiece, LiesIn, LiesInOne, Range, ReadsRange, StopsComparing}

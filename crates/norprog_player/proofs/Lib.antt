@@ -2,7 +2,6 @@ pub mod TakenLemmas
 mod TogetherLemmas
 mod FollowedLemmas
 mod CarriedLemmas
-pub mod ProgressLemmas
 mod PieceLemmas
 mod ComparedLemmas
 mod LikenessLemmas

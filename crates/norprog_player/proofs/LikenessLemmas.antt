@@ -5,16 +5,16 @@ use Rattle.nor_base.specs.declared.step.Step.{Step}
 use Rattle.nor_base.specs.Port.{Shown}
 use Rattle.nor_base.specs.Step.{step_clocks}
 use Rattle.nor_laws.proofs.EffectLaws.{keeps_size}
-use Rattle.nor_probe.specs.declared.difference.Mismatch.{Mismatch}
-use Rattle.nor_probe.specs.declared.own.AddressRegister.{AddressRegister}
-use Rattle.nor_probe.specs.Own.{register_of}
+use Rattle.nor_reader.specs.declared.difference.Mismatch.{Mismatch}
+use Rattle.nor_reader.specs.declared.own.AddressRegister.{AddressRegister}
+use Rattle.nor_reader.specs.Own.{register_of}
 use Rattle.nor_serprog.specs.declared.limits.Limits.{Limits}
-use Rattle.norprog_common.specs.Wire.{Wire}
+use Rattle.nor_base.specs.Wire.{Wire}
 use Rattle.norprog_player.specs.declared.access.Access.{Access}
 use Rattle.norprog_player.specs.declared.ending.Ending.{Ending}
 use Rattle.norprog_player.specs.declared.ending.Ending.TheVariants.{Done, Wrong as GoesWrong, No, Unlike, Failed}
 use Rattle.norprog_player.specs.declared.follow.Halt.{Halt}
-use Rattle.norprog_failure.specs.declared.failure.Failure.TheVariants as failure
+use Rattle.norprog_device.specs.declared.failure.Failure.TheVariants as failure
 use Rattle.norprog_player.specs.declared.ending.Unlike.{Unlike as Unlikeness}
 use Rattle.norprog_player.specs.declared.ending.Unlike.TheVariants as unlike
 use Rattle.norprog_player.specs.Asked.{Begins, BeginsWith, Inquiry, IsIdentified, IsUnknown, IsUnmoved}

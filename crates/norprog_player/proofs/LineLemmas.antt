@@ -2,9 +2,9 @@
 use Rattle.std.proofs.Common.{◌≡◌, refl, ℕ, ◌/◌, ◌%◌, List, ◌++◌}
 use Rattle.std.specs.Prelude.{codes}
 use Rattle.nor_base.specs.Script.{hex_pair}
-use Rattle.nor_probe.specs.declared.difference.Difference.{Difference}
+use Rattle.nor_reader.specs.declared.difference.Difference.{Difference}
 use Rattle.nor_script.specs.Hexadecimal.{hex_number}
-use Rattle.norprog_failure.specs.Line.{other_line}
+use Rattle.norprog_device.specs.FailureLine.{other_line}
 use Rattle.norprog_player.specs.declared.ending.Unlike.TheVariants.{Moved}
 use Rattle.norprog_player.specs.Line.{status_line, registers_line, unlike_line}
 

@@ -20,7 +20,7 @@ use Rattle.norprog_player.specs.Ending.{EndsSo}
 use Rattle.norprog_player.specs.Expected.{play_of, Play}
 use Rattle.norprog_player.specs.Moment.{Moment, moment}
 use Rattle.norprog_device.specs.Opened.{Opens}
-use Rattle.norprog_common.specs.Wire.{Wire}
+use Rattle.nor_base.specs.Wire.{Wire}
 use Rattle.norprog_player.specs.Opened.{FailsTest, GreetsSo, HasPlayed, Releases, StopsBefore, StopsOpening}
 use Rattle.norprog_player.specs.Played.{AtGreeting, AtLine, AtMemory, EndsOnDevice, StopsOnDevice, shown_in}
 
@@ -30,8 +30,8 @@ for_memory P first limits before after (Ok x) is greets = absurd is
 for_memory P first limits before after (Err why) is greets = subst (StopsBefore first limits before after) (sym is) greets
 
 -- a test of the line after a handshake
-pub opens_so : (u v w : Wire) (first limits limits' : Limits) → limits' ≡ limits → Greeted u.held v.held u.ahead v.ahead (Ok limits) → (r : Result (Unit {0}) DeviceFault)
-    → MatchResult r (λ _. TestsLine v.held w.held v.ahead w.ahead (Ok tt) limits) (FailsTest v w limits)
+pub opens_so : (u v w : Wire) (first limits limits' : Limits) → limits' ≡ limits → Greeted u v (Ok limits) → (r : Result (Unit {0}) DeviceFault)
+    → MatchResult r (λ _. TestsLine v w (Ok tt) limits) (FailsTest v w limits)
     → MatchResult r (λ _. Opens u w (Ok limits')) (StopsOpening u w first limits')
 opens_so u v w first limits limits' same greeted (Ok u') tested =
     subst (λ (l : Limits). Opens u w (Ok l)) (sym same)

@@ -3,7 +3,7 @@ use Rattle.std.proofs.Common.{◌≡◌, ℕ, List, [], ◌∷◌, ◌++◌, len
 use Rattle.std.specs.Prelude.{flat_map}
 use Rattle.std.proofs.lemmas.Grind.{flat_map-append}
 use Rattle.nor_base.specs.declared.meaning.Switch.{Switch}
-use Rattle.nor_probe.specs.declared.difference.Mismatch.TheVariants as mismatch
+use Rattle.nor_reader.specs.declared.difference.Mismatch.TheVariants as mismatch
 use Rattle.nor_serprog.specs.declared.fault.Fault.{Fault}
 use Rattle.nor_serprog.specs.declared.fault.Reason.TheVariants as reason
 use Rattle.nor_serprog.specs.Exchange.{Answers, Asks, Knows}
@@ -12,7 +12,7 @@ use Rattle.nor_loop.specs.Log.{Operation}
 use Rattle.nor_loop.specs.Reads.{switch_ops}
 use Rattle.nor_loop.proofs.DeviceLemmas.{logged_none, logged_both}
 use Rattle.nor_reader.specs.Switched.{StopsAmong}
-use Rattle.norprog_common.specs.Wire.{wire, Wire}
+use Rattle.nor_base.specs.Wire.{Wire, wire}
 use Rattle.norprog_player.specs.declared.access.Access.TheVariants.{Entered}
 use Rattle.norprog_player.specs.Access.{reading, four_bytes, far_ops}
 use Rattle.norprog_player.specs.Compared.{asked, HasDone, Piece, ReadsBy, StopsOperating}
@@ -22,7 +22,7 @@ both : (u v w : Wire) (one two : List Operation) → HasDone u v one → HasDone
 both u v w one two p q = logged_both u.held v.held w.held u.ahead v.ahead w.ahead one two p q
 
 -- one of a switch of modes stopped
-pub stops_among : (u v : Wire) (ops : List Operation) (why : Fault) → StopsAmong u.held v.held u.ahead v.ahead ops why → StopsOperating u v ops why
+pub stops_among : (u v : Wire) (ops : List Operation) (why : Fault) → StopsAmong u v ops why → StopsOperating u v ops why
 stops_among u v ops why p = record {
   front = p.front;
   last = p.last;
@@ -67,7 +67,7 @@ stops_before u v one two why p = record {
 
 -- one operation stopped
 one_stopped : (u v : Wire) (o : Operation) (why : Fault) (got : List ℕ) → length got ≡ length o.got
-    → Asks u.held v.held u.ahead v.ahead (Err why) (asked o) (Answers u.ahead v.ahead (Err why) got) → StopsOperating u v (o ∷ []) why
+    → Asks u v (Err why) (asked o) (Answers u.ahead v.ahead (Err why) got) → StopsOperating u v (o ∷ []) why
 one_stopped u v o why got long stop = record {
   front = [];
   last = o;
@@ -82,7 +82,7 @@ one_stopped u v o why got long stop = record {
 
 -- its exchange ended so
 pub read_stopped : (u v : Wire) (sent : List ℕ) (p : Piece) (why : Fault)
-    → Knows u.held v.held u.ahead v.ahead (Err (reason.Exchange why)) (request sent (length p.want)) p.want → ReadsBy u v (Err (mismatch.Exchange why)) sent p
+    → Knows u v (Err (reason.Exchange why)) (request sent (length p.want)) p.want → ReadsBy u v (Err (mismatch.Exchange why)) sent p
 read_stopped u v sent p why knows = one_stopped u v (reading sent p.want) why knows.0 knows.1 knows.2
 
 -- a read in four-byte mode, which is entered and left
@@ -103,7 +103,7 @@ module _ (t u : Wire) (enter leave : Switch) (at : ℕ) (entered : HasDone t u (
       stops_then t u v (switch_ops enter 0xB7) (one ++ switch_ops leave 0xE9) why entered (stops_before u v one (switch_ops leave 0xE9) why stop)
 
   pub leaving_ends : (v w : Wire) (got : List ℕ) (why : Fault) → HasDone u v (reading (four_bytes 0x03 at) got ∷ [])
-      → StopsAmong v.held w.held v.ahead w.ahead (switch_ops leave 0xE9) why → StopsOperating t w (ops got) why
+      → StopsAmong v w (switch_ops leave 0xE9) why → StopsOperating t w (ops got) why
   leaving_ends v w got why read stop =
       let one = reading (four_bytes 0x03 at) got ∷ [] in
       stops_then t u w (switch_ops enter 0xB7) (one ++ switch_ops leave 0xE9) why entered
@@ -111,7 +111,7 @@ module _ (t u : Wire) (enter leave : Switch) (at : ℕ) (entered : HasDone t u (
 
 -- the mode wasn't entered
 pub entering_ends : (u v : Wire) (enter leave : Switch) (at : ℕ) (want : List ℕ) (why : Fault)
-    → StopsAmong u.held v.held u.ahead v.ahead (switch_ops enter 0xB7) why → StopsOperating u v (far_ops (Entered enter leave) at want) why
+    → StopsAmong u v (switch_ops enter 0xB7) why → StopsOperating u v (far_ops (Entered enter leave) at want) why
 entering_ends u v enter leave at want why stop =
     stops_before u v (switch_ops enter 0xB7) (reading (four_bytes 0x03 at) want ∷ switch_ops leave 0xE9) why
     (stops_among u v (switch_ops enter 0xB7) why stop)

@@ -30,9 +30,9 @@ use Rattle.nor_serprog.specs.declared.limits.Limits.{Limits}
 use Rattle.nor_serprog.specs.Done.{HasDone, HasStopped, HasDoneAll}
 use Rattle.nor_serprog.specs.Follow.{Follows, Operates}
 use Rattle.nor_serprog.specs.Row.{CutsRow, HasHalted, IsRow, StopsWithin}
-use Rattle.norprog_failure.specs.declared.failure.Failure.{Failure}
-use Rattle.norprog_failure.specs.Reported.{FailsAs}
-use Rattle.norprog_common.specs.Wire.{wire, Wire}
+use Rattle.norprog_device.specs.declared.failure.Failure.{Failure}
+use Rattle.norprog_device.specs.Reported.{FailsAs}
+use Rattle.nor_base.specs.Wire.{Wire, wire}
 use Rattle.norprog_player.specs.declared.follow.Halt.{Halt as Halted}
 use Rattle.norprog_player.specs.Moment.{halt_at, moment, stop_of, Does, DoesAll, IsTaken, Moment, Rules, Stop, StopsAt, StopsStep}
 use Rattle.norprog_player.specs.Together.{AreTaken, GivesExpected, IsPlain, MayGoTogether, StopsAlone}
@@ -92,28 +92,28 @@ not_poll symbols none is = let bad : 0 ≡ 1 = sym none ∙ ap sampled_count is 
 
 -- a plain step that the device did is a transaction that gave what the chip in memory gave
 follows : (h i : Option (List ℕ)) (m n : Ahead) (limits : Limits) (turns : ℕ) (x : Step) (given : List ℕ) → IsPlain x → GivesExpected x given
-    → HasDone h i m n limits turns x → Follows h i m n (Ok tt) limits turns (step_clocks x) given
+    → HasDone (wire h m) (wire i n) limits turns x → Follows (wire h m) (wire i n) (Ok tt) limits turns (step_clocks x) given
 follows h i m n limits turns (Send symbols) given plain gave done = record {
   poll = λ is. absurd (not_poll symbols plain.doable is);
-  other = λ no. subst (λ (l : List ℕ). Operates h i m n (Ok tt) limits symbols l) (sym gave) done;
+  other = λ no. subst (λ (l : List ℕ). Operates (wire h m) (wire i n) (Ok tt) limits symbols l) (sym gave) done;
 }
 follows h i m n limits turns (Poll symbols) given plain gave done = record { poll = λ is. done.1; other = λ no. absurd (no done.0) }
 follows h i m n limits turns (Verify symbols expect) given plain gave done = record {
   poll = λ is. absurd (plain.reads is);
-  other = λ no. subst (λ (l : List ℕ). Operates h i m n (Ok tt) limits symbols l) (sym gave) done;
+  other = λ no. subst (λ (l : List ℕ). Operates (wire h m) (wire i n) (Ok tt) limits symbols l) (sym gave) done;
 }
 
 -- or it ended so
 ends : (h i : Option (List ℕ)) (m n : Ahead) (limits : Limits) (turns : ℕ) (why : Reason) (x : Step) (given : List ℕ) → IsPlain x → GivesExpected x given
-    → HasStopped h i m n limits turns why x → Follows h i m n (Err why) limits turns (step_clocks x) given
+    → HasStopped (wire h m) (wire i n) limits turns why x → Follows (wire h m) (wire i n) (Err why) limits turns (step_clocks x) given
 ends h i m n limits turns why (Send symbols) given plain gave stopped = record {
   poll = λ is. absurd (not_poll symbols plain.doable is);
-  other = λ no. subst (λ (l : List ℕ). Operates h i m n (Err why) limits symbols l) (sym gave) stopped;
+  other = λ no. subst (λ (l : List ℕ). Operates (wire h m) (wire i n) (Err why) limits symbols l) (sym gave) stopped;
 }
 ends h i m n limits turns why (Poll symbols) given plain gave stopped = record { poll = λ is. stopped.1; other = λ no. absurd (no stopped.0) }
 ends h i m n limits turns why (Verify symbols expect) given plain gave stopped = record {
   poll = λ is. absurd (plain.reads is);
-  other = λ no. subst (λ (l : List ℕ). Operates h i m n (Err why) limits symbols l) (sym gave) stopped;
+  other = λ no. subst (λ (l : List ℕ). Operates (wire h m) (wire i n) (Err why) limits symbols l) (sym gave) stopped;
 }
 
 pub head_of : (P : Step → Type 0) (x : Step) (xs : List Step) → All P (x ∷ xs) → P x
@@ -123,7 +123,7 @@ tail_of : (P : Step → Type 0) (x : Step) (xs : List Step) → All P (x ∷ xs)
 tail_of P x xs all = λ k d lt. all (suc k) d (omega (arith, lt))
 
 pub both_do : (a b : Shown) (h i : Option (List ℕ)) (m n : Ahead) (limits : Limits) (turns : ℕ) (row : List Step) → AreTaken a row b → All IsPlain row
-    → HasDoneAll h i m n limits turns row → DoesAll limits turns (moment a h m) row (moment b i n)
+    → HasDoneAll (wire h m) (wire i n) limits turns row → DoesAll limits turns (moment a h m) row (moment b i n)
 both_do a b h i m n limits turns [] taken plain done =
     let shown : b ≡ a = taken in let held : i ≡ h = done.0 in let ahead : n ≡ m = done.1 in cc
 both_do a b h i m n limits turns (x ∷ xs) taken plain done = (
@@ -147,13 +147,13 @@ by_reason m clocks one other (reason.Differs place byte) failed never is = absur
 -- what the device did at a step that stopped
 abbrev Stopped : Rules → Wire → Wire → Reason → Step → List Step → Type 0
 Stopped r u v why x beyond =
-    StopsWithin u.held v.held u.ahead v.ahead r.limits r.turns why x beyond ⊎ CutsRow u.held v.held u.ahead v.ahead r.limits r.turns why (x ∷ beyond)
+    StopsWithin u v r.limits r.turns why x beyond ⊎ CutsRow u v r.limits r.turns why (x ∷ beyond)
 
 -- a poll never stops at another byte
 no_byte : (r : Rules) (u v : Wire) (why : Reason) (symbols : List ℕ) (beyond : List Step) → Stopped r u v why (Poll symbols) beyond → (place byte : ℕ)
     → why ≡ reason.Differs place byte → ⊥
 no_byte r u v why symbols beyond (inl within) place byte is =
-    (subst (λ (y : Reason). HasStopped u.held within.held u.ahead v.ahead r.limits r.turns y (Poll symbols)) is within.stopped).1
+    (subst (λ (y : Reason). HasStopped u (wire within.held v.ahead) r.limits r.turns y (Poll symbols)) is within.stopped).1
 no_byte r u v why symbols beyond (inr cut) place byte is = let bad : reason.Exchange fault.Write ≡ reason.Differs place byte = sym cut.writer ∙ is in cc
 
 fails_so : (r : Rules) (u v : Wire) (x : Step) (stop : Stop) (failed : Failure) → GivesExpected x stop.given → Stopped r u v stop.reason x stop.beyond
@@ -187,7 +187,7 @@ all_right P (x ∷ xs) ys all = all_right P xs ys (tail_of P x (xs ++ ys) all)
 
 -- a row that the chip in memory did, and at one of whose steps the device halted
 pub halted : (r : Rules) (row : List Step) (a b : Shown) (u : Wire) (halt : Halt) (failed : Failure) (after : Moment) → AreTaken a row b → All IsPlain row
-    → HasHalted u.held after.wire.held u.ahead after.wire.ahead r.limits r.turns row halt
+    → HasHalted u after.wire r.limits r.turns row halt
     → ((x : Step) → x ≡ get_or row halt.step x → FailsAs r.m (step_clocks x) (expected x) halt.why failed)
     → StopsAt r (record { shown = a; wire = u }) row (halt_at halt.step failed) after
 halted r row a b u halt failed after taken plain halts fails =

@@ -1,11 +1,11 @@
 -- What the chip behind a device is asked before the steps (this project's).
 use Rattle.std.specs.Prelude.{◌≡◌, ◌⊎◌, ℕ, Bool, true, false, Option, Some, None, Result, Ok, Err}
 use Rattle.nor_base.specs.declared.meaning.Part.TheVariants.{Generic, W25q256jv}
-use Rattle.nor_probe.specs.declared.difference.Mismatch.{Mismatch}
-use Rattle.nor_probe.specs.declared.own.AddressRegister.{AddressRegister}
-use Rattle.nor_probe.specs.Own.{is_moved, opcode_of, register_of}
-use Rattle.nor_probe.specs.Status.{ReadsRegister, ReadsStatus, suits}
-use Rattle.nor_probe.specs.Tables.{Compares as ComparesTables}
+use Rattle.nor_reader.specs.declared.difference.Mismatch.{Mismatch}
+use Rattle.nor_reader.specs.declared.own.AddressRegister.{AddressRegister}
+use Rattle.nor_reader.specs.Own.{is_moved, opcode_of, register_of}
+use Rattle.nor_reader.specs.Status.{ReadsRegister, ReadsStatus, suits}
+use Rattle.nor_reader.specs.Known.{Compares as ComparesTables}
 use Rattle.nor_serprog.specs.declared.fault.Fault.{Fault}
 use Rattle.nor_serprog.specs.declared.fault.Reason.{Reason}
 use Rattle.nor_serprog.specs.declared.fault.Reason.TheVariants as reason
@@ -29,12 +29,12 @@ inquiry x limits turns = record { x = x; limits = limits; turns = turns }
 -- it was asked for its status until it said idle, so often at most, and then for its other status registers, where they are known
 pub record AsksStatus (q : Inquiry) (before after : Moment) (result : Result ℕ Reason) : Type 0 where
   pub shown : after.shown ≡ before.shown
-  pub read : ReadsStatus q.x.part before.wire.held after.wire.held before.wire.ahead after.wire.ahead result q.turns
+  pub read : ReadsStatus q.x.part before.wire after.wire result q.turns
 
 -- its SFDP bytes were read and compared with those that it has to have
 pub record AsksTables (q : Inquiry) (before after : Moment) (result : Result (Unit {0}) Mismatch) : Type 0 where
   pub shown : after.shown ≡ before.shown
-  pub compared : ComparesTables before.wire.held after.wire.held before.wire.ahead after.wire.ahead result q.limits q.x.tables
+  pub compared : ComparesTables before.wire after.wire result q.limits q.x.tables
 
 -- it is idle and takes the steps, by its status
 pub record IsSuited (q : Inquiry) (before after : Moment) : Type 0 where
@@ -51,7 +51,7 @@ pub record HasTables (q : Inquiry) (before after : Moment) : Type 0 where
 -- it was asked for the value of a register
 pub record AsksRegister (register : AddressRegister) (before after : Moment) (result : Result ℕ Fault) : Type 0 where
   pub shown : after.shown ≡ before.shown
-  pub read : ReadsRegister before.wire.held after.wire.held before.wire.ahead after.wire.ahead result (opcode_of register)
+  pub read : ReadsRegister before.wire after.wire result (opcode_of register)
 
 -- the register that its tables name as the one that moves all addresses was read, and moves none; where they name none nothing was asked
 abbrev pub IsUnmoved : Option AddressRegister → Moment → Moment → Type 0

@@ -4,7 +4,7 @@ use Rattle.nor_serprog.specs.declared.fault.Fault.{Fault}
 use Rattle.nor_serprog.specs.declared.fault.Reason.{Reason}
 use Rattle.nor_serprog.specs.declared.fault.Reason.TheVariants as reason
 use Rattle.norprog_device.specs.Blame.{fault_of_greeting, fault_of_mismatch}
-use Rattle.norprog_failure.specs.Blame.{fault_of_failure}
+use Rattle.norprog_device.specs.FailureBlame.{fault_of_failure}
 use Rattle.norprog_player.specs.declared.ending.Ending.{Ending}
 use Rattle.norprog_player.specs.declared.ending.Ending.TheVariants.{Done, Wrong as GoesWrong, No, Unlike, Failed}
 use Rattle.norprog_player.specs.declared.ending.Unlike.{Unlike as Unlikeness}

@@ -1,21 +1,21 @@
 -- What the chip behind a device holds, compared with a content (this project's; the exchanges are the Serial Flasher Protocol's).
 use Rattle.std.specs.Prelude.{◌≡◌, ◌⊎◌, ◌↔◌, ℕ, ◌+◌, ◌^◌, ◌<◌, ◌≤◌, List, [], ◌∷◌, ◌++◌, length, flat_map, slice_index, Result, Ok, Err}
 use Rattle.std.specs.List.{slice_range}
-use Rattle.nor_probe.specs.declared.difference.Difference.{Difference}
-use Rattle.nor_probe.specs.declared.difference.Mismatch.{Mismatch}
-use Rattle.nor_probe.specs.declared.difference.Mismatch.TheVariants.{Exchange, Differs}
+use Rattle.nor_reader.specs.declared.difference.Difference.{Difference}
+use Rattle.nor_reader.specs.declared.difference.Mismatch.{Mismatch}
+use Rattle.nor_reader.specs.declared.difference.Mismatch.TheVariants.{Exchange, Differs}
 use Rattle.nor_serprog.specs.declared.fault.Fault.{Fault}
 use Rattle.nor_serprog.specs.declared.limits.Limits.{Limits}
 use Rattle.nor_serprog.specs.Exchange.{Answers, Asks, IsOther}
 use Rattle.nor_serprog.specs.Protocol.{request}
 use Rattle.nor_loop.specs.Log.{Operation, HasLogged}
-use Rattle.norprog_common.specs.Wire.{Wire}
+use Rattle.nor_base.specs.Wire.{Wire}
 use Rattle.norprog_player.specs.declared.access.Access.{Access}
 use Rattle.norprog_player.specs.Access.{reading, read_ops}
 
 -- these operations were done
 abbrev pub HasDone : Wire → Wire → List Operation → Type 0
-HasDone before after ops = HasLogged before.held after.held before.ahead after.ahead ops
+HasDone before after ops = HasLogged before after ops
 
 -- the request of an operation
 abbrev pub asked : Operation → List ℕ
@@ -31,7 +31,7 @@ pub record StopsOperating (before after : Wire) (ops : List Operation) (why : Fa
   pub done : HasDone before between front
   pub got : List ℕ
   pub as_many : length got ≡ length last.got
-  pub stop : Asks between.held after.held between.ahead after.ahead (Err why) (asked last) (Answers between.ahead after.ahead (Err why) got)
+  pub stop : Asks between after (Err why) (asked last) (Answers between.ahead after.ahead (Err why) got)
 
 -- so many addresses from one on
 pub record Range : Type 0 where

@@ -9,7 +9,7 @@ use Rattle.nor_base.specs.Port.{Shown}
 use Rattle.nor_base.specs.Run.{trail}
 use Rattle.nor_chip.specs.Ready.{ready_chip}
 use Rattle.nor_play.specs.Play.{play}
-use Rattle.norprog_failure.specs.declared.failure.Failure.TheVariants.{Carried}
+use Rattle.norprog_device.specs.declared.failure.Failure.TheVariants.{Carried}
 use Rattle.nor_serprog.specs.declared.limits.Limits.{Limits}
 use Rattle.norprog_player.specs.Carried.{AreCarried, IsFirstNotCarried}
 use Rattle.norprog_player.specs.declared.early.Early.{Early}

@@ -4,14 +4,14 @@ use Rattle.nor_base.specs.declared.step.Step.{Step}
 use Rattle.nor_base.specs.Chip.{Chip}
 use Rattle.nor_base.specs.Run.{trail}
 use Rattle.nor_play.specs.Play.{play}
-use Rattle.nor_probe.specs.declared.difference.Mismatch.{Mismatch}
+use Rattle.nor_reader.specs.declared.difference.Mismatch.{Mismatch}
 use Rattle.nor_serprog.specs.declared.limits.Limits.{Limits}
 use Rattle.norprog_player.specs.declared.access.Access.{Access}
 use Rattle.norprog_player.specs.declared.ending.Ending.{Ending}
 use Rattle.norprog_player.specs.declared.ending.Ending.TheVariants.{Done, Wrong as GoesWrong, No, Unlike, Failed}
 use Rattle.norprog_player.specs.declared.follow.Halt.{Halt}
-use Rattle.norprog_failure.specs.Reported.{failure_by}
-use Rattle.norprog_failure.specs.declared.failure.Failure.TheVariants as failure
+use Rattle.norprog_device.specs.Reported.{failure_by}
+use Rattle.norprog_device.specs.declared.failure.Failure.TheVariants as failure
 use Rattle.norprog_player.specs.declared.ending.Unlike.{Unlike as Unlikeness}
 use Rattle.norprog_player.specs.Access.{access_of}
 use Rattle.norprog_player.specs.Asked.{inquiry, Begins, Inquiry, IsUnknown}

@@ -8,7 +8,6 @@ pub mod Port
 pub mod Carried
 pub mod Rehearsal
 pub mod Ending
-pub mod Progress
 pub mod Line
 pub mod Compared
 pub mod Likeness

@@ -1,10 +1,10 @@
 -- Whether the chip behind a device holds what the chip in memory does (this project's).
 use Rattle.std.specs.Prelude.{◌≡◌, ◌⊎◌, Bool, true, false, List, ℕ, Result, Ok, Err}
-use Rattle.nor_probe.specs.declared.difference.Mismatch.{Mismatch}
+use Rattle.nor_reader.specs.declared.difference.Mismatch.{Mismatch}
 use Rattle.nor_reader.specs.declared.by.ReadBy.{ReadBy}
 use Rattle.nor_reader.specs.declared.by.ReadBy.TheVariants.{Content}
 use Rattle.nor_reader.specs.Past.{ReadsPast}
-use Rattle.norprog_common.specs.Wire.{Wire}
+use Rattle.nor_base.specs.Wire.{Wire}
 use Rattle.norprog_player.specs.declared.access.Access.{Access}
 use Rattle.norprog_player.specs.declared.access.Access.TheVariants.{Four}
 use Rattle.norprog_player.specs.Compared.{Comparison, HasCompared, StopsComparing}
@@ -19,7 +19,7 @@ past_by access = Content false
 pub record ComparesPast (before after : Wire) (c : Comparison) (content : List ℕ) (result : Result (Unit {0}) Mismatch) : Type 0 where
   pub between : Wire
   pub compared : HasCompared before between c content
-  pub past : ReadsPast c.limits.asked between.held after.held between.ahead after.ahead result (past_by c.access) content
+  pub past : ReadsPast c.limits.asked between after result (past_by c.access) content
 
 -- both came; or one of the readings stopped so
 abbrev pub ComparesWhole : Wire → Wire → Comparison → List ℕ → Result (Unit {0}) Mismatch → Type 0

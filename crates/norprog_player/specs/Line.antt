@@ -3,15 +3,15 @@ use Rattle.std.specs.Prelude.{ℕ, ◌/◌, ◌%◌, Bool, true, false, List, �
 use Rattle.nor_base.specs.Script.{closed}
 use Rattle.nor_serprog.specs.declared.fault.Fault.{Fault}
 use Rattle.nor_base.specs.Script.{hex_pair}
-use Rattle.nor_probe.specs.declared.difference.Mismatch.{Mismatch}
-use Rattle.nor_probe.specs.declared.difference.Mismatch.TheVariants as mismatch
+use Rattle.nor_reader.specs.declared.difference.Mismatch.{Mismatch}
+use Rattle.nor_reader.specs.declared.difference.Mismatch.TheVariants as mismatch
 use Rattle.norprog_player.specs.declared.ending.Unlike.{Unlike as Unlikeness}
 use Rattle.norprog_player.specs.declared.ending.Unlike.TheVariants as unlike
 use Rattle.nor_check.specs.declared.verdict.Verdict.TheVariants.{No as Says}
 use Rattle.norprog_check.specs.Line.{verdict_text}
 use Rattle.norprog_common.specs.Wrongs.{wrong_number}
 use Rattle.norprog_device.specs.Line.{fault_word}
-use Rattle.norprog_failure.specs.Line.{failure_line, other_line, wrong_line}
+use Rattle.norprog_device.specs.FailureLine.{failure_line, other_line, wrong_line}
 use Rattle.norprog_player.specs.declared.ending.Ending.{Ending}
 use Rattle.norprog_player.specs.declared.ending.Ending.TheVariants.{Done, Wrong, No, Unlike, Failed}
 

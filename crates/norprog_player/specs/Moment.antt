@@ -11,9 +11,9 @@ use Rattle.nor_serprog.specs.declared.fault.Fault.TheVariants.{Write}
 use Rattle.nor_serprog.specs.declared.fault.Reason.{Reason}
 use Rattle.nor_serprog.specs.declared.fault.Reason.TheVariants.{Exchange}
 use Rattle.nor_serprog.specs.declared.limits.Limits.{Limits}
-use Rattle.norprog_common.specs.Wire.{wire, Wire}
-use Rattle.norprog_failure.specs.declared.failure.Failure.{Failure}
-use Rattle.norprog_failure.specs.Reported.{FailsAs}
+use Rattle.nor_base.specs.Wire.{Wire, wire}
+use Rattle.norprog_device.specs.declared.failure.Failure.{Failure}
+use Rattle.norprog_device.specs.Reported.{FailsAs}
 use Rattle.norprog_player.specs.declared.follow.Halt.{Halt}
 use Rattle.nor_base.specs.Parameters.{Parameters}
 use Rattle.nor_serprog.specs.Follow.{Follows}
@@ -45,7 +45,7 @@ IsTaken shown clocks = (chip : Chip) × (given : List ℕ) × (effect shown.sett
 pub record Does (limits : Limits) (turns : ℕ) (before : Moment) (clocks : List ℕ) (after : Moment) : Type 0 where
   pub given : List ℕ
   pub chip : Transacts before.shown after.shown (Ok tt) clocks given
-  pub device : Follows before.wire.held after.wire.held before.wire.ahead after.wire.ahead (Ok tt) limits turns clocks given
+  pub device : Follows before.wire after.wire (Ok tt) limits turns clocks given
 
 -- how a step ended with the device: the reason, what the chip in memory gave, and the steps that were sent at once with it
 pub record Stop : Type 0 where
@@ -59,7 +59,7 @@ stop_of reason given beyond = record { reason = reason; given = given; beyond = 
 -- with the device the transaction of these clocks ended so; then just the requests of the steps beyond it went out
 pub record StopsFollowing (r : Rules) (before : Wire) (clocks : List ℕ) (stop : Stop) (after : Wire) : Type 0 where
   pub held : Option (List ℕ)
-  pub device : Follows before.held held before.ahead after.ahead (Err stop.reason) r.limits r.turns clocks stop.given
+  pub device : Follows before (wire held after.ahead) (Err stop.reason) r.limits r.turns clocks stop.given
   pub put : List ℕ
   pub ahead : AreAhead r.limits r.turns stop.beyond put
   pub out : Appends held after.held put
@@ -70,7 +70,7 @@ pub record StopsFollowing (r : Rules) (before : Wire) (clocks : List ℕ) (stop 
 abbrev pub StopsStep : Rules → Wire → Step → Stop → Wire → Type 0
 StopsStep r before x stop after =
     StopsFollowing r before (step_clocks x) stop after
-    ⊎ CutsRow before.held after.held before.ahead after.ahead r.limits r.turns stop.reason (x ∷ stop.beyond)
+    ⊎ CutsRow before after r.limits r.turns stop.reason (x ∷ stop.beyond)
 
 -- both did the transactions of steps, one after the other, and nothing else
 abbrev pub DoesAll : Limits → ℕ → Moment → List Step → Moment → Type 0

@@ -11,7 +11,7 @@ use Rattle.norprog_player.specs.declared.ending.Ending.{Ending}
 use Rattle.norprog_device.specs.declared.fault.DeviceFault.{DeviceFault}
 use Rattle.norprog_device.specs.declared.fault.DeviceFault.TheVariants.{Greet, Line}
 use Rattle.norprog_device.specs.Opened.{HasOpened, Opens}
-use Rattle.norprog_common.specs.Wire.{Wire}
+use Rattle.nor_base.specs.Wire.{Wire}
 use Rattle.norprog_player.specs.declared.unplayed.Unplayed.{Unplayed}
 use Rattle.norprog_player.specs.declared.unplayed.Unplayed.TheVariants.{Refused, Device}
 use Rattle.norprog_player.specs.Ending.{EndsSo}
@@ -20,12 +20,12 @@ use Rattle.norprog_player.specs.Moment.{Moment}
 
 -- the test of the line ended early, and so it is reported
 abbrev pub FailsTest : Wire → Wire → Limits → DeviceFault → Type 0
-FailsTest before after limits (Line why) = TestsLine before.held after.held before.ahead after.ahead (Err why) limits
+FailsTest before after limits (Line why) = TestsLine before after (Err why) limits
 FailsTest before after limits (Greet why) = ⊥
 
 -- the handshake ended early, and the limits are those of before it; or the device reported these, and the test of the line ended early
 abbrev pub StopsOpening : Wire → Wire → Limits → Limits → DeviceFault → Type 0
-StopsOpening before after first limits (Greet why) = (limits ≡ first) × Greeted before.held after.held before.ahead after.ahead (Err why)
+StopsOpening before after first limits (Greet why) = (limits ≡ first) × Greeted before after (Err why)
 StopsOpening before after first limits (Line why) = HasOpened before after limits (Err why)
 
 -- the handshake and the test of the line ended so, the chip in memory as it was
@@ -60,7 +60,7 @@ StopsBefore first limits before after other = ⊥
 pub record LetsGo (before after : Moment) : Type 0 where
   pub shown : after.shown ≡ before.shown
   pub answer : Result (Unit {0}) Fault
-  pub asked : Asks before.wire.held after.wire.held before.wire.ahead after.wire.ahead answer release_bytes
+  pub asked : Asks before.wire after.wire answer release_bytes
       (Answers before.wire.ahead after.wire.ahead answer [])
 
 -- so, where that was to be; else nothing was done

@@ -1,7 +1,7 @@
 -- What is told beside an ending, and its status (this project's).
 use Rattle.std.specs.Prelude.{ℕ, Bool, true, false, if◌then◌else◌, List, [], codes}
-use Rattle.norprog_failure.specs.declared.failure.Failure.{Failure}
-use Rattle.norprog_failure.specs.declared.failure.Failure.TheVariants.{Carried}
+use Rattle.norprog_device.specs.declared.failure.Failure.{Failure}
+use Rattle.norprog_device.specs.declared.failure.Failure.TheVariants.{Carried}
 use Rattle.norprog_common.specs.Lines.{program_line}
 use Rattle.norprog_player.specs.declared.ending.Ending.{Ending}
 use Rattle.norprog_player.specs.declared.ending.Ending.TheVariants.{Done, Wrong as GoesWrong, No, Unlike, Failed}

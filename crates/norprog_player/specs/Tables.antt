@@ -1,7 +1,7 @@
 -- Which SFDP bytes the chip behind a device has to have (this project's; JESD216: an SFDP address has 24 bits).
 use Rattle.std.specs.Prelude.{ℕ, min, ◌^◌, List, [], take}
 use Rattle.nor_job.specs.Task.{Origin, Sfdp, Uniform, Sheet}
-use Rattle.nor_probe.specs.Tables.{tables_reach}
+use Rattle.nor_reader.specs.Known.{tables_reach}
 
 -- those that their headers reach; a chip that is known by its size or by a sheet has none
 abbrev pub tables_of : Origin → List ℕ

@@ -8,8 +8,8 @@ use Rattle.nor_base.specs.Step.{step_clocks}
 use Rattle.nor_serprog.specs.declared.fault.Reason.{Reason}
 use Rattle.nor_serprog.specs.Done.{IsDoable}
 use Rattle.nor_serprog.specs.Follow.{Follows}
-use Rattle.norprog_failure.specs.declared.failure.Failure.{Failure}
-use Rattle.norprog_failure.specs.Reported.{FailsAs}
+use Rattle.norprog_device.specs.declared.failure.Failure.{Failure}
+use Rattle.norprog_device.specs.Reported.{FailsAs}
 use Rattle.norprog_player.specs.Moment.{Moment, Rules}
 
 -- what comes back for a step is known before: nothing, a status, or the bytes that are expected
@@ -44,5 +44,5 @@ pub record StopsAlone (r : Rules) (before : Moment) (clocks : List ℕ) (failed 
   pub given : List ℕ
   pub reason : Reason
   pub chip : Transacts before.shown after.shown (Ok tt) clocks given
-  pub device : Follows before.wire.held after.wire.held before.wire.ahead after.wire.ahead (Err reason) r.limits r.turns clocks given
+  pub device : Follows before.wire after.wire (Err reason) r.limits r.turns clocks given
   pub failure : FailsAs r.m clocks given reason failed

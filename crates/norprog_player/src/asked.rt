@@ -2,20 +2,21 @@
 
 ghost use Rattle.std.specs.Prelude.{◌≡◌, ◌<◌, ◌≤◌, ◌*◌, ◌^◌, false, length, MatchResult};
 ghost use Rattle.std.specs.Prelude.{IfOk};
-ghost use Rattle.nor_probe.specs.Tables.{Compares as ComparesTables};
+ghost use Rattle.nor_reader.specs.Known.{Compares as ComparesTables};
 ghost use Rattle.norprog_player.specs.Asked.{Begins, IsIdentified, IsSuited};
 ghost use Rattle.norprog_player.specs.Asked.{IsUnknown, IsUnmoved, StopsAsking, StopsMoved};
 ghost use Rattle.norprog_player.specs.Compared.{comparison};
 ghost use Rattle.norprog_player.specs.Expected.{expectation_of};
 ghost use Rattle.norprog_player.specs.Port.{asking, moment_of, IsKept};
 ghost use Rattle.nor_cells.specs.Marks.{IsMarked};
+ghost use Rattle.nor_base.specs.Wire.{wire};
 
 use crate::access::Access;
 use crate::ending::Unlike;
 use crate::expected::Expected;
 use crate::likeness::{compare_chip, reason_of};
 use nor_base::{ByteIn, ByteOut, Part};
-use nor_probe::{
+use nor_reader::{
     AddressRegister, Mismatch, address_register, chip_status, compare_tables, is_moved, opcode_of,
     read_register, suits,
 };
@@ -122,8 +123,8 @@ fn ask_tables<R: ByteIn + Drop, W: ByteOut + Drop>(
 ) -> Result<(), Mismatch>
     requires few { length tables.now ≤ 2 ^ 24 }
     ensures kept { IsKept port.old port.new }
-    ensures compared { ComparesTables (W.held port.old.to) (W.held port.new.to)
-        (R.ahead port.old.from) (R.ahead port.new.from) result port.old.limits tables.now }
+    ensures compared { ComparesTables (wire (W.held port.old.to) (R.ahead port.old.from))
+        (wire (W.held port.new.to) (R.ahead port.new.from)) result port.old.limits tables.now }
     ensures fresh { IfOk result (λ _. port.new.reason ≡ port.old.reason) }
 {
     let compared = compare_tables(&mut port.from, &mut port.to, &port.limits, tables);

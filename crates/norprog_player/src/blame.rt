@@ -6,8 +6,7 @@ ghost use Rattle.norprog_player.specs.Blame.{fault_in, fault_of_ending, fault_of
 use crate::ending::{Ending, Unlike};
 use crate::unplayed::Unplayed;
 use nor_serprog::Fault;
-use norprog_device::{fault_of_greeting, fault_of_mismatch};
-use norprog_failure::fault_of_failure;
+use norprog_device::{fault_of_failure, fault_of_greeting, fault_of_mismatch};
 
 /// How the exchange ended early that ended a play, or kept it from being one. None where each came
 /// whole.

@@ -2,7 +2,7 @@
 
 ghost use Rattle.std.specs.Prelude.{◌≡◌, ◌<◌, ◌≤◌, ◌*◌, ◌^◌, length, MatchResult};
 ghost use Rattle.nor_cells.specs.Marks.{IsMarked};
-ghost use Rattle.norprog_common.specs.Wire.{wire};
+ghost use Rattle.nor_base.specs.Wire.{wire};
 ghost use Rattle.norprog_player.specs.Compared.{comparison, HasCompared, IsOneSidedPiece};
 ghost use Rattle.norprog_player.specs.Compared.{StopsComparing};
 ghost use Rattle.norprog_player.specs.Likeness.{ComparesWhole, past_by};
@@ -11,8 +11,7 @@ use crate::access::Access;
 use crate::piece::{FAR, compare_piece};
 use nor_base::{ByteIn, ByteOut};
 use nor_cells::next_piece;
-use nor_probe::Mismatch;
-use nor_reader::{ReadBy, read_past};
+use nor_reader::{Mismatch, ReadBy, read_past};
 use nor_serprog::Limits;
 
 /// Compares the marked cells of the device's chip, from the lowest on, with a content that begins

@@ -8,10 +8,8 @@ ghost use Rattle.nor_base.specs.Sample.{sampled_count};
 ghost use Rattle.nor_base.specs.Step.{step_clocks};
 ghost use Rattle.nor_chip.specs.Ready.{ready_chip};
 ghost use Rattle.norprog_player.specs.Early.{GoesWellInMemory};
-ghost use Rattle.norprog_common.specs.Told.{output};
 ghost use Rattle.norprog_player.specs.Ending.{course, EndsComparing, EndsSo, MayBegin, SaysBlank};
 ghost use Rattle.norprog_player.specs.Expected.{expectation_of, play_of};
-ghost use Rattle.norprog_player.specs.Progress.{ReportsPlay};
 ghost use Rattle.norprog_player.specs.Port.{moment_of, rules_at};
 ghost use Rattle.nor_cells.specs.Cells.{IsInCellOf};
 ghost use Rattle.nor_cells.specs.Marks.{IsMarked};
@@ -28,7 +26,7 @@ use crate::within::carried;
 use nor_base::{ByteIn, ByteOut, Meaning, Step};
 use nor_cells::{compared_cells, first_held, mark_wraps};
 use nor_serprog::Shadowed;
-use norprog_failure::{Failure, failure_by};
+use norprog_device::{Failure, failure_by};
 use std::alloc::{AllocError, Global};
 
 /// Plays steps on a device, after its handshake, beside a ready chip in memory on which they go
@@ -59,9 +57,6 @@ pub fn play_on_device<R: ByteIn + Drop, W: ByteOut + Drop, P: ByteOut>(
         (moment_of W.held R.ahead port.new))
         (λ _. port.new ≡ port.old) }
     ensures after { (port.new.limits ≡ port.old.limits) }
-    ensures told { MatchResult result
-        (λ ending. ReportsPlay steps.now ending (output P.held P.count progress.old progress.new))
-        (λ _. progress.new ≡ progress.old) }
 {
     if let Err(step) = carried(steps, &port.limits) {
         let why = Failure::Carried;
@@ -114,7 +109,6 @@ fn play_compared<R: ByteIn + Drop, W: ByteOut + Drop, P: ByteOut>(
         (moment_of W.held R.ahead port.old)
         steps.now result (moment_of W.held R.ahead port.new) }
     ensures after { (port.new.limits ≡ port.old.limits) }
-    ensures told { ReportsPlay steps.now result (output P.held P.count progress.old progress.new) }
 {
     if let Err(why) = begin(port, expected, access, cells) {
         return Ending::Unlike { why };

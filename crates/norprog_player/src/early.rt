@@ -9,7 +9,7 @@ use crate::rehearsal::{Rehearsal, rehearse};
 use crate::within::carried;
 use nor_base::{Meaning, Start, Step};
 use nor_serprog::Limits;
-use norprog_failure::Failure;
+use norprog_device::Failure;
 use std::alloc::{AllocError, Global};
 
 /// The most that a request has room for: no device can do more bytes in one operation.

@@ -2,9 +2,9 @@
 
 use nor_base::Wrong;
 use nor_check::Why;
-use nor_probe::Mismatch;
+use nor_reader::Mismatch;
 use nor_serprog::Fault;
-use norprog_failure::Failure;
+use norprog_device::Failure;
 
 /// How a script ends on a device.
 #[derive(Clone, Copy, PartialEq, Eq, Drop)]

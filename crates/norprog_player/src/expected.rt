@@ -5,7 +5,7 @@ ghost use Rattle.norprog_player.specs.Tables.{tables_of};
 
 use nor_base::{Part, Start};
 use nor_job::{Inputs, Source};
-use nor_probe::tables_reach;
+use nor_reader::tables_reach;
 
 /// The most bytes of SFDP tables: an SFDP address has 24 bits.
 const MOST_TABLES: usize = 1 << 24;

@@ -6,10 +6,9 @@ ghost use Rattle.nor_base.specs.Chip.{Chip as ShownChip};
 ghost use Rattle.nor_base.specs.Run.{played};
 ghost use Rattle.nor_base.specs.Sample.{sampled_count};
 ghost use Rattle.nor_base.specs.Step.{expected, step_clocks};
-ghost use Rattle.nor_progress.specs.Text.{Reports};
 ghost use Rattle.nor_serprog.specs.Row.{IsRow};
 ghost use Rattle.norprog_player.specs.Carried.{AreCarried};
-ghost use Rattle.norprog_failure.specs.Reported.{FailsAs};
+ghost use Rattle.norprog_device.specs.Reported.{FailsAs};
 ghost use Rattle.norprog_player.specs.Moment.{Does, DoesAll, IsTaken, StopsAt};
 ghost use Rattle.norprog_player.specs.Together.{MayGoTogether, StopsAlone};
 ghost use Rattle.norprog_player.specs.Port.{moment_of, rules_at};
@@ -17,9 +16,9 @@ ghost use Rattle.norprog_player.specs.Port.{moment_of, rules_at};
 use crate::together::{expected, row_of, take_row};
 use nor_base::{ByteIn, ByteOut, Meaning, PortFault, Step, sampled};
 use nor_chip::Port;
-use nor_progress::Progress;
+use nor_flasher::Progress;
 use nor_serprog::{Reason, Shadowed, do_row};
-use norprog_failure::{Failure, failure_of};
+use norprog_device::{Failure, failure_of};
 
 /// Why a device didn't go on, and at which step.
 #[derive(Clone, Copy, Drop)]
@@ -53,13 +52,6 @@ pub(crate) fn follow_steps<R: ByteIn + Drop, W: ByteOut + Drop, P: ByteOut>(
         (λ halt. StopsAt (rules_at port.old meaning.now)
         (moment_of W.held R.ahead port.old) steps.now halt
         (moment_of W.held R.ahead port.new)) }
-    ensures told { MatchResult result
-        (λ _. Reports steps.now (length steps.now) (P.held progress.old) (P.held progress.new)
-        (P.count progress.old)
-        (P.count progress.new))
-        (λ halt. Reports steps.now halt.step (P.held progress.old) (P.held progress.new)
-        (P.count progress.old)
-        (P.count progress.new)) }
 {
     let mut far = Progress::of(steps);
     let mut done = 0;

@@ -9,10 +9,8 @@ ghost use Rattle.nor_serprog.specs.Greeting.{Greeted};
 ghost use Rattle.nor_serprog.specs.Line.{TestsLine};
 ghost use Rattle.norprog_player.specs.Early.{GoesWellInMemory};
 ghost use Rattle.norprog_player.specs.Expected.{expectation_of, play_of};
-ghost use Rattle.norprog_player.specs.Progress.{ReportsPlay};
-ghost use Rattle.norprog_common.specs.Told.{output};
 ghost use Rattle.norprog_device.specs.Opened.{Opens};
-ghost use Rattle.norprog_common.specs.Wire.{wire};
+ghost use Rattle.nor_base.specs.Wire.{wire};
 ghost use Rattle.norprog_player.specs.Opened.{FailsTest, HasPlayed, Releases, StopsBefore};
 ghost use Rattle.norprog_player.specs.Opened.{StopsOpening};
 ghost use Rattle.norprog_player.specs.Port.{moment_of};
@@ -55,9 +53,6 @@ pub(crate) fn greet_and_play<R: ByteIn + Drop, W: ByteOut + Drop, P: ByteOut>(
         (moment_of W.held R.ahead port.new))
         (StopsBefore port.old.limits port.new.limits (moment_of W.held R.ahead port.old)
         (moment_of W.held R.ahead port.new)) }
-    ensures told { MatchResult result
-        (λ ending. ReportsPlay steps.now ending (output P.held P.count progress.old progress.new))
-        (λ _. progress.new ≡ progress.old) }
 {
     greet_and_test(port)?;
     let ending = play_on_device(
@@ -95,8 +90,8 @@ fn greet_port<R: ByteIn + Drop, W: ByteOut + Drop>(
     port: &mut Shadowed<'_, R, W>,
 ) -> Result<(), DeviceFault>
     ensures greeted { MatchResult result
-        (λ _. Greeted (W.held port.old.to) (W.held port.new.to) (R.ahead port.old.from)
-        (R.ahead port.new.from) (Ok port.new.limits))
+        (λ _. Greeted (wire (W.held port.old.to) (R.ahead port.old.from))
+        (wire (W.held port.new.to) (R.ahead port.new.from)) (Ok port.new.limits))
         (StopsOpening (wire (W.held port.old.to) (R.ahead port.old.from))
         (wire (W.held port.new.to) (R.ahead port.new.from)) port.old.limits port.new.limits) }
     ensures chip { port.new.chip ≡ port.old.chip }
@@ -120,8 +115,8 @@ fn test_port<R: ByteIn + Drop, W: ByteOut + Drop>(
     port: &mut Shadowed<'_, R, W>,
 ) -> Result<(), DeviceFault>
     ensures tested { MatchResult result
-        (λ _. TestsLine (W.held port.old.to) (W.held port.new.to) (R.ahead port.old.from)
-        (R.ahead port.new.from) (Ok tt) port.old.limits)
+        (λ _. TestsLine (wire (W.held port.old.to) (R.ahead port.old.from))
+        (wire (W.held port.new.to) (R.ahead port.new.from)) (Ok tt) port.old.limits)
         (FailsTest (wire (W.held port.old.to) (R.ahead port.old.from))
         (wire (W.held port.new.to) (R.ahead port.new.from)) port.old.limits) }
     ensures kept { (port.new.chip ≡ port.old.chip)

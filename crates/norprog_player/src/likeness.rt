@@ -10,7 +10,7 @@ ghost use Rattle.norprog_player.specs.Port.{moment_of, IsKept};
 use crate::access::Access;
 use crate::content::compare_whole;
 use nor_base::{ByteIn, ByteOut};
-use nor_probe::Mismatch;
+use nor_reader::Mismatch;
 use nor_serprog::{Reason, Shadowed};
 
 /// Compares the marked cells of the chip behind the device with the chip in memory, unless it is

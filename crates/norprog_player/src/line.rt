@@ -1,7 +1,7 @@
 //! The line that tells how a script ends on a device.
 
 ghost use Rattle.nor_base.specs.Device.{Writes, Counts};
-ghost use Rattle.norprog_failure.specs.Line.{other_line};
+ghost use Rattle.norprog_device.specs.FailureLine.{other_line};
 ghost use Rattle.norprog_player.specs.Line.{done_line, ending_line, exchange_line, mismatch_line};
 ghost use Rattle.norprog_player.specs.Line.{registers_line, status_line, unlike_line};
 
@@ -9,13 +9,12 @@ use crate::ending::{Ending, Unlike};
 use itoa::Buffer;
 use nor_base::{ByteOut, Failed, put_all, put_parts};
 use nor_check::Verdict;
-use nor_probe::{Difference, Mismatch};
+use nor_reader::{Difference, Mismatch};
 use nor_script::{hex_number, hex_pair};
 use nor_serprog::Fault;
 use norprog_check::write_verdict;
 use norprog_common::wrong_number;
-use norprog_device::word;
-use norprog_failure::{write_failure, write_wrong};
+use norprog_device::{word, write_failure, write_wrong};
 
 /// Writes the line of an ending (docs/FORMATS.md, section 14), closed by LF, with counts in
 /// decimal, addresses in eight and bytes in two lower-case hexadecimal digits. It takes no memory.

@@ -2,14 +2,13 @@
 
 ghost use Rattle.std.specs.Prelude.{◌≡◌, ◌<◌, ◌+◌, ◌^◌, length};
 ghost use Rattle.norprog_player.specs.Access.{far_ops, four_bytes, is_near};
-ghost use Rattle.norprog_common.specs.Wire.{wire};
+ghost use Rattle.nor_base.specs.Wire.{wire};
 ghost use Rattle.norprog_player.specs.Compared.{piece_at, ReadsBy, ReadsOps, ReadsRange};
 ghost use Rattle.norprog_player.specs.declared.access.Access.TheVariants.{Entered};
 
 use crate::access::Access;
 use nor_base::{ByteIn, ByteOut, Switch};
-use nor_probe::{Difference, Mismatch};
-use nor_reader::{ENTER, LEAVE, switch_mode};
+use nor_reader::{Difference, ENTER, LEAVE, Mismatch, switch_mode};
 use nor_serprog::{Reason, operate_with};
 
 /// The first address that three bytes don't reach.

@@ -10,7 +10,7 @@ use crate::ending::Ending;
 use crate::line::write_ending;
 use nor_base::{ByteOut, Failed, put_all};
 use norprog_common::refuse_lines;
-use norprog_failure::Failure;
+use norprog_device::Failure;
 
 /// What is written where the chip may hold a part of what the steps do.
 const STATE: &[u8] =

@@ -2,15 +2,15 @@
 use Rattle.std.proofs.Common.{◌≡◌, ℕ, Bool, true, false, List, [], ◌∷◌, Option, Result, Ok, Err, IfOk, IfErr, refl, sym, subst}
 use Rattle.std.specs.Prelude.{MatchResult}
 use Rattle.nor_base.specs.Chip.{begins4}
-use Rattle.nor_probe.specs.declared.difference.Mismatch.TheVariants.{Exchange, Differs}
-use Rattle.nor_probe.specs.declared.own.AddressRegister.{AddressRegister}
-use Rattle.nor_probe.specs.declared.own.AddressRegister.TheVariants.{Extended, Bank}
-use Rattle.nor_probe.specs.Own.{opcode_of}
+use Rattle.nor_reader.specs.declared.difference.Mismatch.TheVariants.{Exchange, Differs}
+use Rattle.nor_reader.specs.declared.own.AddressRegister.{AddressRegister}
+use Rattle.nor_reader.specs.declared.own.AddressRegister.TheVariants.{Extended, Bank}
+use Rattle.nor_reader.specs.Own.{opcode_of}
 use Rattle.nor_reader.specs.Harmless.{is_harmless, HasSentHarmless, SendsHarmless}
 use Rattle.nor_reader.specs.Telling.{opcode_to}
 use Rattle.nor_reader.proofs.HarmlessLemmas.{both_sent, id_sends, id_sent, none_sent, past_sends, past_sent, register_sends, register_sent, status_sends, status_sent, switched_sends, switched_sent, tables_none, tables_sends, tables_sent, then_sends, twice_sends, twice_sent, whole_sent}
 use Rattle.nor_serprog.specs.declared.fault.Reason.TheVariants as reason
-use Rattle.norprog_common.specs.Wire.{Wire}
+use Rattle.nor_base.specs.Wire.{Wire}
 use Rattle.norprog_read.specs.declared.asked.Ask.{Ask}
 use Rattle.norprog_read.specs.declared.asked.Known.{Known}
 use Rattle.norprog_read.specs.declared.asked.Reading.{Reading}

@@ -3,7 +3,7 @@ use Rattle.std.proofs.Common.{◌≡◌, refl, ℕ, ◌%◌, List, ◌++◌, tru
 use Rattle.std.specs.Prelude.{codes, decimal}
 use Rattle.nor_base.specs.declared.meaning.Part.TheVariants.{Generic}
 use Rattle.nor_base.specs.Script.{hex_pair}
-use Rattle.nor_probe.specs.declared.difference.Difference.{Difference}
+use Rattle.nor_reader.specs.declared.difference.Difference.{Difference}
 use Rattle.nor_script.specs.Hexadecimal.{hex_number}
 use Rattle.norprog_read.specs.declared.fault.Unlike.TheVariants.{Moved, Size}
 use Rattle.norprog_read.specs.Line.{content_line, note_line, status_line, tables_line, unlike_line}

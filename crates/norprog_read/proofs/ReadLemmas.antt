@@ -5,10 +5,11 @@ use Rattle.nor_serprog.specs.declared.limits.Limits.{Limits}
 use Rattle.nor_job.specs.declared.fault.BuildFault.TheVariants as fault
 use Rattle.nor_job.specs.Task.{Task}
 use Rattle.nor_loop.specs.Log.{Operation}
-use Rattle.nor_probe.specs.declared.difference.Mismatch.TheVariants as mismatch
-use Rattle.nor_probe.specs.declared.own.AddressRegister.{AddressRegister}
+use Rattle.nor_reader.specs.declared.difference.Mismatch.TheVariants as mismatch
+use Rattle.nor_reader.specs.declared.own.AddressRegister.{AddressRegister}
 use Rattle.nor_reader.specs.declared.tables.TablesFault.{TablesFault}
 use Rattle.nor_reader.specs.declared.tables.TablesFault.TheVariants.{Memory, NoSignature, Unread as Unread_}
+use Rattle.nor_reader.specs.AtOnce.{at_once}
 use Rattle.norprog_common.specs.Setup.{RefusesChipOf}
 use Rattle.norprog_common.specs.declared.faults.Refusal.{Refusal}
 use Rattle.norprog_common.specs.declared.faults.Refusal.TheVariants.{Build}
@@ -21,7 +22,7 @@ use Rattle.norprog_read.specs.declared.fault.Unread.TheVariants.{Refused, Device
 use Rattle.norprog_device.specs.declared.fault.DeviceFault.TheVariants.{Greet, Line}
 use Rattle.norprog_device.specs.Blame.{is_cut}
 use Rattle.norprog_device.specs.Opened.{LetsGo}
-use Rattle.norprog_common.specs.Wire.{Wire}
+use Rattle.nor_base.specs.Wire.{Wire}
 use Rattle.norprog_read.specs.Asked as asked
 use Rattle.norprog_read.specs.Asked.{StopsId, StopsStatus}
 use Rattle.norprog_read.specs.Blame.{fault_in}
@@ -162,8 +163,8 @@ of_chip most v w ask why (stops.AtLine u is p hides) = tt
 
 -- the line was tested, and then that stopped
 pub tested_stops : (u v w : Wire) (limits : Limits) (ask : Ask) (r : Result Reading Unread) → HasTested u v limits
-    → IfErr r (StopsChip limits.asked v w ask) → IfErr r (StopsTested u w limits ask)
+    → IfErr r (StopsChip (at_once limits) v w ask) → IfErr r (StopsTested u w limits ask)
 tested_stops u v w limits ask (Ok reading) tested stops = tt
-tested_stops u v w limits ask (Err (Device why)) tested stops = absurd (of_chip limits.asked v w ask (Device why) stops)
+tested_stops u v w limits ask (Err (Device why)) tested stops = absurd (of_chip (at_once limits) v w ask (Device why) stops)
 tested_stops u v w limits ask (Err (Refused why)) tested stops = record { between = v; tested = tested; stops = stops }
 tested_stops u v w limits ask (Err (Unlike why)) tested stops = record { between = v; tested = tested; stops = stops }

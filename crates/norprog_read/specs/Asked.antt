@@ -1,11 +1,11 @@
 -- Why a chip doesn't say how it is or what it is (this project's).
 use Rattle.std.specs.Prelude.{◌≡◌, ◌≢◌, ◌⊎◌, ◌∷◌, ⊤, ℕ, List, [], Option, Some, None, Result, Ok, Err}
-use Rattle.nor_probe.specs.Status.{ReadsStatus}
+use Rattle.nor_reader.specs.Status.{ReadsStatus}
 use Rattle.nor_reader.specs.Id.{Identifies}
 use Rattle.nor_serprog.specs.declared.fault.Fault.{Fault}
 use Rattle.nor_serprog.specs.declared.fault.Reason.{Reason}
 use Rattle.nor_serprog.specs.declared.fault.Reason.TheVariants as reason
-use Rattle.norprog_common.specs.Wire.{Wire}
+use Rattle.nor_base.specs.Wire.{Wire}
 use Rattle.norprog_read.specs.declared.asked.Ask.{Ask}
 use Rattle.norprog_read.specs.declared.fault.Unlike.TheVariants as unlike
 use Rattle.norprog_read.specs.declared.fault.Unread.{Unread}
@@ -13,11 +13,11 @@ use Rattle.norprog_read.specs.declared.fault.Unread.TheVariants.{Unlike}
 
 -- the chip was asked for its status until it was idle, so often at most
 abbrev pub AsksStatus : Wire → Wire → Ask → Result ℕ Reason → Type 0
-AsksStatus before after ask result = ReadsStatus ask.part before.held after.held before.ahead after.ahead result ask.turns
+AsksStatus before after ask result = ReadsStatus ask.part before after result ask.turns
 
 -- and for its identification
 abbrev pub AsksId : Wire → Wire → Result (List ℕ) Fault → Type 0
-AsksId before after result = Identifies before.held after.held before.ahead after.ahead result
+AsksId before after result = Identifies before after result
 
 -- the status stayed busy, or didn't come
 pub data StopsStatus (before after : Wire) (ask : Ask) : Unread → Type 0 where

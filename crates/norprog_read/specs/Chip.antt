@@ -7,11 +7,11 @@ use Rattle.nor_job.specs.Chip.{HasChip}
 use Rattle.nor_job.specs.Status.{start_of}
 use Rattle.nor_job.specs.Task.{Task, Origin, Sfdp, Uniform as of_size, Sheet as of_sheet}
 use Rattle.nor_loop.specs.Log.{Operation}
-use Rattle.nor_probe.specs.Tables.{tables_reach}
+use Rattle.nor_reader.specs.Known.{tables_reach}
 use Rattle.nor_reader.specs.declared.tables.TablesFault.{TablesFault}
 use Rattle.nor_reader.specs.declared.tables.TablesFault.TheVariants.{NoSignature}
 use Rattle.nor_reader.specs.Tables.{HasReadTables, StopsTables}
-use Rattle.norprog_common.specs.Wire.{Wire}
+use Rattle.nor_base.specs.Wire.{Wire}
 use Rattle.norprog_read.specs.declared.asked.Ask.{Ask}
 use Rattle.norprog_read.specs.declared.asked.Known.{Known}
 use Rattle.norprog_read.specs.declared.asked.Known.TheVariants.{Sheet, Tables, Uniform}
@@ -82,9 +82,9 @@ past_end most ask m content = past most (past_by m (start_by ask)) content
 -- its tables came twice alike, by reads of no more than so many bytes; a chip of a size or a sheet may
 -- have none
 pub data GivesTables (most : ℕ) (before after : Wire) (by : Known) : List ℕ → Type 0 where
-  Come : (tables : List ℕ) → HasReadTables most before.held after.held before.ahead after.ahead tables
+  Come : (tables : List ℕ) → HasReadTables most before after tables
       → GivesTables most before after by tables
-  Unsigned : lacks_tables by ≡ true → StopsTables most before.held after.held before.ahead after.ahead NoSignature
+  Unsigned : lacks_tables by ≡ true → StopsTables most before after NoSignature
       → GivesTables most before after by []
 
 -- its content came twice alike, in this way, where it was wanted

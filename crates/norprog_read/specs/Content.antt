@@ -4,7 +4,7 @@ use Rattle.nor_base.specs.Chip.{begins4}
 use Rattle.nor_reader.specs.Laws.{GivesBy, KnowsContent}
 use Rattle.nor_reader.specs.Telling.{KnowsMode}
 use Rattle.nor_reader.specs.Twice.{ReadTwice}
-use Rattle.norprog_common.specs.Wire.{Wire}
+use Rattle.nor_base.specs.Wire.{Wire}
 use Rattle.norprog_read.specs.Way.{first_of, second_of, Way}
 
 -- a byte for each address, by just these two readings, each read of no more than so many bytes; what every ready chip of the meaning and
@@ -13,6 +13,6 @@ use Rattle.norprog_read.specs.Way.{first_of, second_of, Way}
 pub record HoldsWhole (w : Way) (before after : Wire) (content : List ℕ) : Type 0 where
   pub whole : length content ≡ w.m.size
   pub way : GivesBy w.m w.start (first_of w)
-  pub known : (quad : Bool) → KnowsContent before.held after.held before.ahead after.ahead w.m (record w.start { quad = quad }) content
-  pub twice : ReadTwice w.most before.held after.held before.ahead after.ahead (first_of w) (second_of w) content
-  pub mode : KnowsMode before.held after.held before.ahead after.ahead w.sure (begins4 w.m w.start) content
+  pub known : (quad : Bool) → KnowsContent before after w.m (record w.start { quad = quad }) content
+  pub twice : ReadTwice w.most before after (first_of w) (second_of w) content
+  pub mode : KnowsMode before after w.sure (begins4 w.m w.start) content

@@ -1,13 +1,13 @@
 -- Whether a chip ends where its content does (this project's).
 use Rattle.std.specs.Prelude.{◌≡◌, ◌==◌, not, ℕ, Bool, true, false, List, ◌++◌, Result, Ok, Err}
 use Rattle.std.specs.List.{list_any}
-use Rattle.nor_probe.specs.declared.difference.Difference.{Difference}
-use Rattle.nor_probe.specs.declared.difference.Mismatch.{Mismatch}
-use Rattle.nor_probe.specs.declared.difference.Mismatch.TheVariants.{Exchange, Differs}
+use Rattle.nor_reader.specs.declared.difference.Difference.{Difference}
+use Rattle.nor_reader.specs.declared.difference.Mismatch.{Mismatch}
+use Rattle.nor_reader.specs.declared.difference.Mismatch.TheVariants.{Exchange, Differs}
 use Rattle.nor_reader.specs.declared.by.ReadBy.{ReadBy}
 use Rattle.nor_reader.specs.Past.{ReadsPast}
 use Rattle.nor_serprog.specs.declared.fault.Fault.{Fault}
-use Rattle.norprog_common.specs.Wire.{Wire}
+use Rattle.nor_base.specs.Wire.{Wire}
 use Rattle.norprog_read.specs.declared.asked.Ask.{Ask}
 use Rattle.norprog_read.specs.declared.fault.Unlike.TheVariants as unlike
 use Rattle.norprog_read.specs.declared.fault.Unread.{Unread}
@@ -41,7 +41,7 @@ past most by content = record { most = most; by = by; content = content }
 
 -- and this came of it
 abbrev pub EndsPast : Wire → Wire → Past → Result (Unit {0}) Mismatch → Type 0
-EndsPast before after p result = ReadsPast p.most before.held after.held before.ahead after.ahead result p.by p.content
+EndsPast before after p result = ReadsPast p.most before after result p.by p.content
 
 -- past its end the chip gave what one of just this content gives there; where it may be larger nothing was asked
 abbrev pub GivesPast : Wire → Wire → Past → Bool → Type 0

@@ -3,7 +3,7 @@ use Rattle.std.specs.Prelude.{ℕ, Bool, true, false, List, [], ◌∷◌, ◌++
 use Rattle.nor_base.specs.declared.meaning.Part.{Part}
 use Rattle.nor_base.specs.declared.meaning.Part.TheVariants.{Generic, W25q256jv}
 use Rattle.nor_base.specs.Script.{hex_pair}
-use Rattle.nor_probe.specs.declared.difference.Difference.{Difference}
+use Rattle.nor_reader.specs.declared.difference.Difference.{Difference}
 use Rattle.nor_script.specs.Hexadecimal.{hex_number}
 use Rattle.norprog.specs.ChipText.{meaning_text}
 use Rattle.norprog_device.specs.Line.{fault_word}

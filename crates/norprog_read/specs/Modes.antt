@@ -17,7 +17,7 @@ use Rattle.nor_reader.specs.Telling.{opcode_to}
 use Rattle.nor_serprog.specs.declared.fault.Fault.{Fault}
 use Rattle.nor_sfdp.specs.declared.fault.SfdpFault.{SfdpFault}
 use Rattle.nor_sfdp.specs.Reading.{meaning_of}
-use Rattle.norprog_common.specs.Wire.{Wire}
+use Rattle.nor_base.specs.Wire.{Wire}
 use Rattle.norprog_read.specs.declared.asked.Ask.{Ask}
 use Rattle.norprog_read.specs.declared.asked.Known.{Known}
 use Rattle.norprog_read.specs.declared.asked.Known.TheVariants.{Sheet, Uniform}
@@ -77,7 +77,7 @@ is_sure ask said modes = ask.fresh || (modes.one || (shows_mode ask.part || is_t
 
 -- these operations were done
 abbrev pub HasDone : Wire → Wire → List Operation → Type 0
-HasDone before after ops = HasLogged before.held after.held before.ahead after.ahead ops
+HasDone before after ops = HasLogged before after ops
 
 -- the mode that was said is made by these operations, from one status to the next: they were sent to a part of which nothing is known; a
 -- status that shows the mode shows that one, and nothing was sent; or it showed the other one, they were sent, and the next status shows it
@@ -89,7 +89,7 @@ pub data MakesMode (before after : Wire) (ask : Ask) (ops : List Operation) (fir
 
 -- it isn't: the exchange of one of them ended early, or then the status didn't come, or it shows the other mode
 pub data StopsMode (before after : Wire) (ask : Ask) (ops : List Operation) : Unread → Type 0 where
-  Unsent : (why : Fault) → StopsAmong before.held after.held before.ahead after.ahead ops why
+  Unsent : (why : Fault) → StopsAmong before after ops why
       → StopsMode before after ask ops (Unlike (unlike.Asking why))
   Unasked : (between : Wire) (why : Unread) → HasDone before between ops → StopsStatus between after ask why
       → StopsMode before after ask ops why

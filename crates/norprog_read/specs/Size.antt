@@ -2,13 +2,13 @@
 -- 27; JEDEC: Read Identification 9Fh, whose third byte is usually the power of two that the size is).
 use Rattle.std.specs.Prelude.{◌≡◌, ℕ, ◌==◌, ◌^◌, nat_le, ◌&&◌, Bool, true, false, if◌then◌else◌, List, [], ◌∷◌, Option, Some, None, Result, Ok, Err}
 use Rattle.nor_base.specs.Parameters.{Parameters}
-use Rattle.nor_probe.specs.declared.own.AddressRegister.{AddressRegister}
-use Rattle.nor_probe.specs.Own.{is_moved, opcode_of, register_of}
-use Rattle.nor_probe.specs.Status.{ReadsRegister}
+use Rattle.nor_reader.specs.declared.own.AddressRegister.{AddressRegister}
+use Rattle.nor_reader.specs.Own.{is_moved, opcode_of, register_of}
+use Rattle.nor_reader.specs.Status.{ReadsRegister}
 use Rattle.nor_serprog.specs.declared.fault.Fault.{Fault}
 use Rattle.nor_sfdp.specs.declared.fault.SfdpFault.{SfdpFault}
 use Rattle.nor_sfdp.specs.Reading.{density_of}
-use Rattle.norprog_common.specs.Wire.{Wire}
+use Rattle.nor_base.specs.Wire.{Wire}
 use Rattle.norprog_read.specs.declared.asked.Ask.{Ask}
 use Rattle.norprog_read.specs.declared.asked.Known.{Known}
 use Rattle.norprog_read.specs.declared.asked.Known.TheVariants.{Sheet, Uniform}
@@ -62,7 +62,7 @@ asked_register wanted tables = if wanted then register_of tables else None
 
 -- it was read
 abbrev pub AsksRegister : Wire → Wire → AddressRegister → Result ℕ Fault → Type 0
-AsksRegister before after register result = ReadsRegister before.held after.held before.ahead after.ahead result (opcode_of register)
+AsksRegister before after register result = ReadsRegister before after result (opcode_of register)
 
 -- no register was asked for; or it was read, and moves none
 pub data IsUnmoved (before after : Wire) : Option AddressRegister → Type 0 where

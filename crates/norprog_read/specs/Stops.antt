@@ -3,9 +3,9 @@ use Rattle.std.specs.Prelude.{◌≡◌, ◌≢◌, ◌<◌, ◌&&◌, ℕ, true
 use Rattle.nor_base.specs.Parameters.{Parameters}
 use Rattle.nor_job.specs.declared.fault.BuildFault.TheVariants.{Memory, Sfdp}
 use Rattle.nor_job.specs.Chip.{HasChip}
-use Rattle.nor_probe.specs.declared.difference.Difference.{Difference}
-use Rattle.nor_probe.specs.declared.difference.Mismatch.{Mismatch}
-use Rattle.nor_probe.specs.declared.difference.Mismatch.TheVariants.{Exchange, Differs}
+use Rattle.nor_reader.specs.declared.difference.Difference.{Difference}
+use Rattle.nor_reader.specs.declared.difference.Mismatch.{Mismatch}
+use Rattle.nor_reader.specs.declared.difference.Mismatch.TheVariants.{Exchange, Differs}
 use Rattle.nor_reader.specs.declared.tables.TablesFault.{TablesFault}
 use Rattle.nor_reader.specs.declared.tables.TablesFault.TheVariants as tables
 use Rattle.nor_reader.specs.Tables.{HasReadTables, StopsTables}
@@ -15,7 +15,7 @@ use Rattle.nor_sfdp.specs.declared.fault.SfdpFault.TheVariants.{Signature}
 use Rattle.norprog_common.specs.Setup.{RefusesChipOf}
 use Rattle.norprog_common.specs.declared.faults.Refusal.{Refusal}
 use Rattle.norprog_common.specs.declared.faults.Refusal.TheVariants.{Build}
-use Rattle.norprog_common.specs.Wire.{Wire}
+use Rattle.nor_base.specs.Wire.{Wire}
 use Rattle.norprog_read.specs.declared.asked.Ask.{Ask}
 use Rattle.norprog_read.specs.declared.asked.Known.{Known}
 use Rattle.norprog_read.specs.declared.asked.Known.TheVariants.{Sheet, Uniform}
@@ -64,15 +64,15 @@ DiffersFrom chip file other = ⊥
 -- its tables have no signature, didn't come twice alike, or aren't as the file's; each read of them is of no more than so many bytes. A chip
 -- of a size or a sheet may have none
 pub data StopsAsked (most : ℕ) (before after : Wire) (by : Known) (id : List ℕ) : Unread → Type 0 where
-  Uncome : (fault : TablesFault) (why : Unread) → StopsTables most before.held after.held before.ahead after.ahead fault → why ≡ stop_of id fault
+  Uncome : (fault : TablesFault) (why : Unread) → StopsTables most before after fault → why ≡ stop_of id fault
       → lacks_tables by && is_unsigned fault ≡ false → StopsAsked most before after by id why
-  Other : (file chip : List ℕ) (why : Unread) → IsFile by file → HasReadTables most before.held after.held before.ahead after.ahead chip
+  Other : (file chip : List ℕ) (why : Unread) → IsFile by file → HasReadTables most before after chip
       → DiffersFrom chip file why → StopsAsked most before after by id why
 
 -- the two readings stopped so
 abbrev pub ReadsUnlike : Way → Wire → Wire → List ℕ → Mismatch → Type 0
 ReadsUnlike w before after content why =
-    StopsTwice w.most before.held after.held before.ahead after.ahead (first_of w) (second_of w) content why
+    StopsTwice w.most before after (first_of w) (second_of w) content why
 
 -- the content can't be read whole, didn't come twice alike, or doesn't show the mode, which isn't sure
 pub data StopsContent (w : Way) (before after : Wire) : Unread → Type 0 where
@@ -83,7 +83,7 @@ pub data StopsContent (w : Way) (before after : Wire) : Unread → Type 0 where
   Other : (content : List ℕ) (d : Difference) → ReadsUnlike w before after content (Differs d)
       → StopsContent w before after (Unlike (unlike.At d.address))
   Hidden : (content : List ℕ) → w.sure ≡ false
-      → ReadTwice w.most before.held after.held before.ahead after.ahead (first_of w) (second_of w) content
+      → ReadTwice w.most before after (first_of w) (second_of w) content
       → (IsShownBy (first_of w) w.most content → ⊥) → StopsContent w before after (Unlike unlike.Hidden)
 
 -- the status came, of an idle chip; then the identification, of a line that a chip drives, which was the one that is expected

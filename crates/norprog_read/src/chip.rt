@@ -5,8 +5,9 @@ ghost use Rattle.std.specs.Prelude.{length, option_map, take, IfOk, IfErr, Match
 ghost use Rattle.std.specs.Prelude.{Ok};
 ghost use Rattle.nor_job.specs.Chip.{HasChip};
 ghost use Rattle.nor_job.specs.Status.{start_of};
+ghost use Rattle.nor_reader.specs.AtOnce.{at_once};
 ghost use Rattle.nor_reader.specs.Harmless.{HasSentHarmless, SendsHarmless};
-ghost use Rattle.norprog_common.specs.Wire.{wire};
+ghost use Rattle.nor_base.specs.Wire.{wire};
 ghost use Rattle.norprog_common.specs.Setup.{RefusesChipOf};
 ghost use Rattle.norprog_common.specs.declared.faults.Refusal.{Refusal};
 ghost use Rattle.norprog_read.specs.Asked.{AsksId, AsksStatus, IsDriven, IsExpected};
@@ -30,8 +31,10 @@ use crate::mode::{is_sure, make_mode, modes_of};
 use crate::size::{asked_register, noted_size, said_size, see_register, see_size};
 use nor_base::{ByteIn, ByteOut, Meaning, Start};
 use nor_job::{BuildFault, Inputs, Source};
-use nor_probe::{Difference, Mismatch, chip_status, first_difference, tables_reach};
-use nor_reader::{TablesFault, read_id, read_tables};
+use nor_reader::{
+    Difference, Mismatch, TablesFault, chip_status, first_difference, for_reading, read_id,
+    read_tables, tables_reach,
+};
 use nor_serprog::{Limits, Reason};
 use nor_sfdp::SfdpFault;
 use norprog_common::{Refusal, known_chip};
@@ -39,36 +42,39 @@ use std::alloc::Global;
 
 /// Has the chip behind a device get idle, say what it is, give its tables and its content, each
 /// byte twice, show that it ends there, and say again what it is. A content has to show the line,
-/// unless `ask` is `raw`.
+/// unless `ask` is `raw`. How far each reading of it is goes to `progress`.
 ///
 /// `Unlike` where it doesn't do so; `Refused` where its tables, size or sheet have no meaning, and
 /// for `Memory`.
-pub fn read_chip<R: ByteIn, W: ByteOut>(
+pub fn read_chip<R: ByteIn, W: ByteOut, P: ByteOut>(
     alloc: Global,
     from: &mut R,
     to: &mut W,
     limits: &Limits,
     ask: &Ask<'_>,
+    progress: &mut P,
 ) -> Result<Reading, Unread>
-    ensures read { IfOk result (λ reading. HasReadChip limits.now.asked
+    ensures read { IfOk result (λ reading. HasReadChip (at_once limits.now)
         (wire (W.held to.old) (R.ahead from.old)) (wire (W.held to.new) (R.ahead from.new)) ask.now
         reading) }
-    ensures stops { IfErr result (StopsChip limits.now.asked
+    ensures stops { IfErr result (StopsChip (at_once limits.now)
         (wire (W.held to.old) (R.ahead from.old)) (wire (W.held to.new) (R.ahead from.new))
         ask.now) }
     ensures harmless { MatchResult result (λ _. HasSentHarmless (W.held to.old) (W.held to.new))
         (λ _. SendsHarmless (W.held to.old) (W.held to.new)) }
 {
-    ask_chip(alloc, from, to, limits, ask)
+    let limits = for_reading(limits);
+    ask_chip(alloc, from, to, &limits, ask, progress)
 }
 
 /// The same, by what is asked.
-fn ask_chip<R: ByteIn, W: ByteOut>(
+fn ask_chip<R: ByteIn, W: ByteOut, P: ByteOut>(
     alloc: Global,
     from: &mut R,
     to: &mut W,
     limits: &Limits,
     ask: &Ask<'_>,
+    progress: &mut P,
 ) -> Result<Reading, Unread>
     ensures read { IfOk result (λ reading. HasReadChip limits.now.asked
         (wire (W.held to.old) (R.ahead from.old)) (wire (W.held to.new) (R.ahead from.new)) ask.now
@@ -89,7 +95,17 @@ fn ask_chip<R: ByteIn, W: ByteOut>(
     let status = make_mode(from, to, ask, said, modes, first)?;
     see_register(from, to, asked_register(ask.content, tables.as_slice()))?;
     let sure = is_sure(ask, said, modes);
-    let content = ask_content(alloc, from, to, limits, &meaning, start, sure, ask.content)?;
+    let content = ask_content(
+        alloc,
+        from,
+        to,
+        limits,
+        &meaning,
+        start,
+        sure,
+        ask.content,
+        progress,
+    )?;
     let by = past_by(&meaning, start);
     see_end(from, to, limits, ask, by, content.as_slice())?;
     let again = ask_id(from, to)?;
@@ -371,7 +387,7 @@ fn meaning_of(ask: &Ask<'_>, tables: &[u8]) -> Result<(Meaning, Start), Refusal>
 }
 
 /// Its content, where it is wanted; else none.
-fn ask_content<R: ByteIn, W: ByteOut>(
+fn ask_content<R: ByteIn, W: ByteOut, P: ByteOut>(
     alloc: Global,
     from: &mut R,
     to: &mut W,
@@ -380,6 +396,7 @@ fn ask_content<R: ByteIn, W: ByteOut>(
     start: Start,
     sure: bool,
     wanted: bool,
+    progress: &mut P,
 ) -> Result<Vec<u8>, Unread>
     ensures content { IfOk result (λ content. GivesContent
         (way limits.now.asked meaning.now start sure) (wire (W.held to.old) (R.ahead from.old))
@@ -389,7 +406,7 @@ fn ask_content<R: ByteIn, W: ByteOut>(
     ensures wanted { IfErr result (λ _. wanted ≡ true) }
 {
     if wanted {
-        read_whole(alloc, from, to, limits, meaning, start, sure)
+        read_whole(alloc, from, to, limits, meaning, start, sure, progress)
     } else {
         Ok(Vec::new(alloc))
     }

@@ -5,7 +5,7 @@ ghost use Rattle.std.specs.Prelude.{length, IfOk, IfErr};
 ghost use Rattle.std.specs.Bool.{OnFalse, OnTrue};
 ghost use Rattle.nor_base.specs.Chip.{begins4};
 ghost use Rattle.nor_reader.specs.declared.by.ReadBy.TheVariants.{Entered};
-ghost use Rattle.norprog_common.specs.Wire.{wire};
+ghost use Rattle.nor_base.specs.Wire.{wire};
 ghost use Rattle.norprog_read.specs.Content.{HoldsWhole};
 ghost use Rattle.norprog_read.specs.Stops.{StopsContent};
 ghost use Rattle.norprog_read.specs.Way.{first_by, is_near, is_readable, is_small, may_enter};
@@ -14,8 +14,7 @@ ghost use Rattle.norprog_read.specs.Way.{past_by, second_by, way, IsShownBy};
 use crate::fault::{Unlike, Unread};
 use crate::mode::{has_both, is_there};
 use nor_base::{ByteIn, ByteOut, Meaning, Start};
-use nor_probe::Mismatch;
-use nor_reader::{ReadBy, mode_is_shown, read_content, shows_mode, twice_knows};
+use nor_reader::{Mismatch, ReadBy, mode_is_shown, read_content, shows_mode, twice_knows};
 use nor_serprog::Limits;
 use std::alloc::Global;
 
@@ -28,7 +27,7 @@ const REACH: u32 = 1 << 24;
 ///
 /// `Unlike` where the chip can't be read whole, a byte came otherwise, or the content doesn't show
 /// that the chip is in the mode that was said; `Refused` for `Memory`.
-pub(crate) fn read_whole<R: ByteIn, W: ByteOut>(
+pub(crate) fn read_whole<R: ByteIn, W: ByteOut, P: ByteOut>(
     alloc: Global,
     from: &mut R,
     to: &mut W,
@@ -36,6 +35,7 @@ pub(crate) fn read_whole<R: ByteIn, W: ByteOut>(
     meaning: &Meaning,
     start: Start,
     sure: bool,
+    progress: &mut P,
 ) -> Result<Vec<u8>, Unread>
     ensures whole { IfOk result (λ content. HoldsWhole (way limits.now.asked meaning.now start sure)
         (wire (W.held to.old) (R.ahead from.old)) (wire (W.held to.new) (R.ahead from.new))
@@ -51,7 +51,8 @@ pub(crate) fn read_whole<R: ByteIn, W: ByteOut>(
     let mut content = vec![in alloc; 0; size_in(meaning)]?;
     twice_knows();
     mode_is_shown();
-    match read_content(from, to, limits, by, again, content.as_mut_slice()) {
+    let bytes = content.as_mut_slice();
+    match read_content(from, to, limits, by, again, bytes, progress) {
         Ok(()) => {
             if is_certain(limits, by, sure, content.as_slice()) {
                 Ok(content)

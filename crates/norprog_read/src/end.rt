@@ -1,15 +1,14 @@
 //! Whether the chip behind a device ends where its content does.
 
 ghost use Rattle.std.specs.Prelude.{◌≡◌, ◌↔◌, true, IfOk, IfErr};
-ghost use Rattle.norprog_common.specs.Wire.{wire};
+ghost use Rattle.nor_base.specs.Wire.{wire};
 ghost use Rattle.norprog_read.specs.End.{has_some, past, GivesPast, IsOnce, IsTwice, Repeats};
 ghost use Rattle.norprog_read.specs.End.{StopsEnd};
 
 use crate::asked::Ask;
 use crate::fault::{Unlike, Unread};
 use nor_base::{ByteIn, ByteOut};
-use nor_probe::Mismatch;
-use nor_reader::{ReadBy, read_past};
+use nor_reader::{Mismatch, ReadBy, read_past};
 use nor_serprog::Limits;
 
 /// Sees that the halves of a content aren't alike, unless they may be; then that the chip gives

@@ -5,7 +5,7 @@ ghost use Rattle.nor_job.specs.declared.fault.BuildFault.TheVariants.{Memory};
 ghost use Rattle.norprog_common.specs.declared.faults.Refusal.TheVariants.{Build};
 ghost use Rattle.norprog_read.specs.declared.fault.Unread.TheVariants as unread;
 
-use nor_probe::Difference;
+use nor_reader::Difference;
 use nor_serprog::Fault;
 use nor_sfdp::SfdpFault;
 use norprog_common::Refusal;

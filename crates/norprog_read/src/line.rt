@@ -11,7 +11,7 @@ use crate::asked::Reading;
 use crate::fault::Unlike;
 use itoa::Buffer;
 use nor_base::{ByteOut, Failed, Part, put_all, put_parts};
-use nor_probe::Difference;
+use nor_reader::Difference;
 use nor_script::{hex_number, hex_pair};
 use nor_sfdp::SfdpFault;
 use norprog::sfdp_text;

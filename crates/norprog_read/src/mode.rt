@@ -7,7 +7,7 @@ ghost use Rattle.nor_base.specs.declared.meaning.Part.TheVariants.{Generic};
 ghost use Rattle.nor_reader.specs.Switched.{Operates};
 ghost use Rattle.nor_reader.specs.Telling.{opcode_to};
 ghost use Rattle.nor_sfdp.specs.Reading.{meaning_of};
-ghost use Rattle.norprog_common.specs.Wire.{wire};
+ghost use Rattle.nor_base.specs.Wire.{wire};
 ghost use Rattle.norprog_read.specs.Modes.{has_three, is_otherwise, is_sure, mode_ops, modes_of};
 ghost use Rattle.norprog_read.specs.Modes.{own_modes, said_modes, sheet_modes, shows_mode};
 ghost use Rattle.norprog_read.specs.Modes.{switch_to, MakesMode, StopsMode};
@@ -193,7 +193,8 @@ fn send_switch<R: ByteIn, W: ByteOut>(
     said: bool,
     modes: Modes,
 ) -> Result<(), Fault>
-    ensures sends { Operates (W.held to.old) (W.held to.new) (R.ahead from.old) (R.ahead from.new)
+    ensures sends { Operates (wire (W.held to.old) (R.ahead from.old))
+        (wire (W.held to.new) (R.ahead from.new))
         result (mode_ops wanted said modes) }
 {
     let opcode = opcode_to(said);

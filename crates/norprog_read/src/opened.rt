@@ -2,7 +2,7 @@
 
 ghost use Rattle.std.specs.Prelude.{◌≡◌, ◌&&◌, not, Ok, IfOk, IfErr};
 ghost use Rattle.norprog_device.specs.Blame.{is_cut};
-ghost use Rattle.norprog_common.specs.Wire.{wire};
+ghost use Rattle.nor_base.specs.Wire.{wire};
 ghost use Rattle.norprog_read.specs.Blame.{fault_in};
 ghost use Rattle.norprog_read.specs.Opened.{HasReadOpened, HasReadTested, StopsOpened, StopsTested};
 
@@ -20,11 +20,12 @@ use std::alloc::Global;
 /// answer changes nothing. After a failed write nothing more is sent.
 ///
 /// `Device` where the handshake or the test of the line ended early.
-pub fn read_opened<R: ByteIn, W: ByteOut>(
+pub fn read_opened<R: ByteIn, W: ByteOut, P: ByteOut>(
     alloc: Global,
     from: &mut R,
     to: &mut W,
     ask: &Ask<'_>,
+    progress: &mut P,
 ) -> Result<Reading, Unread>
     ensures read { IfOk result (λ reading. HasReadOpened (wire (W.held to.old) (R.ahead from.old))
         (wire (W.held to.new) (R.ahead from.new)) ask.now reading) }
@@ -35,7 +36,7 @@ pub fn read_opened<R: ByteIn, W: ByteOut>(
         Ok(limits) => limits,
         Err(why) => return Err(Unread::Device(DeviceFault::Greet(why))),
     };
-    let read = read_tested(alloc, from, to, &limits, ask);
+    let read = read_tested(alloc, from, to, &limits, ask, progress);
     let pins = frees_pins(&limits, &read);
     let_go(from, to, pins);
     read
@@ -50,12 +51,13 @@ fn frees_pins(limits: &Limits, read: &Result<Reading, Unread>) -> bool
 }
 
 /// Tests the line to a device, and has its chip read.
-fn read_tested<R: ByteIn, W: ByteOut>(
+fn read_tested<R: ByteIn, W: ByteOut, P: ByteOut>(
     alloc: Global,
     from: &mut R,
     to: &mut W,
     limits: &Limits,
     ask: &Ask<'_>,
+    progress: &mut P,
 ) -> Result<Reading, Unread>
     ensures read { IfOk result (λ reading. HasReadTested (wire (W.held to.old) (R.ahead from.old))
         (wire (W.held to.new) (R.ahead from.new)) limits.now ask.now reading) }
@@ -63,7 +65,7 @@ fn read_tested<R: ByteIn, W: ByteOut>(
         (wire (W.held to.new) (R.ahead from.new)) limits.now ask.now) }
 {
     match test_line(from, to, limits) {
-        Ok(()) => read_chip(alloc, from, to, limits, ask),
+        Ok(()) => read_chip(alloc, from, to, limits, ask, progress),
         Err(why) => Err(Unread::Device(DeviceFault::Line(why))),
     }
 }

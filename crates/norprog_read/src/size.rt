@@ -2,14 +2,14 @@
 //! table, DWORDs 2 and 16; JEDEC, Read Identification 9Fh).
 
 ghost use Rattle.std.specs.Prelude.{◌≡◌, None, IfOk, IfErr};
-ghost use Rattle.norprog_common.specs.Wire.{wire};
+ghost use Rattle.nor_base.specs.Wire.{wire};
 ghost use Rattle.norprog_read.specs.Size.{asked_register, noted_size, other_size, said_size};
 ghost use Rattle.norprog_read.specs.Size.{size_by, IsUnmoved, StopsMoved, TellsSize};
 
 use crate::asked::{Ask, Known};
 use crate::fault::{Unlike, Unread};
 use nor_base::{ByteIn, ByteOut, Meaning};
-use nor_probe::{AddressRegister, address_register, is_moved, opcode_of, read_register};
+use nor_reader::{AddressRegister, address_register, is_moved, opcode_of, read_register};
 use nor_sfdp::density;
 
 /// Refuses a chip of a size or a sheet whose tables say another size, unless any is allowed.

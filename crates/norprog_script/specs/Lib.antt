@@ -1,3 +1,5 @@
 pub mod Request
 pub mod Tally
 pub mod Written
+pub mod Drawn
+pub mod DrawRequest

@@ -3,10 +3,10 @@
 use crate::same::holds;
 use nor_base::{IntoWrite, Wrong};
 use nor_check::Why;
-use nor_probe::{Difference, Mismatch};
+use nor_reader::{Difference, Mismatch};
 use nor_serprog::Fault;
 use norprog_player::{Ending, Failure, Unlike, write_ending};
-use test_devices::Held;
+use test_samples::Held;
 
 /// At 1FEh the chip gives A5h, and 5Ah was wanted.
 const OTHER: Difference = Difference {

@@ -6,7 +6,7 @@ use nor_serprog::{Fault, Limits, test_line};
 use std::alloc::{AllocError, Global};
 use std::process::Abort;
 use std::test::Fail;
-use test_devices::{Canned, End, Held};
+use test_samples::{Canned, End, Held};
 
 /// The values from 00h to 7Fh.
 const LOW: &[u8] = b"\x00\x01\x02\x03\x04\x05\x06\x07\x08\x09\x0a\x0b\x0c\x0d\x0e\x0f\

@@ -13,9 +13,9 @@ use std::alloc::{AllocError, Global};
 use std::cell::Cell;
 use std::process::Abort;
 use std::test::Fail;
-use test_devices::{BLANK, End, Held};
 use test_samples::sfdp::SMALL;
 use test_samples::texts::ONE_BYTE;
+use test_samples::{BLANK, End, Held};
 
 /// What goes out in a handshake; what a device answers to it that sends at most 129 bytes at once
 /// and gives at most 4096.

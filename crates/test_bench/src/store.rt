@@ -9,7 +9,7 @@ use norprog_files::{Files, OutKind, Trail};
 use std::alloc::Global;
 use std::cell::Cell;
 use std::io;
-use test_devices::{Canned, End};
+use test_samples::{Canned, End};
 
 /// The files `content`, `script` and `tables`, and a device that gives these answers, whose writer
 /// fails once, after so many bytes. What it took, and how many bytes of its answers are left. Where

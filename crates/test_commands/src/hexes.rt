@@ -3,7 +3,7 @@
 use crate::devices::{SlowWriter, writer};
 use crate::same::{holds, same};
 use nor_base::IntoWrite;
-use nor_hex_out::{read_back, write_hex};
+use nor_hex::{read_back, write_hex};
 use std::alloc::Global;
 use std::process::Abort;
 

@@ -7,9 +7,8 @@ use nor_check::{CheckFault, StepChecker, Verdict, check};
 use nor_script::read;
 use std::alloc::Global;
 use std::process::Abort;
-use test_devices::BLANK;
-use test_samples::small_chip;
 use test_samples::texts::ONE_BYTE;
+use test_samples::{BLANK, small_chip};
 
 /// Checks the script that makes the byte at 0 of a chip that holds FFh 00h, as a whole or fed with
 /// one step after another. Memory where its own memory is refused too.

@@ -6,7 +6,7 @@ use nor_serprog::{Command, Fault, GreetFault, Limits, greet};
 use std::alloc::Global;
 use std::process::Abort;
 use std::test::Fail;
-use test_devices::{Canned, End, Held};
+use test_samples::{Canned, End, Held};
 
 /// What a device answers that offers 01h, 02h, 04h, 08h, 11h, 12h, 13h and 15h: 300 bytes before it
 /// answers, at most 256 bytes out, and 2^24 in.

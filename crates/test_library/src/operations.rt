@@ -5,7 +5,7 @@ use nor_base::{FromRead, IntoWrite};
 use nor_serprog::{Limits, is_carried, operate};
 use std::alloc::Global;
 use std::process::Abort;
-use test_devices::{Canned, End, Held};
+use test_samples::{Canned, End, Held};
 
 /// Ten bytes out and two in at most.
 const LIMITS: Limits = Limits {

@@ -9,9 +9,8 @@ use nor_serprog::{Fault, Limits, Reason, Shadowed};
 use std::alloc::Global;
 use std::process::Abort;
 use std::test::Fail;
-use test_devices::{BLANK, Canned, End, Held};
-use test_samples::small_chip;
 use test_samples::texts::ONE_BYTE;
+use test_samples::{BLANK, Canned, End, Held, small_chip};
 
 /// A program of 00h at 0, and a read of it.
 const VERIFY: &str =

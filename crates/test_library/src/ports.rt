@@ -8,8 +8,7 @@ use nor_chip::{Chip, Port};
 use std::alloc::{AllocError, Global};
 use std::process::Abort;
 use std::test::Fail;
-use test_devices::BLANK;
-use test_samples::small_chip;
+use test_samples::{BLANK, small_chip};
 
 /// In three-byte mode, without the quad setting.
 pub(crate) const PLAIN: Start = Start {

@@ -8,7 +8,7 @@ use nor_serprog::{Fault, Limits, Reason, carried, do_step, is_doable};
 use std::alloc::Global;
 use std::process::Abort;
 use std::test::Fail;
-use test_devices::{Canned, End, Held};
+use test_samples::{Canned, End, Held};
 
 /// A program of 00h at 0, and a read of it.
 const SCRIPT: &str =

@@ -3,6 +3,7 @@
 //! [`words`] and [`meanings`] what their rows have.
 #![tactic(auto)]
 
+mod canned;
 pub mod meanings;
 pub mod rows;
 pub mod sfdp;
@@ -17,7 +18,11 @@ ghost use Rattle.test_samples.specs.Chips.{large_legacy, large_legacy_w25q256jv}
 ghost use Rattle.test_samples.specs.Chips.{large_legacy_latched, twin};
 
 use arrayvec::ArrayVec;
+pub use canned::{Canned, End, Held};
 use nor_base::{Erase, Meaning, QuadRead, Region, Switch, Width};
+
+/// What an empty chip of 8 KiB holds.
+pub const BLANK: [u8; 8192] = [0xFF; 8192];
 
 /// 8 KiB in sectors of 4 KiB: the chip of `Meaning::uniform(8192)`.
 pub fn small_chip() -> Meaning

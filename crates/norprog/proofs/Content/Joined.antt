@@ -8,6 +8,7 @@ use Rattle.nor_job.specs.declared.fault.BuildFault.{BuildFault}
 use Rattle.nor_job.specs.declared.fault.BuildFault.TheVariants as fault
 use Rattle.nor_outline.specs.Told.{unit_outline}
 use Rattle.nor_outline.proofs.PlanText.{text_lines, text_begun}
+use Rattle.nor_steps.specs.Stretch.{stretch}
 use Rattle.nor_steps.specs.declared.fault.StepsFault.{StepsFault}
 use Rattle.nor_steps.specs.declared.fault.StepsFault.TheVariants as steps
 use Rattle.nor_steps.specs.Faults.{IsOfWriting}
@@ -22,7 +23,7 @@ use Rattle.norprog.proofs.Content.Stretches.{stretch_units_join, sound_join}
 use Rattle.norprog.proofs.Content.Targets.{part_left, part_right}
 
 -- nothing
-pub none_text : (unit_text : UnitText) (w : Writing) → IsText unit_text w 0 [] [] []
+pub none_text : (unit_text : UnitText) (w : Writing) → IsText unit_text w (stretch 0 [] []) []
 unfolding units_over
 none_text unit_text w content target has has' =
     let m = w.streaming.meaning in
@@ -48,8 +49,8 @@ units_text_join unit_text w content target (u ∷ us) vs =
 
 -- two stretches
 pub text_join : (unit_text : UnitText) (w v : Writing) (at : ℕ) (xs ys txs tys : List ℕ) (p : List Op) (these more : List ℕ) → 0 < w.streaming.meaning.page
-    → at % w.streaming.meaning.page ≡ 0 → length xs ≡ at → length txs ≡ at → v ≡ written_on w p → IsWork w 0 xs txs p → IsText unit_text w 0 xs txs these
-    → IsText unit_text v at ys tys more → IsText unit_text w 0 (xs ++ ys) (txs ++ tys) (these ++ more)
+    → at % w.streaming.meaning.page ≡ 0 → length xs ≡ at → length txs ≡ at → v ≡ written_on w p → IsWork w (stretch 0 xs txs) p → IsText unit_text w (stretch 0 xs txs) these
+    → IsText unit_text v (stretch at ys tys) more → IsText unit_text w (stretch 0 (xs ++ ys) (txs ++ tys)) (these ++ more)
 text_join unit_text w v at xs ys txs tys p these more some whole upto upto' state work first second content target has has' =
     let m = w.streaming.meaning in
     let by = w.streaming.by in
@@ -74,8 +75,8 @@ text_join unit_text w v at xs ys txs tys p these more some whole upto upto' stat
 
 -- one, and the beginning of another
 pub begun_join : (unit_text : UnitText) (w v : Writing) (at : ℕ) (xs ys txs tys : List ℕ) (p : List Op) (these front : List ℕ) → 0 < w.streaming.meaning.page
-    → at % w.streaming.meaning.page ≡ 0 → length xs ≡ at → length txs ≡ at → v ≡ written_on w p → IsWork w 0 xs txs p → IsText unit_text w 0 xs txs these
-    → IsBegunText unit_text v at ys tys front → IsBegunText unit_text w 0 (xs ++ ys) (txs ++ tys) (these ++ front)
+    → at % w.streaming.meaning.page ≡ 0 → length xs ≡ at → length txs ≡ at → v ≡ written_on w p → IsWork w (stretch 0 xs txs) p → IsText unit_text w (stretch 0 xs txs) these
+    → IsBegunText unit_text v (stretch at ys tys) front → IsBegunText unit_text w (stretch 0 (xs ++ ys) (txs ++ tys)) (these ++ front)
 begun_join unit_text w v at xs ys txs tys p these front some whole upto upto' state work first second content target has has' =
     let m = w.streaming.meaning in
     let by = w.streaming.by in
@@ -100,25 +101,25 @@ begun_join unit_text w v at xs ys txs tys p these front some whole upto upto' st
     })
 
 -- all of a text is some of it
-all_begun : (unit_text : UnitText) (w : Writing) (have want these : List ℕ) → IsText unit_text w 0 have want these → IsBegunText unit_text w 0 have want these
+all_begun : (unit_text : UnitText) (w : Writing) (have want these : List ℕ) → IsText unit_text w (stretch 0 have want) these → IsBegunText unit_text w (stretch 0 have want) these
 all_begun unit_text w have want these is content target has has' =
     let its = is content target has has' in
     record { rest = []; whole = its.are ∙ sym (append-nil these); sound = its.sound }
 
-pub text_begins : (unit_text : UnitText) (w : Writing) (have want these : List ℕ) (why : BuildFault) → IsText unit_text w 0 have want these
+pub text_begins : (unit_text : UnitText) (w : Writing) (have want these : List ℕ) (why : BuildFault) → IsText unit_text w (stretch 0 have want) these
     → BeginsText unit_text w have want these why
 text_begins unit_text w have want these fault.Write is = all_begun unit_text w have want these is
 text_begins unit_text w have want these fault.Memory is = all_begun unit_text w have want these is
 text_begins unit_text w have want these other is = is
 
-pub begun_begins : (unit_text : UnitText) (w : Writing) (have want front : List ℕ) (why : StepsFault) → IsOfWriting why → IsBegunText unit_text w 0 have want front
+pub begun_begins : (unit_text : UnitText) (w : Writing) (have want front : List ℕ) (why : StepsFault) → IsOfWriting why → IsBegunText unit_text w (stretch 0 have want) front
     → BeginsText unit_text w have want front (lifted_steps why)
 begun_begins unit_text w have want front steps.Write of begun = begun
 begun_begins unit_text w have want front steps.Memory of begun = begun
 begun_begins unit_text w have want front (steps.Plan why) of begun = absurd of
 
 -- of the steps some were written
-begun_steps : (w : Writing) (have want front : List ℕ) → IsBegunText unit_steps w 0 have want front → IsBegun w 0 have want front
+begun_steps : (w : Writing) (have want front : List ℕ) → IsBegunText unit_steps w (stretch 0 have want) front → IsBegun w (stretch 0 have want) front
 begun_steps w have want front begun content target has has' =
     let is = begun content target has has' in
     record {
@@ -127,7 +128,7 @@ begun_steps w have want front begun content target has has' =
       sound = is.sound;
     }
 
-pub steps_begun : (w : Writing) (have want front : List ℕ) (why : BuildFault) → BeginsText unit_steps w have want front why → IsBegun w 0 have want front
+pub steps_begun : (w : Writing) (have want front : List ℕ) (why : BuildFault) → BeginsText unit_steps w have want front why → IsBegun w (stretch 0 have want) front
 steps_begun w have want front fault.Write begun = begun_steps w have want front begun
 steps_begun w have want front fault.Memory begun = begun_steps w have want front begun
 steps_begun w have want front other is = begun_steps w have want front (all_begun unit_steps w have want front is)

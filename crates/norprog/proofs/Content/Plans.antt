@@ -24,8 +24,9 @@ use Rattle.nor_job.proofs.TargetLemmas.{gives_none, length-target}
 use Rattle.nor_outline.specs.Outline.{unit_plan, IsStretchPlan, IsStretchPlanOf, RefusesLines}
 use Rattle.nor_outline.specs.Told.{unit_outline}
 use Rattle.nor_outline.proofs.PlanText.{plan_text, lines_wrote, refused}
-use Rattle.nor_plan_read.specs.Lines.{line_words, lines_text}
-use Rattle.nor_plan_read.specs.declared.line.PlanLine.{PlanLine}
+use Rattle.nor_outline.specs.Lines.{line_words, lines_text}
+use Rattle.nor_outline.specs.declared.line.PlanLine.{PlanLine}
+use Rattle.nor_steps.specs.Stretch.{stretch}
 use Rattle.nor_steps.specs.Tally.{nothing_told, sum_of, IsFew}
 use Rattle.nor_steps.specs.Texts.{IsTold, IsBegunText}
 use Rattle.nor_steps.specs.Work.{stretch_units}
@@ -33,15 +34,16 @@ use Rattle.nor_steps.specs.Writing.{Writing}
 use Rattle.nor_steps.specs.declared.fault.StepsFault.{StepsFault}
 use Rattle.nor_steps.specs.declared.fault.StepsFault.TheVariants as steps
 use Rattle.nor_steps.specs.declared.tally.Tally.{Tally}
+use Rattle.nor_base.specs.Wire.{wire}
 use Rattle.norprog.specs.Planner.{Planning, IsReady, IsPlannedPart, HasTold, GoesOn, CutsPlan, StopsPlanning}
-use Rattle.norprog.specs.Windows.{first_writing, lifted_steps, AreRecent, CutCause, IsDone, IsCutPlan, BeginsText}
+use Rattle.norprog.specs.Windows.{first_writing, lifted_steps, AreRecent, CutCause, IsDone, IsCutPlan, BeginsText, range}
 use Rattle.norprog.proofs.Content.Places.{IsPlace, place_is, chip_pages, window_pages}
 use Rattle.norprog.proofs.Content.Stretches.{stretch_units_join, sound_join, work_none}
 use Rattle.norprog.proofs.Content.Targets.{part_left, part_right, target_of_parts, bytes_of_parts}
 use Rattle.norprog.proofs.Content.Windows.{steps_join, few_join, done_then_cut, ended}
 
 -- the lines of nothing
-plan_none : (m : Parameters) (by : Strategy) → IsStretchPlan m by 0 [] [] []
+plan_none : (m : Parameters) (by : Strategy) → IsStretchPlan m by (stretch 0 [] []) []
 unfolding units_over
 plan_none m by content target has has' =
     let none : 0 / m.page ≡ 0 = zero-div m.page in
@@ -52,7 +54,7 @@ plan_none m by content target has has' =
 
 -- the lines of two stretches
 plan_join : (m : Parameters) (by : Strategy) (at : ℕ) (xs ys txs tys : List ℕ) (these more : List PlanLine) → 0 < m.page → at % m.page ≡ 0 → length xs ≡ at → length txs ≡ at
-    → IsStretchPlan m by 0 xs txs these → IsStretchPlan m by at ys tys more → IsStretchPlan m by 0 (xs ++ ys) (txs ++ tys) (these ++ more)
+    → IsStretchPlan m by (stretch 0 xs txs) these → IsStretchPlan m by (stretch at ys tys) more → IsStretchPlan m by (stretch 0 (xs ++ ys) (txs ++ tys)) (these ++ more)
 plan_join m by at xs ys txs tys these more some whole upto upto' first second content target has has' =
     let left : IsStretchPlanOf m by 0 at content target these =
     subst (λ n. IsStretchPlanOf m by 0 n content target these) upto (first content target (part_left content xs ys has) (part_left target txs tys has')) in
@@ -70,7 +72,7 @@ plan_join m by at xs ys txs tys these more some whole upto upto' first second co
     })
 
 -- before the first window
-pub none_told : (job : Job) (v : Writing) (ahead : Ahead) → v ≡ first_writing job → IsPlannedPart job (first_writing job) v 0 0 ahead ahead nothing_told []
+pub none_told : (job : Job) (v : Writing) (ahead : Ahead) → v ≡ first_writing job → IsPlannedPart job (first_writing job) v (range 0 0) ahead ahead nothing_told []
 none_told job v ahead is = record {
   part = [];
   size = refl;
@@ -89,16 +91,16 @@ none_told job v ahead is = record {
 -- a window that was read and planned
 pub planned_part : (job : Job) (w v : Writing) (at n : ℕ) (a b : Ahead) (part want : List ℕ) (told : Tally) (lines : List PlanLine) → length part ≡ n → Gives a part b
     → AreBytes (target_from job at part) → want ≡ target_from job at part → w.streaming.meaning ≡ job.meaning → w.streaming.by ≡ strategy job.meaning job.start
-    → IsTold w v at part want told → IsStretchPlan w.streaming.meaning w.streaming.by at part want lines → IsPlannedPart job w v at n a b told lines
+    → IsTold w v (stretch at part want) told → IsStretchPlan w.streaming.meaning w.streaming.by (stretch at part want) lines → IsPlannedPart job w v (range at n) a b told lines
 planned_part job w v at n a b part want told lines size given bytes target meaning driven steps plan = record {
   part = part;
   size = size;
   given = given;
   bytes = bytes;
-  steps = subst (λ (want : List ℕ). IsTold w v at part want told) target steps;
-  plan = subst (λ (m : Parameters). IsStretchPlan m (strategy job.meaning job.start) at part (target_from job at part) lines) meaning
-      (subst (λ (by : Strategy). IsStretchPlan w.streaming.meaning by at part (target_from job at part) lines) driven
-      (subst (λ (want : List ℕ). IsStretchPlan w.streaming.meaning w.streaming.by at part want lines) target plan));
+  steps = subst (λ (want : List ℕ). IsTold w v (stretch at part want) told) target steps;
+  plan = subst (λ (m : Parameters). IsStretchPlan m (strategy job.meaning job.start) (stretch at part (target_from job at part)) lines) meaning
+      (subst (λ (by : Strategy). IsStretchPlan w.streaming.meaning by (stretch at part (target_from job at part)) lines) driven
+      (subst (λ (want : List ℕ). IsStretchPlan w.streaming.meaning w.streaming.by (stretch at part want) lines) target plan));
 }
 
 -- neither comes of a writer
@@ -107,15 +109,15 @@ unread_count a b window fault.ContentShort is = refl
 unread_count a b window fault.Read is = refl
 unread_count a b window other is = absurd is.3
 
-pub unplanned_count : (m : Parameters) (by : Strategy) (at : ℕ) (have want : List ℕ) (why : StepsFault) → RefusesLines m by at have want why → 0 ≡ raised 0 (of_writer (lifted_steps why))
+pub unplanned_count : (m : Parameters) (by : Strategy) (at : ℕ) (have want : List ℕ) (why : StepsFault) → RefusesLines m by (stretch at have want) why → 0 ≡ raised 0 (of_writer (lifted_steps why))
 unplanned_count m by at have want (steps.Plan why) is = refl
 unplanned_count m by at have want steps.Memory is = refl
 unplanned_count m by at have want steps.Write is = absurd is
 
 -- what was planned up to an address, and then a window
 pub told_then : (job : Job) (v u : Writing) (at n window : ℕ) (a b c : Ahead) (told more : Tally) (these lines : List PlanLine) → IsPlace job.meaning window at n
-    → IsPlannedPart job (first_writing job) v 0 at a b told these → IsPlannedPart job v u at n b c more lines
-    → IsPlannedPart job (first_writing job) u 0 (at + n) a c (sum_of told more) (these ++ lines)
+    → IsPlannedPart job (first_writing job) v (range 0 at) a b told these → IsPlannedPart job v u (range at n) b c more lines
+    → IsPlannedPart job (first_writing job) u (range 0 (at + n)) a c (sum_of told more) (these ++ lines)
 told_then job v u at n window a b c told more these lines place first second =
     let w = first_writing job in
     let m = job.meaning in
@@ -131,15 +133,15 @@ told_then job v u at n window a b c told more these lines place first second =
       size = omega (arith, length-append xs ys, first.size, second.size);
       given = Gives-append a b c xs ys first.given second.given;
       bytes = subst AreBytes (sym goal) (bytes_of_parts txs tys first.bytes second.bytes);
-      steps = subst (λ (goal : List ℕ). IsTold w u 0 (xs ++ ys) goal (sum_of told more)) (sym goal)
+      steps = subst (λ (goal : List ℕ). IsTold w u (stretch 0 (xs ++ ys) goal) (sum_of told more)) (sym goal)
           (steps_join w v u at xs ys txs tys told more place.page place.pages first.size upto' first.steps second.steps);
-      plan = subst (λ (goal : List ℕ). IsStretchPlan m by 0 (xs ++ ys) goal (these ++ lines)) (sym goal)
+      plan = subst (λ (goal : List ℕ). IsStretchPlan m by (stretch 0 (xs ++ ys) goal) (these ++ lines)) (sym goal)
           (plan_join m by at xs ys txs tys these lines place.page place.pages first.size upto' first.plan second.plan);
     }
 
 -- a writer that took the lines so far has done their part
 unfoldable pub told_done : (job : Job) (v : Writing) (at : ℕ) (a b : Ahead) (x y : Option (List ℕ)) (told : Tally) (lines : List PlanLine)
-    → IsPlannedPart job (first_writing job) v 0 at a b told lines → Appends x y (lines_text lines) → IsDone unit_outline job (first_writing job) v 0 at a b x y told
+    → IsPlannedPart job (first_writing job) v (range 0 at) a b told lines → Appends x y (lines_text lines) → IsDone unit_outline job (first_writing job) v (range 0 at) (wire x a) (wire y b) told
 told_done job v at a b x y told lines its put = record {
   part = its.part;
   size = its.size;
@@ -158,7 +160,7 @@ unread job w at n a b window other size is x = absurd is.3
 
 -- a window that was read, and has no lines
 pub unplanned : (job : Job) (w : Writing) (at n : ℕ) (a b : Ahead) (part : List ℕ) (why : StepsFault) → length part ≡ n
-    → AreBytes (target_from job at part) → Gives a part b → RefusesLines w.streaming.meaning w.streaming.by at part (target_from job at part) why
+    → AreBytes (target_from job at part) → Gives a part b → RefusesLines w.streaming.meaning w.streaming.by (stretch at part (target_from job at part)) why
     → StopsPlanning job w at n a b (lifted_steps why)
 unplanned job w at n a b part why size bytes given is x = ended unit_outline job w at n a b x x why (record {
   part = part;
@@ -170,8 +172,8 @@ unplanned job w at n a b part why size bytes given is x = ended unit_outline job
 
 -- then a writer that took the lines so far is cut short
 pub told_then_cut : (job : Job) (v : Writing) (at n window : ℕ) (a b c : Ahead) (x y : Option (List ℕ)) (told : Tally) (lines : List PlanLine) (why : BuildFault)
-    → IsPlace job.meaning window at n → IsPlannedPart job (first_writing job) v 0 at a b told lines → Appends x y (lines_text lines) → StopsPlanning job v at n b c why
-    → IsCutPlan job a c x y why
+    → IsPlace job.meaning window at n → IsPlannedPart job (first_writing job) v (range 0 at) a b told lines → Appends x y (lines_text lines) → StopsPlanning job v at n b c why
+    → IsCutPlan job (wire x a) (wire y c) why
 told_then_cut job v at n window a b c x y told lines why place its put stops =
     done_then_cut unit_outline job v at n window a b c x y y told why place (told_done job v at a b x y told lines its put) (stops y)
 
@@ -186,7 +188,7 @@ pub next_place : (p : Planning) (n : ℕ) → IsReady p → p.at < p.job.meaning
 next_place p n ready before is = place_is p.job.meaning p.window p.at n ready.accepted ready.window before (ready.aligned before) is
 
 pub goes_on : (p : Planning) (job : Job) (v : Writing) (window room at n : ℕ) (b c : Ahead) (more told : Tally) (lines : List PlanLine) → IsReady p
-    → IsPlace p.job.meaning p.window p.at n → IsPlannedPart p.job p.work v p.at n b c more lines → job ≡ p.job → window ≡ p.window → room ≡ p.room → at ≡ p.at + n
+    → IsPlace p.job.meaning p.window p.at n → IsPlannedPart p.job p.work v (range p.at n) b c more lines → job ≡ p.job → window ≡ p.window → room ≡ p.room → at ≡ p.at + n
     → told ≡ sum_of p.told more → GoesOn p (record { job = job; work = v; window = window; room = room; at = at; told = told }) b c (Some lines)
 goes_on p job v window room at n b c more told lines ready place its one two three four five =
     subst (λ (j : Job). GoesOn p (record { job = j; work = v; window = window; room = room; at = at; told = told }) b c (Some lines)) (sym one)
@@ -233,8 +235,8 @@ pub lines_two : (these more : List PlanLine) → lines_text (these ++ more) ≡ 
 lines_two these more = flat_map-append (λ (l : PlanLine). closed (line_words l)) these more
 
 -- some of the text of lines, from its beginning on
-begun_lines : (w : Writing) (have want : List ℕ) (lines : List PlanLine) (front rest : List ℕ) → IsStretchPlan w.streaming.meaning w.streaming.by 0 have want lines
-    → lines_text lines ≡ front ++ rest → IsBegunText unit_outline w 0 have want front
+begun_lines : (w : Writing) (have want : List ℕ) (lines : List PlanLine) (front rest : List ℕ) → IsStretchPlan w.streaming.meaning w.streaming.by (stretch 0 have want) lines
+    → lines_text lines ≡ front ++ rest → IsBegunText unit_outline w (stretch 0 have want) front
 begun_lines w have want lines front rest plan is content target has has' =
     let of = plan_text w 0 have want lines plan content target has has' in
     record { rest = rest; whole = of.are ∙ is; sound = of.sound }
@@ -242,8 +244,8 @@ begun_lines w have want lines front rest plan is content target has has' =
 -- a writer stopped in the text of the lines so far
 cut_at : (p : Planning) (a b : Ahead) (x y : Option (List ℕ)) (lines : List PlanLine) (front rest : List ℕ) (why : BuildFault) → IsReady p → (its : HasTold p a b lines)
     → lines_text lines ≡ front ++ rest → Appends x y front → CutCause p.job its.part b why → AreRecent p.job.meaning.size p.window (length its.part) (length its.part) why
-    → ((have want : List ℕ) → IsBegunText unit_outline (first_writing p.job) 0 have want front → BeginsText unit_outline (first_writing p.job) have want front why)
-    → IsCutPlan p.job a b x y why
+    → ((have want : List ℕ) → IsBegunText unit_outline (first_writing p.job) (stretch 0 have want) front → BeginsText unit_outline (first_writing p.job) have want front why)
+    → IsCutPlan p.job (wire x a) (wire y b) why
 cut_at p a b x y lines front rest why ready its is put cause recent begins =
     let job = p.job in
     let w = first_writing job in
@@ -274,15 +276,15 @@ cut_at p a b x y lines front rest why ready its is put cause recent begins =
     }
 
 pub cut_anywhere : (p : Planning) (a b : Ahead) (x y : Option (List ℕ)) (lines : List PlanLine) (front rest : List ℕ) (why : BuildFault) → IsReady p → HasTold p a b lines
-    → lines_text lines ≡ front ++ rest → Appends x y front → (why ≡ fault.Write) ⊎ (why ≡ fault.Memory) → IsCutPlan p.job a b x y why
+    → lines_text lines ≡ front ++ rest → Appends x y front → (why ≡ fault.Write) ⊎ (why ≡ fault.Memory) → IsCutPlan p.job (wire x a) (wire y b) why
 cut_anywhere p a b x y lines front rest why ready its is put (inl write) =
-    subst (IsCutPlan p.job a b x y) (sym write) (cut_at p a b x y lines front rest fault.Write ready its is put tt refl (λ have want begun. begun))
+    subst (IsCutPlan p.job (wire x a) (wire y b)) (sym write) (cut_at p a b x y lines front rest fault.Write ready its is put tt refl (λ have want begun. begun))
 cut_anywhere p a b x y lines front rest why ready its is put (inr memory) =
-    subst (IsCutPlan p.job a b x y) (sym memory) (cut_at p a b x y lines front rest fault.Memory ready its is put tt (inl refl) (λ have want begun. begun))
+    subst (IsCutPlan p.job (wire x a) (wire y b)) (sym memory) (cut_at p a b x y lines front rest fault.Memory ready its is put tt (inl refl) (λ have want begun. begun))
 
 -- a writer that failed at the last window's lines
 pub written_cut : (p : Planning) (a b : Ahead) (x y z : Option (List ℕ)) (these more : List PlanLine) → IsReady p → HasTold p a b (these ++ more)
-    → Appends x y (lines_text these) → Cuts y z (lines_text more) → IsCutPlan p.job a b x z fault.Write
+    → Appends x y (lines_text these) → Cuts y z (lines_text more) → IsCutPlan p.job (wire x a) (wire z b) fault.Write
 written_cut p a b x y z these more ready its put cut =
     let front = lines_text these in
     let text = lines_text more in

@@ -13,6 +13,7 @@ use Rattle.nor_geometry.specs.declared.fault.PlanFault.{PlanFault}
 use Rattle.nor_geometry.specs.declared.fault.PlanFault.TheVariants as plan
 use Rattle.nor_geometry.specs.Plan.{HasPart, IsLowestAt, IsFault, IsFaultOf}
 use Rattle.nor_outline.specs.Outline.{IsFaultless}
+use Rattle.nor_steps.specs.Stretch.{stretch}
 use Rattle.nor_steps.specs.Work.{stretch_units, stretch_ops, IsWork, IsWorkOf}
 use Rattle.nor_steps.specs.Writing.{Writing, written_on}
 use Rattle.nor_plan_laws.proofs.Erased.Needed.{units_join}
@@ -66,8 +67,8 @@ sound_join m by at n content target first second x from upto = elim (cases_lt x 
 
 -- two stretches
 pub work_join : (w v : Writing) (at : ℕ) (xs ys txs tys : List ℕ) (p q : List Op) → 0 < w.streaming.meaning.page → at % w.streaming.meaning.page ≡ 0
-    → length xs ≡ at → length txs ≡ at → v ≡ written_on w p → IsWork w 0 xs txs p → IsWork v at ys tys q
-    → IsWork w 0 (xs ++ ys) (txs ++ tys) (p ++ q)
+    → length xs ≡ at → length txs ≡ at → v ≡ written_on w p → IsWork w (stretch 0 xs txs) p → IsWork v (stretch at ys tys) q
+    → IsWork w (stretch 0 (xs ++ ys) (txs ++ tys)) (p ++ q)
 work_join w v at xs ys txs tys p q some whole upto upto' state first second content target has has' =
     let left : IsWorkOf w 0 at content target p =
     subst (λ n. IsWorkOf w 0 n content target p) upto (first content target (part_left content xs ys has) (part_left target txs tys has')) in
@@ -105,7 +106,7 @@ IsFaultOfAll w at have want why =
     → IsFaultOf w.streaming.meaning w.streaming.by at content target (length have) why
 
 fault_join_all : (w v : Writing) (at : ℕ) (xs ys txs tys : List ℕ) (p : List Op) (why : PlanFault) → length xs ≡ at → length txs ≡ at → v ≡ written_on w p
-    → IsWork w 0 xs txs p → IsFaultOfAll v at ys tys why → IsFaultOfAll w 0 (xs ++ ys) (txs ++ tys) why
+    → IsWork w (stretch 0 xs txs) p → IsFaultOfAll v at ys tys why → IsFaultOfAll w 0 (xs ++ ys) (txs ++ tys) why
 fault_join_all w v at xs ys txs tys p why upto upto' state first second content target has has' =
     let m = w.streaming.meaning in
     let by = w.streaming.by in
@@ -119,14 +120,14 @@ fault_join_all w v at xs ys txs tys p why upto upto' state first second content 
 
 -- the lowest address at fault of a stretch is the lowest of all, where none before it is at fault
 pub fault_join : (w v : Writing) (at : ℕ) (xs ys txs tys : List ℕ) (p : List Op) (why : PlanFault) → length xs ≡ at → length txs ≡ at → v ≡ written_on w p
-    → IsWork w 0 xs txs p → IsFault v.streaming.meaning v.streaming.by at ys tys why
+    → IsWork w (stretch 0 xs txs) p → IsFault v.streaming.meaning v.streaming.by at ys tys why
     → IsFault w.streaming.meaning w.streaming.by 0 (xs ++ ys) (txs ++ tys) why
 fault_join w v at xs ys txs tys p (plan.NoErase a) upto upto' state first second = fault_join_all w v at xs ys txs tys p (plan.NoErase a) upto upto' state first second
 fault_join w v at xs ys txs tys p (plan.Unreachable a) upto upto' state first second = fault_join_all w v at xs ys txs tys p (plan.Unreachable a) upto upto' state first second
 fault_join w v at xs ys txs tys p plan.Memory upto upto' state first second = absurd second
 
 -- nothing
-pub work_none : (w : Writing) → IsWork w 0 [] [] []
+pub work_none : (w : Writing) → IsWork w (stretch 0 [] []) []
 unfolding units_over
 work_none w content target has has' =
     let m = w.streaming.meaning in

@@ -15,6 +15,7 @@ use Rattle.nor_job.specs.declared.fault.BuildFault.{BuildFault}
 use Rattle.nor_job.specs.declared.fault.BuildFault.TheVariants as fault
 use Rattle.nor_job.specs.declared.job.Job.{Job}
 use Rattle.nor_select.specs.Streamed.{Streaming, onward}
+use Rattle.nor_steps.specs.Stretch.{stretch}
 use Rattle.nor_steps.specs.declared.fault.StepsFault.{StepsFault}
 use Rattle.nor_steps.specs.declared.fault.StepsFault.TheVariants as steps
 use Rattle.nor_steps.specs.declared.tally.Tally.{Tally}
@@ -25,7 +26,8 @@ use Rattle.nor_steps.specs.Writing.{Writing, written_on}
 use Rattle.nor_steps.proofs.OpLemmas.{more_steps, more_on}
 use Rattle.nor_steps.proofs.TallyLemmas.{same_tally}
 use Rattle.nor_job.specs.Filled.{target_from}
-use Rattle.norprog.specs.Windows.{first_writing, lifted_steps, StopsWindow, IsUndone, IsDone, IsAllDone, CutCause, AreRecent, BeginsText, IsKnown, IsCut}
+use Rattle.nor_base.specs.Wire.{wire}
+use Rattle.norprog.specs.Windows.{first_writing, lifted_steps, StopsWindow, IsUndone, IsDone, IsAllDone, CutCause, AreRecent, BeginsText, IsKnown, IsCut, range}
 use Rattle.nor_job.specs.Written.{AreBytes}
 use Rattle.norprog.proofs.Content.Joined.{none_text, text_join, begun_join, text_begins, begun_begins}
 use Rattle.norprog.proofs.Content.Places.{IsPlace}
@@ -35,7 +37,7 @@ use Rattle.norprog.proofs.Content.Targets.{target_of_parts, bytes_of_parts}
 
 -- at the beginning nothing has been read or written
 pub none_done : (unit_text : UnitText) (job : Job) (v : Writing) (before : Ahead) (held : Option (List ℕ)) → v ≡ first_writing job
-    → IsDone unit_text job (first_writing job) v 0 0 before before held held nothing_told
+    → IsDone unit_text job (first_writing job) v (range 0 0) (wire held before) (wire held before) nothing_told
 none_done unit_text job v before held is = record {
   part = [];
   size = refl;
@@ -71,8 +73,8 @@ few_join n k one other first second = record {
 
 -- the steps of two parts
 pub steps_join : (w v u : Writing) (at : ℕ) (xs ys txs tys : List ℕ) (told more : Tally) → 0 < w.streaming.meaning.page → at % w.streaming.meaning.page ≡ 0
-    → length xs ≡ at → length txs ≡ at → IsTold w v 0 xs txs told → IsTold v u at ys tys more
-    → IsTold w u 0 (xs ++ ys) (txs ++ tys) (sum_of told more)
+    → length xs ≡ at → length txs ≡ at → IsTold w v (stretch 0 xs txs) told → IsTold v u (stretch at ys tys) more
+    → IsTold w u (stretch 0 (xs ++ ys) (txs ++ tys)) (sum_of told more)
 steps_join w v u at xs ys txs tys told more some whole upto upto' first second = record {
   ops = first.ops ++ second.ops;
   work = work_join w v at xs ys txs tys first.ops second.ops some whole upto upto' first.state first.work second.work;
@@ -83,8 +85,8 @@ steps_join w v u at xs ys txs tys told more some whole upto upto' first second =
 
 -- what was done up to an address, and then a window
 pub done_then : (unit_text : UnitText) (job : Job) (v u : Writing) (at n window : ℕ) (a b c : Ahead) (x y z : Option (List ℕ)) (told more : Tally) → IsPlace job.meaning window at n
-    → IsDone unit_text job (first_writing job) v 0 at a b x y told → IsDone unit_text job v u at n b c y z more
-    → IsDone unit_text job (first_writing job) u 0 (at + n) a c x z (sum_of told more)
+    → IsDone unit_text job (first_writing job) v (range 0 at) (wire x a) (wire y b) told → IsDone unit_text job v u (range at n) (wire y b) (wire z c) more
+    → IsDone unit_text job (first_writing job) u (range 0 (at + n)) (wire x a) (wire z c) (sum_of told more)
 unfolding steps_join
 done_then unit_text job v u at n window a b c x y z told more place done next =
     let w = first_writing job in
@@ -101,7 +103,7 @@ done_then unit_text job v u at n window a b c x y z told more place done next =
       size = omega (arith, length-append xs ys, done.size, next.size);
       given = Gives-append a b c xs ys done.given next.given;
       bytes = subst AreBytes (sym goal) (bytes_of_parts txs tys done.bytes next.bytes);
-      wrote = subst (λ (goal : List ℕ). WroteText unit_text w u x z 0 (xs ++ ys) goal (sum_of told more)) (sym goal) (record {
+      wrote = subst (λ (goal : List ℕ). WroteText unit_text w u x z (stretch 0 (xs ++ ys) goal) (sum_of told more)) (sym goal) (record {
         steps = steps_join w v u at xs ys txs tys told more place.page place.pages done.size upto' first.steps second.steps;
         these = first.these ++ second.these;
         is = text_join unit_text w v at xs ys txs tys first.steps.ops first.these second.these place.page place.pages done.size upto' first.steps.state first.steps.work first.is second.is;
@@ -111,8 +113,8 @@ done_then unit_text job v u at n window a b c x y z told more place done next =
 
 -- what was done, and then nothing more was written
 cut_between : (unit_text : UnitText) (job : Job) (v : Writing) (at n window : ℕ) (a b c : Ahead) (x y z : Option (List ℕ)) (told : Tally) (ys : List ℕ) (why : BuildFault)
-    → IsPlace job.meaning window at n → length ys ≤ n → (done : IsDone unit_text job (first_writing job) v 0 at a b x y told) → Gives b ys c × Appends y z []
-    → CutCause job (done.part ++ ys) c why → AreRecent job.meaning.size window at (at + length ys) why → IsCut (IsKnown unit_text job) job a c x z why
+    → IsPlace job.meaning window at n → length ys ≤ n → (done : IsDone unit_text job (first_writing job) v (range 0 at) (wire x a) (wire y b) told) → Gives b ys c × Appends y z []
+    → CutCause job (done.part ++ ys) c why → AreRecent job.meaning.size window at (at + length ys) why → IsCut (IsKnown unit_text job) job (wire x a) (wire z c) why
 cut_between unit_text job v at n window a b c x y z told ys why place size done next cause recent =
     let w = first_writing job in
     let xs = done.part in
@@ -140,9 +142,9 @@ cut_between unit_text job v at n window a b c x y z told ys why place size done 
 
 -- or some of the window's text was
 cut_within : (unit_text : UnitText) (job : Job) (v : Writing) (at n window : ℕ) (a b c : Ahead) (x y z : Option (List ℕ)) (told : Tally) (ys : List ℕ) (why : StepsFault)
-    → IsPlace job.meaning window at n → length ys ≡ n → AreBytes (target_from job at ys) → (done : IsDone unit_text job (first_writing job) v 0 at a b x y told) → Gives b ys c
-    → HasText unit_text v y z at ys (target_from job at ys) → IsOfWriting why → CutCause job (done.part ++ ys) c (lifted_steps why)
-    → AreRecent job.meaning.size window (at + n) (at + n) (lifted_steps why) → IsCut (IsKnown unit_text job) job a c x z (lifted_steps why)
+    → IsPlace job.meaning window at n → length ys ≡ n → AreBytes (target_from job at ys) → (done : IsDone unit_text job (first_writing job) v (range 0 at) (wire x a) (wire y b) told) → Gives b ys c
+    → HasText unit_text v y z (stretch at ys (target_from job at ys)) → IsOfWriting why → CutCause job (done.part ++ ys) c (lifted_steps why)
+    → AreRecent job.meaning.size window (at + n) (at + n) (lifted_steps why) → IsCut (IsKnown unit_text job) job (wire x a) (wire z c) (lifted_steps why)
 cut_within unit_text job v at n window a b c x y z told ys why place size small done given has of cause recent =
     let w = first_writing job in
     let xs = done.part in
@@ -180,15 +182,15 @@ cut_within unit_text job v at n window a b c x y z told ys why place size small 
 
 -- a window that was read, and ended early
 pub ended : (unit_text : UnitText) (job : Job) (w : Writing) (at count : ℕ) (before after : Ahead) (x y : Option (List ℕ)) (why : StepsFault)
-    → IsUndone unit_text job w at count before after x y why → StopsWindow unit_text job w at count before after x y (lifted_steps why)
+    → IsUndone unit_text job w at count (wire x before) (wire y after) why → StopsWindow unit_text job w at count (wire x before) (wire y after) (lifted_steps why)
 ended unit_text job w at count before after x y (steps.Plan why) is = is
 ended unit_text job w at count before after x y steps.Write is = is
 ended unit_text job w at count before after x y steps.Memory is = is
 
 -- what was done up to an address, and then it ended early
 pub done_then_cut : (unit_text : UnitText) (job : Job) (v : Writing) (at n window : ℕ) (a b c : Ahead) (x y z : Option (List ℕ)) (told : Tally) (why : BuildFault)
-    → IsPlace job.meaning window at n → IsDone unit_text job (first_writing job) v 0 at a b x y told → StopsWindow unit_text job v at n b c y z why
-    → IsCut (IsKnown unit_text job) job a c x z why
+    → IsPlace job.meaning window at n → IsDone unit_text job (first_writing job) v (range 0 at) (wire x a) (wire y b) told → StopsWindow unit_text job v at n (wire y b) (wire z c) why
+    → IsCut (IsKnown unit_text job) job (wire x a) (wire z c) why
 done_then_cut unit_text job v at n window a b c x y z told fault.ContentShort place done stops =
     let unread = stops.0 in
     cut_between unit_text job v at n window a b c x y z told unread.part fault.ContentShort place (omega (arith, unread.few)) done (unread.given, unread.put)
@@ -227,7 +229,7 @@ recent_none size window read (steps.Plan why) is = absurd is
 
 -- it ended before anything was read
 pub cut_before : (IsFront : ℕ → List ℕ → List ℕ → BuildFault → Type 0) (job : Job) (window : ℕ) (a : Ahead) (x y : Option (List ℕ)) (bytes : List ℕ) (why : StepsFault)
-    → IsWindowSize job.meaning window → IsOfWriting why → IsFront 0 [] bytes (lifted_steps why) → Appends x y bytes → IsCut IsFront job a a x y (lifted_steps why)
+    → IsWindowSize job.meaning window → IsOfWriting why → IsFront 0 [] bytes (lifted_steps why) → Appends x y bytes → IsCut IsFront job (wire x a) (wire y a) (lifted_steps why)
 cut_before IsFront job window a x y bytes why size of front put = record {
   part = [];
   within = omega arith;
@@ -243,7 +245,7 @@ cut_before IsFront job window a x y bytes why size of front put = record {
 }
 
 -- nor was anything written
-pub none_cut : (unit_text : UnitText) (job : Job) (window : ℕ) (a : Ahead) (x : Option (List ℕ)) → IsWindowSize job.meaning window → IsCut (IsKnown unit_text job) job a a x x fault.Memory
+pub none_cut : (unit_text : UnitText) (job : Job) (window : ℕ) (a : Ahead) (x : Option (List ℕ)) → IsWindowSize job.meaning window → IsCut (IsKnown unit_text job) job (wire x a) (wire x a) fault.Memory
 none_cut unit_text job window a x size =
     let w = first_writing job in
     cut_before (IsKnown unit_text job) job window a x x [] steps.Memory size tt (record {
@@ -254,8 +256,8 @@ none_cut unit_text job window a x size =
 
 -- it ended after all windows
 pub cut_after : (IsFront : ℕ → List ℕ → List ℕ → BuildFault → Type 0) (unit_text : UnitText) (job : Job) (v : Writing) (window : ℕ) (a b : Ahead) (x y s t : Option (List ℕ)) (told : Tally)
-    (bytes : List ℕ) (why : StepsFault) → IsWindowSize job.meaning window → (done : IsAllDone unit_text job v a b x y told) → IsOfWriting why
-    → IsFront (length done.part) done.part bytes (lifted_steps why) → Appends s t bytes → IsCut IsFront job a b s t (lifted_steps why)
+    (bytes : List ℕ) (why : StepsFault) → IsWindowSize job.meaning window → (done : IsAllDone unit_text job v (wire x a) (wire y b) told) → IsOfWriting why
+    → IsFront (length done.part) done.part bytes (lifted_steps why) → Appends s t bytes → IsCut IsFront job (wire s a) (wire t b) (lifted_steps why)
 cut_after IsFront unit_text job v window a b x y s t told bytes why size done of front put =
     let read = length done.part in
     record {

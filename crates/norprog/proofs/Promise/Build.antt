@@ -34,6 +34,7 @@ use Rattle.nor_steps.specs.declared.tally.Tally.{Tally}
 use Rattle.nor_steps.specs.Lines.{step_of, steps_of}
 use Rattle.nor_steps.specs.Tally.{tally_with}
 use Rattle.nor_plan_laws.specs.Exists.{PlannedCanBeSpelled}
+use Rattle.nor_base.specs.Wire.{wire}
 use Rattle.norprog.specs.declared.report.Report.{Report}
 use Rattle.nor_job.specs.Wanted.{wanted}
 use Rattle.norprog.specs.Laws.{Laws}
@@ -157,7 +158,7 @@ report_is t len job is part told tally =
     (ignored_is t len job is)
 
 pub built_is : (t : Task) (len : ℕ) (job : Job) (before after : Ahead) (x y : Option (List ℕ)) (told : Tally) → Laws → IsAccepted job.meaning → IsJob t len job
-    → IsScripted job before after x y told → IsBuilt t len before after x y (job_report job told)
+    → IsScripted job (wire x before) (wire y after) told → IsBuilt t len (wire x before) (wire y after) (job_report job told)
 built_is t len job before after x y told laws accepted is done =
     let m = job.meaning in
     let work = done.work in
@@ -229,7 +230,7 @@ parts_are job known part content begins =
     }
 
 front_is : (t : Task) (len : ℕ) (job : Job) (before after : Ahead) (x y : Option (List ℕ)) (why : BuildFault) → Laws → IsAccepted job.meaning → (is : IsJob t len job)
-    → (cut : IsCutScript job before after x y why) → IsFrontOf job.meaning (start_of t) t.verify (wanted t job.image is.regions) cut.part cut.bytes why
+    → (cut : IsCutScript job (wire x before) (wire y after) why) → IsFrontOf job.meaning (start_of t) t.verify (wanted t job.image is.regions) cut.part cut.bytes why
 front_is t len job before after x y why laws accepted is cut =
     let m = job.meaning in
     let goal = wanted t job.image is.regions in
@@ -266,7 +267,7 @@ front_is t len job before after x y why laws accepted is cut =
     }
 
 pub stops_is : (t : Task) (len : ℕ) (job : Job) (before after : Ahead) (x y : Option (List ℕ)) (why : BuildFault) → Laws → IsAccepted job.meaning → IsJob t len job
-    → IsCutScript job before after x y why → StopsWork t len before after x y why
+    → IsCutScript job (wire x before) (wire y after) why → StopsWork t len (wire x before) (wire y after) why
 stops_is t len job before after x y why laws accepted is cut = record {
   image = job.image;
   regions = is.regions;

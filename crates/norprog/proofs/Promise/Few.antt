@@ -15,8 +15,8 @@ use Rattle.nor_base.specs.Strategies.{strategy}
 use Rattle.nor_base.specs.Units.{WorkUnit}
 use Rattle.nor_job.specs.Filled.{target_from}
 use Rattle.nor_outline.specs.Outline.{because, reason, reason_at, reasons, erase_lines, program_line, unit_plan, IsStretchPlanOf}
-use Rattle.nor_plan_read.specs.declared.line.PlanLine.{PlanLine}
-use Rattle.nor_plan_read.specs.declared.line.PlanLine.TheVariants as line
+use Rattle.nor_outline.specs.declared.line.PlanLine.{PlanLine}
+use Rattle.nor_outline.specs.declared.line.PlanLine.TheVariants as line
 use Rattle.nor_steps.specs.Tally.{erases_of, programs_of}
 use Rattle.nor_steps.specs.Work.{stretch_units, IsWorkOf}
 use Rattle.norprog.specs.Planner.{Planning, IsReady, HasTold}

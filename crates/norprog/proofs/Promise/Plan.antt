@@ -17,25 +17,27 @@ use Rattle.nor_base.specs.Units.{units}
 use Rattle.nor_outline.specs.Outline.{plan_of, stretch_plan, IsStretchPlan}
 use Rattle.nor_outline.specs.Told.{unit_outline}
 use Rattle.nor_outline.proofs.PlanText.{units_lines}
-use Rattle.nor_plan_read.specs.Lines.{lines_text}
-use Rattle.nor_plan_read.specs.declared.line.PlanLine.{PlanLine}
+use Rattle.nor_outline.specs.Lines.{lines_text}
+use Rattle.nor_outline.specs.declared.line.PlanLine.{PlanLine}
 use Rattle.nor_base.specs.Parameters.{Parameters}
 use Rattle.nor_job.specs.Status.{start_of}
 use Rattle.nor_job.specs.Task.{Task}
 use Rattle.nor_select.specs.Streamed.{last}
 use Rattle.nor_laws.specs.Spelling.{HasSpelling}
+use Rattle.nor_steps.specs.Stretch.{stretch}
 use Rattle.nor_steps.specs.declared.fault.StepsFault.TheVariants as steps
 use Rattle.nor_steps.specs.declared.tally.Tally.{Tally}
 use Rattle.nor_steps.specs.Lines.{steps_of}
 use Rattle.nor_steps.specs.Writing.{Writing}
 use Rattle.nor_plan_laws.specs.Exists.{PlannedCanBeSpelled}
 use Rattle.nor_job.specs.Wanted.{wanted, ReadsWithin}
+use Rattle.nor_base.specs.Wire.{wire}
 use Rattle.norprog.specs.Plan.{IsPlanOf, StopsPlan}
 use Rattle.norprog.specs.Planner.{Planning, IsReady, IsPlannedPart, HasTold, CutsPlan, IsPlanned, EndsPlan, PlansJob, PutsPlan}
 use Rattle.norprog.specs.declared.report.Report.{Report}
 use Rattle.norprog.specs.PlanWindows.{TellsWindows}
 use Rattle.nor_job.specs.Filled.{target_from}
-use Rattle.norprog.specs.Windows.{first_writing, IsAllDone, IsDone, BeginsText, IsKnown, IsCut, IsCutPlan, IsWorked, job_report}
+use Rattle.norprog.specs.Windows.{first_writing, IsAllDone, IsDone, BeginsText, IsKnown, IsCut, IsCutPlan, IsWorked, job_report, range}
 use Rattle.nor_job.specs.Written.{AreBytes}
 use Rattle.nor_job.proofs.TargetLemmas.{target_is}
 use Rattle.norprog.proofs.Promise.Build.{workable_is, spelled_is, report_is, work_cause}
@@ -47,7 +49,7 @@ use Rattle.norprog.proofs.Content.Plans.{told_done}
 use Rattle.norprog.proofs.Content.Windows.{cut_after}
 
 -- the lines of a whole chip
-whole_lines : (m : Parameters) (start : Start) (part goal : List ℕ) (lines : List PlanLine) → length part ≡ m.size → IsStretchPlan m (strategy m start) 0 part goal lines
+whole_lines : (m : Parameters) (start : Start) (part goal : List ℕ) (lines : List PlanLine) → length part ≡ m.size → IsStretchPlan m (strategy m start) (stretch 0 part goal) lines
     → lines ≡ plan_of m start part goal
 unfolding units
 whole_lines m start part goal lines upto plan =
@@ -55,7 +57,7 @@ whole_lines m start part goal lines upto plan =
 
 -- where its steps aren't all told
 pub close_untold : (job : Job) (v : Writing) (window : ℕ) (a b : Ahead) (x y : Option (List ℕ)) (told : Tally) → IsAccepted job.meaning → IsWindowSize job.meaning window
-    → IsAllDone unit_outline job v a b x y told → IsCut (IsKnown unit_outline job) job a b x y fault.Memory
+    → IsAllDone unit_outline job v (wire x a) (wire y b) told → IsCut (IsKnown unit_outline job) job (wire x a) (wire y b) fault.Memory
 close_untold job v window a b x y told accepted size done =
     let xs = done.part in
     let its = done.wrote in
@@ -70,7 +72,7 @@ close_untold job v window a b x y told accepted size done =
 pub close_uncounted : (p : Planning) (a : Ahead) → IsReady p → p.at ≡ p.job.meaning.size → CutsPlan p a a fault.Memory
 close_uncounted p a ready whole first told x y its put =
     close_untold p.job p.work p.window first a x y p.told ready.accepted ready.window
-    (subst (λ n. IsDone unit_outline p.job (first_writing p.job) p.work 0 n first a x y p.told) whole (told_done p.job p.work p.at first a x y p.told told its put))
+    (subst (λ n. IsDone unit_outline p.job (first_writing p.job) p.work (range 0 n) (wire x first) (wire y a) p.told) whole (told_done p.job p.work p.at first a x y p.told told its put))
 
 -- a job that was planned, of which so much is told
 pub planned_is : (t : Task) (len : ℕ) (job : Job) (before after : Ahead) (told : Tally) (lines : List PlanLine) → PlannedCanBeSpelled → HasSpelling
@@ -107,7 +109,7 @@ pub ends_plan : (p : Planning) (last_steps : ℕ) → PlannedCanBeSpelled → Ha
 unfolding told_done
 ends_plan p last_steps can spelling ready whole count t len first now lines is its =
     let job = p.job in
-    let all = subst (λ n. IsPlannedPart job (first_writing job) p.work 0 n first now p.told lines) whole its in
+    let all = subst (λ n. IsPlannedPart job (first_writing job) p.work (range 0 n) first now p.told lines) whole its in
     let part = all.part in
     let done = told_done job p.work job.meaning.size first now (Some []) (Some (lines_text lines)) p.told lines all refl in
     let work = whole_work unit_outline job p.work first now (Some []) (Some (lines_text lines)) p.told last_steps done count in
@@ -117,7 +119,7 @@ ends_plan p last_steps can spelling ready whole count t len first now lines is i
 
 -- a writer that took the lines of a plan has its text
 pub plan_put : (t : Task) (len : ℕ) (before after : Ahead) (x y : Option (List ℕ)) (lines : List PlanLine) (report : Report) → IsPlanned t len before after lines report
-    → Appends x y (lines_text lines) → IsPlanOf t len before after x y report
+    → Appends x y (lines_text lines) → IsPlanOf t len (wire x before) (wire y after) report
 plan_put t len before after x y lines report is put =
     let goal = wanted t is.image is.regions is.content in
     record {
@@ -137,7 +139,7 @@ plan_put t len before after x y lines report is put =
     }
 
 pub plan_stops : (t : Task) (len : ℕ) (job : Job) (before after : Ahead) (x y : Option (List ℕ)) (why : BuildFault) → IsJob t len job
-    → IsCut (IsKnown unit_outline job) job before after x y why → StopsPlan t len before after x y why
+    → IsCut (IsKnown unit_outline job) job (wire x before) (wire y after) why → StopsPlan t len (wire x before) (wire y after) why
 plan_stops t len job before after x y why is cut =
     let m = job.meaning in
     let front = take cut.known cut.part in
@@ -161,28 +163,28 @@ plan_stops t len job before after x y why is cut =
     }
 
 -- from before the first window to the report, or to what stopped it
-pub plans_job : (p q : Planning) (job : Job) (a b : Ahead) (x y : Option (List ℕ)) (r : Result Report BuildFault) → HasTold p a a [] → p.job ≡ job → PutsPlan p q a b x y
-    → IfOk r (EndsPlan q) → IfOk r (λ report. PlansJob job a b x y report)
+pub plans_job : (p q : Planning) (job : Job) (a b : Ahead) (x y : Option (List ℕ)) (r : Result Report BuildFault) → HasTold p a a [] → p.job ≡ job → PutsPlan p q (wire x a) (wire y b)
+    → IfOk r (EndsPlan q) → IfOk r (λ report. PlansJob job (wire x a) (wire y b) report)
 plans_job p q job a b x y (Ok report) begun same puts ends = λ t len is.
     let so = puts.put a [] x begun (Appends-none x) in
     plan_put t len a b x y so.0 report (ends t len a b so.0 (subst (λ (j : Job). IsJob t len j) (sym (puts.job ∙ same)) is) so.1) so.2
 plans_job p q job a b x y (Err why) begun same puts ends = tt
 
-pub cuts_job : (p q : Planning) (job : Job) (a b : Ahead) (x y : Option (List ℕ)) (r : Result Report BuildFault) → HasTold p a a [] → p.job ≡ job → PutsPlan p q a b x y
-    → IfErr r (λ why. (ahead : Ahead) → CutsPlan q ahead ahead why) → IfErr r (IsCutPlan job a b x y)
+pub cuts_job : (p q : Planning) (job : Job) (a b : Ahead) (x y : Option (List ℕ)) (r : Result Report BuildFault) → HasTold p a a [] → p.job ≡ job → PutsPlan p q (wire x a) (wire y b)
+    → IfErr r (λ why. (ahead : Ahead) → CutsPlan q ahead ahead why) → IfErr r (IsCutPlan job (wire x a) (wire y b))
 cuts_job p q job a b x y (Ok report) begun same puts ends = tt
 cuts_job p q job a b x y (Err why) begun same puts ends =
     let so = puts.put a [] x begun (Appends-none x) in
-    subst (λ (j : Job). IsCutPlan j a b x y why) (puts.job ∙ same) (ends b a so.0 x y so.1 so.2)
+    subst (λ (j : Job). IsCutPlan j (wire x a) (wire y b) why) (puts.job ∙ same) (ends b a so.0 x y so.1 so.2)
 
 -- the same of a job's inputs
 pub stops_inputs : (t : Task) (len : ℕ) (job : Job) (a b : Ahead) (x y : Option (List ℕ)) (Early : BuildFault → Type 0) (r : Result Report BuildFault) → IsJob t len job
-    → IfErr r (IsCutPlan job a b x y) → IfErr r (λ why. Early why ⊎ StopsPlan t len a b x y why)
+    → IfErr r (IsCutPlan job (wire x a) (wire y b)) → IfErr r (λ why. Early why ⊎ StopsPlan t len (wire x a) (wire y b) why)
 stops_inputs t len job a b x y Early (Ok report) is cut = tt
 stops_inputs t len job a b x y Early (Err why) is cut = inr (plan_stops t len job a b x y why is cut)
 
 pub reads_within : (t : Task) (len : ℕ) (job : Job) (a b : Ahead) (x y : Option (List ℕ)) (r : Result Report BuildFault) → IsJob t len job
-    → IfOk r (λ report. PlansJob job a b x y report) → IfErr r (IsCutPlan job a b x y) → ReadsWithin len a b
+    → IfOk r (λ report. PlansJob job (wire x a) (wire y b) report) → IfErr r (IsCutPlan job (wire x a) (wire y b)) → ReadsWithin len a b
 reads_within t len job a b x y (Ok report) is plans cut =
     let whole = plans t len is in record { bytes = whole.content; few = omega (arith, whole.whole); given = whole.given }
 reads_within t len job a b x y (Err why) is plans cut = record { bytes = cut.part; few = omega (arith, cut.within, is.accepted.size); given = cut.given }

@@ -23,6 +23,7 @@ use Rattle.nor_steps.specs.Writing.{Writing, lines_of, next_lines, written_on}
 use Rattle.nor_steps.proofs.LineLemmas.{lines_append}
 use Rattle.nor_steps.proofs.OpLemmas.{lines_join}
 use Rattle.nor_job.specs.Filled.{target_from}
+use Rattle.nor_base.specs.Wire.{wire}
 use Rattle.norprog.specs.Windows.{first_writing, IsAllDone, IsKnown, IsTextFront, IsScriptFront}
 use Rattle.nor_job.specs.Written.{AreBytes}
 use Rattle.norprog.proofs.Content.Joined.{steps_begun}
@@ -152,7 +153,7 @@ pub record IsWhole (job : Job) (part : List ℕ) (ops : List Op) : Type 0 where
   pub are : (content target : List ℕ) → length content ≡ job.meaning.size → HasPart content part 0 → HasPart target (target_from job 0 part) 0 → job_ops job content target ≡ ops
   pub sound : (content target : List ℕ) → HasPart content part 0 → HasPart target (target_from job 0 part) 0 → IsSound (first_writing job) 0 (length part) content target
 
-pub whole_is : (unit_text : UnitText) (job : Job) (v : Writing) (a b : Ahead) (x y : Option (List ℕ)) (told : Tally) → (done : IsAllDone unit_text job v a b x y told)
+pub whole_is : (unit_text : UnitText) (job : Job) (v : Writing) (a b : Ahead) (x y : Option (List ℕ)) (told : Tally) → (done : IsAllDone unit_text job v (wire x a) (wire y b) told)
     → IsWhole job done.part done.wrote.steps.ops
 whole_is unit_text job v a b x y told done = record {
   size = done.size;

@@ -22,6 +22,7 @@ use Rattle.nor_steps.specs.Work.{stretch_units}
 use Rattle.nor_steps.proofs.TextLemmas.{units_steps}
 use Rattle.nor_steps.proofs.TallyLemmas.{tally}
 use Rattle.nor_job.specs.Filled.{target_from}
+use Rattle.nor_base.specs.Wire.{wire}
 use Rattle.norprog.specs.Windows.{first_writing, lifted_steps, IsAllDone, IsKnown, IsCut, IsWorked, IsScripted, IsScriptFront, IsCutScript}
 use Rattle.norprog.proofs.Content.Places.{some_page}
 use Rattle.norprog.proofs.Content.Targets.{part_whole}
@@ -29,18 +30,18 @@ use Rattle.norprog.proofs.Script.Fronts.{closing_lines, job_ops, job_planned, jo
 use Rattle.norprog.proofs.Content.Windows.{cut_before, cut_after}
 
 -- before anything was written
-pub memory_cut : (job : Job) (w : ℕ) (a : Ahead) (x : Option (List ℕ)) → IsWindowSize job.meaning w → IsCutScript job a a x x fault.Memory
+pub memory_cut : (job : Job) (w : ℕ) (a : Ahead) (x : Option (List ℕ)) → IsWindowSize job.meaning w → IsCutScript job (wire x a) (wire x a) fault.Memory
 memory_cut job w a x size =
     cut_before (λ known part bytes why. IsScriptFront job known part bytes) job w a x x (take 0 header) steps.Memory size tt (header_front job 0) (Appends-none x)
 
 -- in the header
-pub header_cut : (job : Job) (w : ℕ) (a : Ahead) (x y : Option (List ℕ)) → IsWindowSize job.meaning w → Cuts x y header → IsCutScript job a a x y fault.Write
+pub header_cut : (job : Job) (w : ℕ) (a : Ahead) (x y : Option (List ℕ)) → IsWindowSize job.meaning w → Cuts x y header → IsCutScript job (wire x a) (wire y a) fault.Write
 header_cut job w a x y size cut =
     cut_before (λ known part bytes why. IsScriptFront job known part bytes) job w a x y (take cut.0 header) steps.Write size tt (header_front job cut.0) cut.2
 
 -- in the windows
 pub windows_cut : (job : Job) (a b : Ahead) (x y z : Option (List ℕ)) (why : BuildFault) → IsAccepted job.meaning → Appends x y header
-    → IsCut (IsKnown unit_steps job) job a b y z why → IsCutScript job a b x z why
+    → IsCut (IsKnown unit_steps job) job (wire y a) (wire z b) why → IsCutScript job (wire x a) (wire z b) why
 windows_cut job a b x y z why accepted begun cut = record {
   part = cut.part;
   within = cut.within;
@@ -56,7 +57,7 @@ windows_cut job a b x y z why accepted begun cut = record {
 }
 
 -- the lines of the windows
-steps_put : (job : Job) (v : Writing) (a b : Ahead) (x y : Option (List ℕ)) (told : Tally) → (done : IsAllDone unit_steps job v a b x y told)
+steps_put : (job : Job) (v : Writing) (a b : Ahead) (x y : Option (List ℕ)) (told : Tally) → (done : IsAllDone unit_steps job v (wire x a) (wire y b) told)
     → Appends x y (next_lines (first_writing job) done.wrote.steps.ops)
 steps_put job v a b x y told done =
     let w = first_writing job in
@@ -69,7 +70,7 @@ steps_put job v a b x y told done =
     done.wrote.put
 
 pub closing_cut : (job : Job) (v : Writing) (w : ℕ) (a b : Ahead) (x y z u : Option (List ℕ)) (told : Tally) (why : StepsFault) → IsWindowSize job.meaning w
-    → Appends x y header → IsAllDone unit_steps job v a b y z told → Begins z u (lines_of (last v.streaming)) → IsOfWriting why → IsCutScript job a b x u (lifted_steps why)
+    → Appends x y header → IsAllDone unit_steps job v (wire y a) (wire z b) told → Begins z u (lines_of (last v.streaming)) → IsOfWriting why → IsCutScript job (wire x a) (wire u b) (lifted_steps why)
 closing_cut job v w a b x y z u told why size begun done close is =
     let its = done.wrote.steps in
     let lines : closing_lines (first_writing job) its.ops ≡ close.front ++ close.rest = ap (λ (t : Writing). lines_of (last t.streaming)) (sym its.state) ∙ close.whole in
@@ -78,13 +79,13 @@ closing_cut job v w a b x y z u told why size begun done close is =
     (Appends-append x y u header _ begun (Appends-append y z u _ close.front (steps_put job v a b y z told done) close.put))
 
 -- all that stands before the end line
-body_put : (job : Job) (v : Writing) (a b : Ahead) (x y z u : Option (List ℕ)) (told : Tally) → Appends x y header → (done : IsAllDone unit_steps job v a b y z told)
+body_put : (job : Job) (v : Writing) (a b : Ahead) (x y z u : Option (List ℕ)) (told : Tally) → Appends x y header → (done : IsAllDone unit_steps job v (wire y a) (wire z b) told)
     → Appends z u (lines_of (last v.streaming)) → Appends x u (body job done.wrote.steps.ops)
 body_put job v a b x y z u told begun done close =
     Appends-append x y u header _ begun
     (Appends-append y z u _ _ (steps_put job v a b y z told done) (subst (λ (t : Writing). Appends z u (lines_of (last t.streaming))) done.wrote.steps.state close))
 
-steps_are : (unit_text : UnitText) (job : Job) (v : Writing) (a b : Ahead) (y z : Option (List ℕ)) (told : Tally) (more n : ℕ) → (done : IsAllDone unit_text job v a b y z told)
+steps_are : (unit_text : UnitText) (job : Job) (v : Writing) (a b : Ahead) (y z : Option (List ℕ)) (told : Tally) (more n : ℕ) → (done : IsAllDone unit_text job v (wire y a) (wire z b) told)
     → more ≡ length (last v.streaming) → n ≡ told.steps + more
     → n ≡ length (next (first_writing job).streaming done.wrote.steps.ops ++ last (onward (first_writing job).streaming done.wrote.steps.ops))
 steps_are unit_text job v a b y z told more n done count sum =
@@ -95,8 +96,8 @@ steps_are unit_text job v a b y z told more n done count sum =
     omega (arith, sum, first, second, length-append (next s its.ops) (last (onward s its.ops)))
 
 pub end_cut : (job : Job) (v : Writing) (w : ℕ) (a b : Ahead) (x y z u t : Option (List ℕ)) (told : Tally) (more n : ℕ) → IsWindowSize job.meaning w
-    → Appends x y header → IsAllDone unit_steps job v a b y z told → Appends z u (lines_of (last v.streaming)) → more ≡ length (last v.streaming)
-    → n ≡ told.steps + more → Cuts u t (end_line n) → IsCutScript job a b x t fault.Write
+    → Appends x y header → IsAllDone unit_steps job v (wire y a) (wire z b) told → Appends z u (lines_of (last v.streaming)) → more ≡ length (last v.streaming)
+    → n ≡ told.steps + more → Cuts u t (end_line n) → IsCutScript job (wire x a) (wire t b) fault.Write
 end_cut job v w a b x y z u t told more n size begun done close count sum cut =
     let ops = done.wrote.steps.ops in
     cut_after (λ known part bytes why. IsScriptFront job known part bytes) unit_steps job v w a b y z x t told (body job ops ++ take cut.0 (end_line n)) steps.Write size done tt
@@ -110,7 +111,7 @@ told_all told ops these k n is same m count =
 
 -- the work on the part that was read, whatever is written of it
 pub whole_work : (unit_text : UnitText) (job : Job) (v : Writing) (a b : Ahead) (y z : Option (List ℕ)) (told : Tally) (more : ℕ)
-    → (done : IsAllDone unit_text job v a b y z told) → more ≡ length (last v.streaming)
+    → (done : IsAllDone unit_text job v (wire y a) (wire z b) told) → more ≡ length (last v.streaming)
     → (whole : IsWorked job a b (record { steps = told.steps + more; erases = told.erases; erased = told.erased; programs = told.programs })) × (whole.part ≡ done.part)
 whole_work unit_text job v a b y z told more done count =
     let n = told.steps + more in
@@ -134,9 +135,9 @@ whole_work unit_text job v a b y z told more done count =
 
 -- the whole script
 pub whole_script : (job : Job) (v : Writing) (a b : Ahead) (x y z u t : Option (List ℕ)) (told : Tally) (more : ℕ)
-    → Appends x y header → IsAllDone unit_steps job v a b y z told → Appends z u (lines_of (last v.streaming)) → more ≡ length (last v.streaming)
+    → Appends x y header → IsAllDone unit_steps job v (wire y a) (wire z b) told → Appends z u (lines_of (last v.streaming)) → more ≡ length (last v.streaming)
     → Appends u t (end_line (told.steps + more))
-    → IsScripted job a b x t (record { steps = told.steps + more; erases = told.erases; erased = told.erased; programs = told.programs })
+    → IsScripted job (wire x a) (wire t b) (record { steps = told.steps + more; erases = told.erases; erased = told.erased; programs = told.programs })
 whole_script job v a b x y z u t told more begun done close count ended =
     let n = told.steps + more in
     let part = done.part in

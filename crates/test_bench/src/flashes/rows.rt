@@ -8,7 +8,7 @@ use crate::line::ANSWERS;
 use crate::scripts::{
     AT_END, BUT_ONE, CELL, DONE, GREETED, GREETING, HALF_SENT, MANY, PAST, REST, STATUS, STEPS,
 };
-use test_devices::End;
+use test_samples::End;
 use test_samples::texts::IMAGE;
 
 /// 01h at 0, and 126 times 00h from 0 on.

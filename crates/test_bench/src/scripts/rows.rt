@@ -4,7 +4,7 @@ use super::{
     AT_END, BUT_ONE, CELL, DONE, FIRST, GOOD, HALF_SENT, MANY, MIDDLE, PAST, REST, Row, STATE,
     STATUS, STEPS,
 };
-use test_devices::End;
+use test_samples::End;
 use test_samples::sfdp::SMALL;
 
 /// What a device answers that sends one byte at once, to which no value goes out in the test of the

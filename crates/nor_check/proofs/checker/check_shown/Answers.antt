@@ -5,7 +5,7 @@ use Rattle.std.proofs.lemmas.List.{at_drop_more, drop_more}
 use Rattle.nor_base.specs.declared.step.Step.{Step}
 use Rattle.nor_check.specs.declared.verdict.Why.{Why}
 use Rattle.nor_check.specs.Fed.{IsShown, to_come}
-use Rattle.nor_check.specs.Witness.{Witnesses}
+use Rattle.nor_check.specs.Witness.{Witnesses, even}
 use Rattle.nor_check.specs.Worst.{IsWorst}
 use Rattle.nor_check.proofs.checker.check_shown.Goals as goal
 
@@ -14,7 +14,7 @@ loop-step-init c = record {
   worst = subst (λ (have : List ℕ). IsWorst c.args.meaning.now c.args.start.now have c.args.want.now c.args.steps.now (to_come c.new-checker.result c.args.steps.now))
       c.in_ok-array.ensures.items (c.new-checker.ensures.worst c.args.steps.now);
   shown = subst (λ (have : List ℕ). (step : ℕ) (why : Why) (page reads : ℕ) → IsShown c.new-checker.result c.args.steps.now step why page reads → (n : ℕ) → reads < n
-      → Witnesses c.args.meaning.now c.args.start.now have c.args.want.now c.args.steps.now step why n (step == length c.args.steps.now) page)
+      → Witnesses c.args.meaning.now c.args.start.now have c.args.want.now c.args.steps.now step why (even n (step == length c.args.steps.now) page))
       c.in_ok-array.ensures.items (c.new-checker.ensures.shown c.args.steps.now);
   number = c.new-checker.ensures.number;
 }

@@ -1,11 +1,11 @@
 -- One row more.
-use Rattle.std.proofs.Common.{◌≡◌, ◌++◌, ◌+◌, ◌-◌, List, [], length, refl, sym, ◌∙◌, ap, subst, append_assoc, arith, length-append, eqb-true}
+use Rattle.std.proofs.Common.{◌≡◌, ◌++◌, ◌+◌, ◌-◌, List, [], length, refl, sym, ◌∙◌, ap, subst, append_assoc, arith, length-append}
 use Rattle.std.specs.Prelude.{All}
 use Rattle.nor_base.specs.declared.step.Step.{Step}
+use Rattle.nor_base.specs.Wire.{wire}
 use Rattle.nor_serprog.specs.declared.halt.Halt.{Halt}
 use Rattle.nor_serprog.specs.Done.{IsDoable}
 use Rattle.nor_serprog.specs.Row.{HasHalted}
-use Rattle.nor_flasher.proofs.ShownLemmas.{all_reports, halted_before, none_so_far, part_reports, row_shown}
 use Rattle.nor_flasher.proofs.StepsLemmas.{all_first, all_second, in_two}
 use Rattle.nor_flasher.proofs.steps.do_steps.Goals as goal
 
@@ -31,7 +31,7 @@ returns-in-Err-clause-done g c =
     let whole : c.args.steps.now ≡ does.0 ++ (row ++ later) = does.1 ∙ ap (λ (l : List Step). does.0 ++ l) two in
     let long : length c.args.steps.now ≡ length does.0 + length c.loop-rest.rest.now = ap length does.1 ∙ length-append does.0 c.loop-rest.rest.now in
     let halt : Halt = record { step = length c.args.steps.now - length c.loop-rest.rest.now + c.in-Err.halt.step; why = c.in-Err.halt.why } in
-    subst (λ (l : List Step). HasHalted (g.W.ByteOut.held c.args.to.now) (g.W.ByteOut.held c.do_row.new.to) (g.R.ByteIn.ahead c.args.from.now) (g.R.ByteIn.ahead c.do_row.new.from)
+    subst (λ (l : List Step). HasHalted (wire (g.W.ByteOut.held c.args.to.now) (g.R.ByteIn.ahead c.args.from.now)) (wire (g.W.ByteOut.held c.do_row.new.to) (g.R.ByteIn.ahead c.do_row.new.from))
     c.args.limits.now c.args.turns l halt) (sym whole)
     (c.rows.ensures.halts _ _ _ _ _ _ c.args.limits.now c.args.turns does.0 row later c.in-Err.halt halt does.2 c.in-Err.ensures.done (omega (arith, long)) refl)
 
@@ -49,8 +49,6 @@ loop-rest-preserved g c =
       );
       reads = c.in_default.ensures.counts.0 ∙ c.loop-rest.invariant.reads;
       writes = c.in_default.ensures.counts.1 ∙ c.loop-rest.invariant.writes;
-      come = row_shown c.args.steps.now does.0 c.loop-rest.rest.now row later does.1 two _ _ _ _ _ _ _ _ c.loop-rest.invariant.come
-          c.row_done-in-loop-rest.ensures.moves;
     }
 
 pub loop-rest-init : goal.loop-rest-init
@@ -58,19 +56,4 @@ loop-rest-init g c = record {
   does = ([], refl, (refl, refl));
   reads = refl;
   writes = refl;
-  come = none_so_far c.args.steps.now _ _ _ c.of-far.ensures.few c.of-far.ensures.none;
 }
-
-pub returns-in-Err-clause-shown : goal.returns-in-Err-clause-shown
-returns-in-Err-clause-shown g c =
-    let does = c.loop-rest.invariant.does in
-    let row = c.split_at.result.0.now in
-    let later = c.split_at.result.1.now in
-    let two = in_two c.loop-rest.rest.now row later c.row_length.result c.split_at.ensures.front c.split_at.ensures.back in
-    let before = halted_before row c.in-Err.halt c.in-Err.ensures.done in
-    part_reports c.args.steps.now does.0 c.loop-rest.rest.now row later does.1 two c.in-Err.halt.step before _ _ _ _ _ _ _ _ _ _
-    c.loop-rest.invariant.come c.row_done.ensures.moves c.end.ensures
-
-pub returns-clause-shown : goal.returns-clause-shown
-returns-clause-shown g c =
-    all_reports c.args.steps.now c.loop-rest.rest.now (eqb-true (length c.loop-rest.rest.now) 0 (sym c.is_empty.ensures ∙ c.loop-rest-test.false)) _ _ _ _ _ _ _ c.loop-rest.invariant.come c.end-2.ensures

@@ -1,18 +1,16 @@
 -- The rows so far were done.
-use Rattle.std.proofs.Common.{◌≡◌, ◌++◌, ◌-◌, List, length}
+use Rattle.std.proofs.Common.{◌≡◌, ◌++◌, List, length}
 use Rattle.nor_base.specs.declared.step.Step.{Step}
-use Rattle.nor_progress.specs.Come.{HasCome}
+use Rattle.nor_base.specs.Wire.{wire}
 use Rattle.nor_serprog.specs.Done.{HasDoneAll}
 use Rattle.nor_flasher.proofs.steps.do_steps.Given as goal
 
 abbrev pub invariant-loop-rest : goal.invariant-loop-rest
 invariant-loop-rest g l = record {
   does : (front : List Step) × (l.steps ≡ front ++ l.rest)
-      × HasDoneAll (g.W.ByteOut.held l.fn.to) (g.W.ByteOut.held l.to) (g.R.ByteIn.ahead l.fn.from) (g.R.ByteIn.ahead l.from) l.limits l.turns front;
+      × HasDoneAll (wire (g.W.ByteOut.held l.fn.to) (g.R.ByteIn.ahead l.fn.from)) (wire (g.W.ByteOut.held l.to) (g.R.ByteIn.ahead l.from)) l.limits l.turns front;
   reads : g.R.ByteIn.count l.from ≡ g.R.ByteIn.count l.fn.from;
   writes : g.W.ByteOut.count l.to ≡ g.W.ByteOut.count l.fn.to;
-  come : HasCome l.steps (length l.steps - length l.rest) l.far (g.P.ByteOut.held l.fn.progress) (g.P.ByteOut.held l.progress)
-      (g.P.ByteOut.count l.fn.progress) (g.P.ByteOut.count l.progress);
 }
 
 abbrev pub decreases-loop-rest : goal.decreases-loop-rest

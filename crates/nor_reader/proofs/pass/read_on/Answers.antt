@@ -1,6 +1,7 @@
 -- Piece by piece.
 use Rattle.std.proofs.Common.{◌≡◌, ◌≤◌, ◌+◌, ◌-◌, length, take, drop, refl, ◌∙◌, ap, subst, arith, length-take, length-drop}
 use borrow.Rule.Slice.PartMut.{put_mid}
+use Rattle.nor_base.specs.Wire.{wire}
 use Rattle.nor_reader.specs.Reads.{HasReadOn}
 use Rattle.nor_reader.proofs.CutLemmas.{IsCutTo, cut_begins, nothing_cut, read_cut}
 use Rattle.nor_reader.proofs.PassLemmas.{nothing_read, piece_more, piece_stops, put_piece}
@@ -42,8 +43,7 @@ loop-done-preserved g c =
       after = omega arith;
       within = omega (arith, put.size, fits);
       size = put.size ∙ size;
-      read = subst (λ n. HasReadOn most (g.W.ByteOut.held c.args.to.now) (g.W.ByteOut.held c.read_piece.new.to) (g.R.ByteIn.ahead c.args.from.now)
-          (g.R.ByteIn.ahead c.read_piece.new.from) c.args.by (take c.args.start c.args.bytes.now) (take (done + n) new)) long
+      read = subst (λ n. HasReadOn most (wire (g.W.ByteOut.held c.args.to.now) (g.R.ByteIn.ahead c.args.from.now)) (wire (g.W.ByteOut.held c.read_piece.new.to) (g.R.ByteIn.ahead c.read_piece.new.from)) c.args.by (take c.args.start c.args.bytes.now) (take (done + n) new)) long
           (piece_more most (g.W.ByteOut.held c.args.to.now) (g.W.ByteOut.held c.loop-done.to) (g.W.ByteOut.held c.read_piece.new.to)
           (g.R.ByteIn.ahead c.args.from.now)
           (g.R.ByteIn.ahead c.loop-done.from) (g.R.ByteIn.ahead c.read_piece.new.from) c.args.by (take c.args.start c.args.bytes.now) old new piece done within

@@ -1,5 +1,6 @@
 -- The pieces so far were read.
 use Rattle.std.proofs.Common.{◌≡◌, ◌≤◌, ◌-◌, length, take, drop}
+use Rattle.nor_base.specs.Wire.{wire}
 use Rattle.nor_reader.specs.Reads.{HasReadOn}
 use Rattle.nor_reader.proofs.CutLemmas.{IsCutTo}
 use Rattle.nor_reader.proofs.pass.read_on.Given as goal
@@ -9,7 +10,7 @@ invariant-loop-done g l = record {
   after : l.start ≤ l.done;
   within : l.done ≤ length l.bytes;
   size : length l.bytes ≡ l.size;
-  read : HasReadOn l.limits.asked (g.W.ByteOut.held l.fn.to) (g.W.ByteOut.held l.to) (g.R.ByteIn.ahead l.fn.from) (g.R.ByteIn.ahead l.from) l.by
+  read : HasReadOn l.limits.asked (wire (g.W.ByteOut.held l.fn.to) (g.R.ByteIn.ahead l.fn.from)) (wire (g.W.ByteOut.held l.to) (g.R.ByteIn.ahead l.from)) l.by
       (take l.start l.fn.bytes) (take l.done l.bytes);
   cut : IsCutTo l.limits.asked l.limits.asked l.limits.asked l.size l.done (g.W.ByteOut.held l.fn.to) (g.W.ByteOut.held l.to) (g.R.ByteIn.ahead l.fn.from)
       (g.R.ByteIn.ahead l.from) l.by l.start (drop l.start (take l.done l.bytes));

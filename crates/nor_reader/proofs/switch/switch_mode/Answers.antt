@@ -1,5 +1,6 @@
 -- Write enable, the opcode, write disable.
 use Rattle.nor_base.proofs.FaultLaws.{answered}
+use Rattle.nor_base.specs.Wire.{wire}
 use Rattle.nor_loop.specs.Reads.{switch_ops}
 use Rattle.nor_reader.specs.Switched.{Operates}
 use Rattle.nor_reader.proofs.SwitchLemmas.{enable_ends, opcode_ends, switched}
@@ -12,7 +13,7 @@ returns-in_err-send-in-Latched-clause-switches g c =
     let a = g.R.ByteIn.ahead c.args.from.now in
     let b = g.R.ByteIn.ahead c.send-in-Latched.new.from in
     let why = c.in_err-send-in-Latched.field-0.0 in
-    answered c.from_residual.result (λ r. Operates h h' a b r (switch_ops c.args.switch c.args.opcode)) why
+    answered c.from_residual.result (λ r. Operates (wire h a) (wire h' b) r (switch_ops c.args.switch c.args.opcode)) why
     (enable_ends h h' a b c.args.switch c.args.opcode c.in-Latched.is why c.in_err-send-in-Latched.ensures.sends) c.from_residual.ensures.1
 
 pub returns-in_err-send-in-Latched-2-clause-switches : goal.returns-in_err-send-in-Latched-2-clause-switches
@@ -24,7 +25,7 @@ returns-in_err-send-in-Latched-2-clause-switches g c =
     let d = g.R.ByteIn.ahead c.send-in-Latched.new.from in
     let b = g.R.ByteIn.ahead c.send-in-Latched-2.new.from in
     let why = c.in_err-send-in-Latched-2.field-0.0 in
-    answered c.from_residual-in_err-send-in-Latched-2.result (λ r. Operates h h' a b r (switch_ops c.args.switch c.args.opcode)) why
+    answered c.from_residual-in_err-send-in-Latched-2.result (λ r. Operates (wire h a) (wire h' b) r (switch_ops c.args.switch c.args.opcode)) why
     (opcode_ends h h' a b c.args.switch c.args.opcode c.in-Latched.is k d why c.in_ok-send-in-Latched.ensures.sends c.in_err-send-in-Latched-2.ensures.sends)
     c.from_residual-in_err-send-in-Latched-2.ensures.1
 

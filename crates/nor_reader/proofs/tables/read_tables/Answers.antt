@@ -1,5 +1,6 @@
 -- The header, the parameter headers, and the tables.
 use Rattle.std.proofs.Common.{ℕ, List, [], Err, sym, ◌∙◌, subst}
+use Rattle.nor_base.specs.Wire.{wire}
 use Rattle.nor_reader.specs.declared.by.ReadBy.TheVariants.{Tables}
 use Rattle.nor_reader.specs.Again.{ReadsAgain}
 use Rattle.nor_reader.specs.Reads.{HasReadOn}
@@ -16,7 +17,7 @@ returns-in-Err-clause-tables g c =
     let a = g.R.ByteIn.ahead c.args.from.now in
     grow_stops most h h (g.W.ByteOut.held c.grow.new.to) a a (g.R.ByteIn.ahead c.grow.new.from) c.new-bytes.result.items c.grow.new.bytes.items 8
     c.in-Err.why
-    (subst (λ (old : List ℕ). HasReadOn most h h a a Tables [] old) (sym c.new-bytes.ensures.items) (nothing_read most h a Tables []))
+    (subst (λ (old : List ℕ). HasReadOn most (wire h a) (wire h a) Tables [] old) (sym c.new-bytes.ensures.items) (nothing_read most h a Tables []))
     c.in-Err.ensures.grows
 
 pub returns-in-Err-grow-clause-tables : goal.returns-in-Err-grow-clause-tables
@@ -61,9 +62,7 @@ returns-in-Ok-clause-tables g c =
       twice = tables_twice most (g.W.ByteOut.held c.args.to.now) (g.W.ByteOut.held c.grow-3.new.to) (g.W.ByteOut.held c.compare_all.new.to)
           (g.R.ByteIn.ahead c.args.from.now)
           (g.R.ByteIn.ahead c.grow-3.new.from) (g.R.ByteIn.ahead c.compare_all.new.from) c.grow-3.new.bytes.items three
-          (subst (λ bytes. HasReadOn most (g.W.ByteOut.held c.grow-3.new.to) (g.W.ByteOut.held c.compare_all.new.to)
-          (g.R.ByteIn.ahead c.grow-3.new.from)
-          (g.R.ByteIn.ahead c.compare_all.new.from) Tables [] bytes) c.as_slice-4.ensures.value c.in-Ok.ensures.again);
+          (subst (λ bytes. HasReadOn most (wire (g.W.ByteOut.held c.grow-3.new.to) (g.R.ByteIn.ahead c.grow-3.new.from)) (wire (g.W.ByteOut.held c.compare_all.new.to) (g.R.ByteIn.ahead c.compare_all.new.from)) Tables [] bytes) c.as_slice-tables.ensures.value c.in-Ok.ensures.again);
     }
 
 pub returns-in-Err-compare_all-clause-tables : goal.returns-in-Err-compare_all-clause-tables
@@ -80,7 +79,5 @@ returns-in-Err-compare_all-clause-tables g c =
       tables_missed most (g.W.ByteOut.held c.args.to.now) (g.W.ByteOut.held c.grow-3.new.to) (g.W.ByteOut.held c.compare_all.new.to)
           (g.R.ByteIn.ahead c.args.from.now)
           (g.R.ByteIn.ahead c.grow-3.new.from) (g.R.ByteIn.ahead c.compare_all.new.from) c.grow-3.new.bytes.items c.in-Err-compare_all.why three
-          (subst (λ bytes. ReadsAgain most (g.W.ByteOut.held c.grow-3.new.to) (g.W.ByteOut.held c.compare_all.new.to)
-          (g.R.ByteIn.ahead c.grow-3.new.from)
-          (g.R.ByteIn.ahead c.compare_all.new.from) (Err c.in-Err-compare_all.why) Tables bytes) c.as_slice-4.ensures.value c.in-Err-compare_all.ensures.again),
+          (subst (λ bytes. ReadsAgain most (wire (g.W.ByteOut.held c.grow-3.new.to) (g.R.ByteIn.ahead c.grow-3.new.from)) (wire (g.W.ByteOut.held c.compare_all.new.to) (g.R.ByteIn.ahead c.compare_all.new.from)) (Err c.in-Err-compare_all.why) Tables bytes) c.as_slice-tables.ensures.value c.in-Err-compare_all.ensures.again),
     )

@@ -1,5 +1,5 @@
 -- Header by header.
-use Rattle.nor_probe.proofs.TablesLemmas.{reach_more}
+use Rattle.nor_reader.proofs.KnownLemmas.{reach_more}
 use Rattle.nor_reader.proofs.tables.tables_size.Goals as goal
 
 pub loop-i-preserved : goal.loop-i-preserved

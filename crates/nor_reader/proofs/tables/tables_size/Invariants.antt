@@ -1,7 +1,7 @@
 -- How far the headers so far reach.
 use Rattle.std.proofs.Common.{◌≡◌}
-use Rattle.nor_probe.specs.Tables.{greatest}
-use Rattle.nor_probe.proofs.TablesLemmas.{ends_before}
+use Rattle.nor_reader.specs.Known.{greatest}
+use Rattle.nor_reader.proofs.KnownLemmas.{ends_before}
 use Rattle.nor_reader.proofs.tables.tables_size.Given as goal
 
 abbrev pub invariant-loop-i : goal.invariant-loop-i

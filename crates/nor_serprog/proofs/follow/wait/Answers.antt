@@ -3,6 +3,7 @@ use Rattle.std.proofs.Common.{◌≡◌, ◌+◌, inl, refl, ◌∙◌, subst, a
 use Rattle.std.specs.Io.KnownBytes.{Appends}
 use Rattle.nor_base.specs.Device.{Cuts}
 use Rattle.nor_base.proofs.FaultLaws.{answered}
+use Rattle.nor_base.specs.Wire.{wire}
 use Rattle.nor_serprog.specs.declared.fault.Fault.TheVariants.{Write}
 use Rattle.nor_serprog.specs.declared.fault.Reason.TheVariants.{Exchange}
 use Rattle.nor_serprog.specs.Follow.{Waits, TakesStatuses, status_requests}
@@ -35,7 +36,7 @@ returns-in_err-take_statuses-clause-waits g c =
     c.max-ahead.ensures c.new-requests.ensures c.add_reads-reads.ensures.added c.add_reads-reads.ensures.fits in
     let why = c.in_err-take_statuses.field-0.0 in
     answered c.from_residual.result
-    (λ r. Waits (g.W.ByteOut.held c.args.to.now) (g.W.ByteOut.held c.put_all.new.writer) (g.R.ByteIn.ahead c.args.from.now) (g.R.ByteIn.ahead c.take_statuses.new.from) r c.args.limits.now c.args.turns)
+    (λ r. Waits (wire (g.W.ByteOut.held c.args.to.now) (g.R.ByteIn.ahead c.args.from.now)) (wire (g.W.ByteOut.held c.put_all.new.writer) (g.R.ByteIn.ahead c.take_statuses.new.from)) r c.args.limits.now c.args.turns)
     why (waits_after _ _ _ _ _ _ c.args.limits.now busy.0 c.loop-left.left c.args.turns (Err why) busy.1 busy.2
     (reads_stop _ _ _ _ c.args.limits.now n c.loop-left.left why c.add_reads-reads.ensures.within may out c.in_err-take_statuses.ensures.takes))
     c.from_residual.ensures.1

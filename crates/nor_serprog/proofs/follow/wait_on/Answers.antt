@@ -1,6 +1,7 @@
 -- The reads that went out, and then others.
 use Rattle.std.proofs.Common.{◌-◌, subst, arith, Ok}
 use Rattle.nor_base.proofs.FaultLaws.{answered}
+use Rattle.nor_base.specs.Wire.{wire}
 use Rattle.nor_serprog.specs.Follow.{Waits, TakesStatuses}
 use Rattle.nor_serprog.proofs.WaitLemmas.{waits_after, reads_idle, reads_busy, reads_stop}
 use Rattle.nor_serprog.proofs.follow.wait_on.Goals as goal
@@ -9,7 +10,7 @@ pub returns-in_err-take_statuses-clause-waits : goal.returns-in_err-take_statuse
 returns-in_err-take_statuses-clause-waits g c held out =
     let why = c.in_err-take_statuses.field-0.0 in
     answered c.from_residual.result
-    (λ r. Waits held (g.W.ByteOut.held c.args.to.now) (g.R.ByteIn.ahead c.args.from.now) (g.R.ByteIn.ahead c.take_statuses.new.from) r c.args.limits.now c.args.turns)
+    (λ r. Waits (wire held (g.R.ByteIn.ahead c.args.from.now)) (wire (g.W.ByteOut.held c.args.to.now) (g.R.ByteIn.ahead c.take_statuses.new.from)) r c.args.limits.now c.args.turns)
     why (reads_stop _ _ _ _ c.args.limits.now c.args.reads c.args.turns why c.requires.within c.requires.few out c.in_err-take_statuses.ensures.takes) c.from_residual.ensures.1
 
 pub returns-then-branch-clause-waits : goal.returns-then-branch-clause-waits

@@ -1,5 +1,6 @@
 -- Command by command.
 use Rattle.std.proofs.Common.{◌≡◌, ◌≢◌, true, false, [], refl, arith, rules}
+use Rattle.nor_base.specs.Wire.{wire}
 use Rattle.nor_serprog.specs.declared.fault.Command.TheVariants as command
 use Rattle.nor_serprog.specs.Greeting.{Learns, offers, first_version}
 use Rattle.nor_base.proofs.FaultLaws.{answered}
@@ -11,7 +12,7 @@ returns-in_err-tell-clause-learns g c =
     let begun = c.in_ok-begin.ensures.begins in
     let e = c.in_err-tell.field-0.0 in
     answered c.from_residual-in_err-tell.result
-    (λ r. Learns (g.W.ByteOut.held c.args.to.now) (g.W.ByteOut.held c.tell.new.to) (g.R.ByteIn.ahead c.args.from.now) (g.R.ByteIn.ahead c.tell.new.from) r)
+    (λ r. Learns (wire (g.W.ByteOut.held c.args.to.now) (g.R.ByteIn.ahead c.args.from.now)) (wire (g.W.ByteOut.held c.tell.new.to) (g.R.ByteIn.ahead c.tell.new.from)) r)
     e (tells_not _ _ _ _ _ _ command.QueryInterface c.tell.new.got e (greeting_of begun [] [] [] []) (λ why stops. stops) begun.word tt (omega arith) (word_done begun [] [] [] []) c.in_err-tell.ensures.tells)
     c.from_residual-in_err-tell.ensures.1
 
@@ -28,7 +29,7 @@ returns-in_err-tell-2-clause-learns g c =
     let one : c.tell.new.got ≡ first_version = search rules in
     let e = c.in_err-tell-2.field-0.0 in
     answered c.from_residual-in_err-tell-2.result
-    (λ r. Learns (g.W.ByteOut.held c.args.to.now) (g.W.ByteOut.held c.tell-2.new.to) (g.R.ByteIn.ahead c.args.from.now) (g.R.ByteIn.ahead c.tell-2.new.from) r)
+    (λ r. Learns (wire (g.W.ByteOut.held c.args.to.now) (g.R.ByteIn.ahead c.args.from.now)) (wire (g.W.ByteOut.held c.tell-2.new.to) (g.R.ByteIn.ahead c.tell-2.new.from)) r)
     e (tells_not _ _ _ _ _ _ command.QueryCommands c.tell-2.new.got e (greeting_of begun first_version [] [] []) (λ why stops. stops) begun.word refl (omega arith) (version_is begun [] one c.in_ok-tell.ensures.tells) c.in_err-tell-2.ensures.tells)
     c.from_residual-in_err-tell-2.ensures.1
 

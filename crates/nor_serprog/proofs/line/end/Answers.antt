@@ -1,6 +1,7 @@
 -- NOP, and then the word.
 use Rattle.std.proofs.Common.{◌≡◌, [], ◌∷◌, ◌++◌, Ok, Err, refl, ap}
 use Rattle.nor_base.proofs.FaultLaws.{answered}
+use Rattle.nor_base.specs.Wire.{wire}
 use Rattle.nor_serprog.specs.Protocol.{ACK, NAK}
 use Rattle.nor_serprog.specs.Line.{Exchanges, acknowledged, end_test}
 use Rattle.nor_serprog.proofs.LineLemmas.{command_one, does_then, stops_before}
@@ -13,7 +14,7 @@ returns-in_err-exchange-clause-does g c =
     let h' = g.W.ByteOut.held c.exchange.new.to in
     let a = g.R.ByteIn.ahead c.args.from.now in
     let a' = g.R.ByteIn.ahead c.exchange.new.from in
-    answered c.from_residual.result (λ r. Exchanges h h' a a' r end_test) why
+    answered c.from_residual.result (λ r. Exchanges (wire h a) (wire h' a') r end_test) why
     (stops_before h h' a a' why (acknowledged (0x00 ∷ []) ∷ []) (record { put = 0x10 ∷ []; given = NAK ∷ ACK ∷ [] } ∷ [])
     (command_one h h' a a' (Err why) (0x00 ∷ []) (0x00 ∷ []) (ACK ∷ []) refl c.in_err-exchange.ensures.asked)) c.from_residual.ensures.1
 

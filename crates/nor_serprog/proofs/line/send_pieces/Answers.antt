@@ -1,6 +1,7 @@
 -- One more piece.
 use Rattle.std.proofs.Common.{◌≡◌, ◌≤◌, ◌<◌, ◌+◌, ◌-◌, ◌∙◌, refl, arith, rules}
 use Rattle.std.specs.Prelude.{min}
+use Rattle.nor_base.specs.Wire.{wire}
 use Rattle.nor_serprog.specs.Line.{SendsValues}
 use Rattle.nor_base.proofs.FaultLaws.{answered}
 use Rattle.nor_serprog.proofs.LineLemmas.{none_sent, sent_more, sent_not, sent_all}
@@ -20,7 +21,7 @@ returns-in_err-send_ignored-clause-sends g c =
     let few : c.loop-done.done < 256 = search rules in
     let len : c.min-len.result ≡ min (256 - c.loop-done.done) (c.args.room + 1 - 1) = search rules in
     answered c.from_residual.result
-    (λ r. SendsValues (g.W.ByteOut.held c.args.to.now) (g.W.ByteOut.held c.send_ignored.new.to) (g.R.ByteIn.ahead c.args.from.now) (g.R.ByteIn.ahead c.send_ignored.new.from) r (c.args.room + 1))
+    (λ r. SendsValues (wire (g.W.ByteOut.held c.args.to.now) (g.R.ByteIn.ahead c.args.from.now)) (wire (g.W.ByteOut.held c.send_ignored.new.to) (g.R.ByteIn.ahead c.send_ignored.new.from)) r (c.args.room + 1))
     why (sent_not _ _ _ _ _ _ (c.args.room + 1) c.loop-done.done c.min-len.result _ why c.loop-done.invariant.values few len c.loop-done.invariant.sent c.in_err-send_ignored.ensures.does)
     c.from_residual.ensures.1
 

@@ -5,6 +5,7 @@ use Rattle.std.specs.Io.KnownBytes.{Appends}
 use Rattle.nor_base.specs.declared.step.Step.TheVariants.{Poll}
 use Rattle.nor_base.specs.Device.{Cuts}
 use Rattle.nor_base.proofs.FaultLaws.{answered}
+use Rattle.nor_base.specs.Wire.{wire}
 use Rattle.nor_serprog.specs.Done.{HasDoneAll}
 use Rattle.nor_serprog.specs.Follow.{status_requests}
 use Rattle.nor_serprog.specs.Row.{HasHalted}
@@ -51,9 +52,9 @@ returns-in_err-take_answers-clause-done g c =
     let halt = c.in_err-take_answers.field-0.0 in
     answered c.from_residual.result
     (λ r. MatchResult r
-    (λ u. HasDoneAll (g.W.ByteOut.held c.args.to.now) (g.W.ByteOut.held c.put_all.new.writer) (g.R.ByteIn.ahead c.args.from.now) (g.R.ByteIn.ahead c.take_answers.new.from) c.args.limits.now
+    (λ u. HasDoneAll (wire (g.W.ByteOut.held c.args.to.now) (g.R.ByteIn.ahead c.args.from.now)) (wire (g.W.ByteOut.held c.put_all.new.writer) (g.R.ByteIn.ahead c.take_answers.new.from)) c.args.limits.now
     c.args.turns c.args.row.now)
-    (λ h. HasHalted (g.W.ByteOut.held c.args.to.now) (g.W.ByteOut.held c.put_all.new.writer) (g.R.ByteIn.ahead c.args.from.now) (g.R.ByteIn.ahead c.take_answers.new.from) c.args.limits.now
+    (λ h. HasHalted (wire (g.W.ByteOut.held c.args.to.now) (g.R.ByteIn.ahead c.args.from.now)) (wire (g.W.ByteOut.held c.put_all.new.writer) (g.R.ByteIn.ahead c.take_answers.new.from)) c.args.limits.now
     c.args.turns c.args.row.now h))
     halt (halts_front _ _ _ _ c.args.limits.now c.args.turns c.if-polls.reads c.args.row.now c.args.front.now tail.polls halt c.args.requests.items (status_requests c.if-polls.reads)
     c.requires.row tail.whole tail.few tail.within c.requires.front.sent tail.asked tail.fits out c.in_err-take_answers.ensures.done) c.from_residual.ensures.1

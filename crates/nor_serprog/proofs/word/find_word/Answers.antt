@@ -1,5 +1,6 @@
 -- Byte by byte.
 use Rattle.std.proofs.Common.{refl, sym, ◌∙◌, arith}
+use Rattle.nor_base.specs.Wire.{wire}
 use Rattle.nor_serprog.specs.Greeting.{Finds}
 use Rattle.nor_base.proofs.FaultLaws.{answered}
 use Rattle.nor_serprog.proofs.WordLemmas.{begins, hears, tries_again, found, differs, silent, stops_hearing, stops_trying}
@@ -13,7 +14,7 @@ pub returns-in_err-byte-clause-word : goal.returns-in_err-byte-clause-word
 returns-in_err-byte-clause-word g c =
     let why = c.in_err-byte.field-0.0 in
     answered c.from_residual-in_err-byte.result
-    (λ r. Finds (g.W.ByteOut.held c.args.to.now) (g.W.ByteOut.held c.loop.to) (g.R.ByteIn.ahead c.args.from.now) (g.R.ByteIn.ahead c.take_byte.new.from) r)
+    (λ r. Finds (wire (g.W.ByteOut.held c.args.to.now) (g.R.ByteIn.ahead c.args.from.now)) (wire (g.W.ByteOut.held c.loop.to) (g.R.ByteIn.ahead c.take_byte.new.from)) r)
     why (stops_hearing _ c.loop.tries c.loop.last c.loop.counter why c.loop.invariant.listening c.in_err-byte.ensures.hears) c.from_residual-in_err-byte.ensures.1
 
 pub returns-then-ends_word-clause-word : goal.returns-then-ends_word-clause-word
@@ -28,7 +29,7 @@ pub returns-in_err-put_try-in-None-clause-word : goal.returns-in_err-put_try-in-
 returns-in_err-put_try-in-None-clause-word g c =
     let why = c.in_err-put_try-in-None.field-0.0 in
     answered c.from_residual-in_err-put_try-in-None.result
-    (λ r. Finds (g.W.ByteOut.held c.args.to.now) (g.W.ByteOut.held c.put_try-in-None.new.to) (g.R.ByteIn.ahead c.args.from.now) (g.R.ByteIn.ahead c.take_byte.new.from) r)
+    (λ r. Finds (wire (g.W.ByteOut.held c.args.to.now) (g.R.ByteIn.ahead c.args.from.now)) (wire (g.W.ByteOut.held c.put_try-in-None.new.to) (g.R.ByteIn.ahead c.take_byte.new.from)) r)
     why (stops_trying _ _ c.loop.tries c.loop.last c.loop.counter c.in_ok-byte.field-0 why c.in-None.is c.if-tries-eq-TRIES.false c.loop.invariant.listening
     c.in_ok-byte.ensures.hears c.in_err-put_try-in-None.ensures.tries) c.from_residual-in_err-put_try-in-None.ensures.1
 

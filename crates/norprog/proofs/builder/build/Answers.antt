@@ -1,5 +1,6 @@
 -- The whole path.
 use Rattle.std.proofs.Common.{inr, [], sym, subst, arith}
+use Rattle.nor_base.specs.Wire.{wire}
 use Rattle.norprog.specs.Build.{IsBuilt, IsLate}
 use Rattle.norprog.proofs.Promise.Build.{built_is, stops_is, cause_is_late}
 use Rattle.nor_base.proofs.FaultLaws.{handed_on}
@@ -8,8 +9,7 @@ use Rattle.norprog.proofs.builder.build.Goals as goal
 
 pub returns-clause-built : goal.returns-clause-built
 returns-clause-built g c =
-    subst (IsBuilt c.args.inputs.now c.args.len (g.R.ByteIn.ahead c.args.content.now) (g.R.ByteIn.ahead c.write_script.new.content)
-    (g.W.ByteOut.held c.args.out.now) (g.W.ByteOut.held c.write_script.new.out))
+    subst (IsBuilt c.args.inputs.now c.args.len (wire (g.W.ByteOut.held c.args.out.now) (g.R.ByteIn.ahead c.args.content.now)) (wire (g.W.ByteOut.held c.write_script.new.out) (g.R.ByteIn.ahead c.write_script.new.content)))
     (sym c.report_of.ensures)
     (built_is c.args.inputs.now c.args.len c.in_ok-job.job _ _ _ _ c.in_ok-told.told c.planned_work_does_the_task.ensures c.acceptance.ensures c.in_ok-job.ensures.job c.in_ok-told.ensures.done)
 

@@ -1,5 +1,6 @@
 -- The header, the windows, the lines that leave the mode, and the end line.
 use Rattle.std.proofs.Common.{refl, sym, subst}
+use Rattle.nor_base.specs.Wire.{wire}
 use Rattle.norprog.specs.Windows.{IsCutScript}
 use Rattle.nor_base.proofs.FaultLaws.{handed_on}
 use Rattle.norprog.proofs.Script.Written.{memory_cut, header_cut, windows_cut, closing_cut, end_cut, whole_script}
@@ -23,7 +24,7 @@ returns-in_err-told-clause-cut g c =
 pub returns-in-Err-close-clause-cut : goal.returns-in-Err-close-clause-cut
 returns-in-Err-close-clause-cut g c =
     let size = c.window_size-window.ensures.size in
-    subst (IsCutScript c.args.job.now (g.R.ByteIn.ahead c.args.content.now) (g.R.ByteIn.ahead c.write_windows.new.content) (g.W.ByteOut.held c.args.out.now) (g.W.ByteOut.held c.close.new.out))
+    subst (IsCutScript c.args.job.now (wire (g.W.ByteOut.held c.args.out.now) (g.R.ByteIn.ahead c.args.content.now)) (wire (g.W.ByteOut.held c.close.new.out) (g.R.ByteIn.ahead c.write_windows.new.content)))
     (sym c.lifted.ensures)
     (closing_cut c.args.job.now c.write_windows.new.writer c.window_size-window.result _ _ _ _ _ _ c.in_ok-told.told c.in-Err-close.fault size c.in-Ok.ensures.bytes c.in_ok-told.ensures.done
     c.in-Err-close.ensures.lines c.in-Err-close.ensures.why)

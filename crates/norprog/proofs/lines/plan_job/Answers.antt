@@ -1,6 +1,7 @@
 -- From the first window to the report.
 use Rattle.std.proofs.Common.{[], subst}
 use Rattle.nor_job.specs.declared.job.Job.{Job}
+use Rattle.nor_base.specs.Wire.{wire}
 use Rattle.norprog.specs.Windows.{IsCutPlan}
 use Rattle.nor_base.proofs.DeviceLaws.{Appends-none}
 use Rattle.nor_base.proofs.FaultLaws.{handed_on}
@@ -16,7 +17,7 @@ returns-in_err-put_plan-clause-cut g c =
     let a = g.R.ByteIn.ahead c.args.content.now in
     let x = g.W.ByteOut.held c.args.out.now in
     handed_on _ _ _ c.from_residual-in_err-put_plan.ensures.1
-    (subst (λ (j : Job). IsCutPlan j a (g.R.ByteIn.ahead c.put_plan.new.content) x (g.W.ByteOut.held c.put_plan.new.out) c.in_err-put_plan.field-0.0) c.in_ok-planner.ensures.job
+    (subst (λ (j : Job). IsCutPlan j (wire x a) (wire (g.W.ByteOut.held c.put_plan.new.out) (g.R.ByteIn.ahead c.put_plan.new.content)) c.in_err-put_plan.field-0.0) c.in_ok-planner.ensures.job
     (c.in_err-put_plan.ensures.cut a [] x (c.in_ok-planner.ensures.told a) (Appends-none x)))
 
 pub returns-clause-planned : goal.returns-clause-planned

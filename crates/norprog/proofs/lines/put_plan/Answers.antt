@@ -5,8 +5,9 @@ use Rattle.nor_job.specs.Written.{CountsReader, CountsWriter, of_reader, of_writ
 use Rattle.nor_base.specs.Device.{Ahead, Cuts, raised}
 use Rattle.nor_job.specs.declared.fault.BuildFault.TheVariants as fault
 use Rattle.nor_job.specs.declared.job.Job.{Job}
-use Rattle.nor_plan_read.specs.Lines.{lines_text}
-use Rattle.nor_plan_read.specs.declared.line.PlanLine.{PlanLine}
+use Rattle.nor_outline.specs.Lines.{lines_text}
+use Rattle.nor_outline.specs.declared.line.PlanLine.{PlanLine}
+use Rattle.nor_base.specs.Wire.{wire}
 use Rattle.norprog.specs.Planner.{Planning, IsReady, HasTold, GoesOn}
 use Rattle.norprog.specs.Windows.{IsCutPlan}
 use Rattle.nor_base.proofs.DeviceLaws.{Appends-append, never_raised}
@@ -19,7 +20,7 @@ returns-in_err-lines-clause-cut g c =
     let v = c.loop-lines.invariant in
     handed_on _ _ _ c.from_residual.ensures.1 (λ first told x has put.
     let so = v.put first told x has put in
-    subst (λ (j : Job). IsCutPlan j first (g.R.ByteIn.ahead c.next_window.new.content) x (g.W.ByteOut.held c.loop-lines.out) c.in_err-lines.field-0.0) v.job
+    subst (λ (j : Job). IsCutPlan j (wire x first) (wire (g.W.ByteOut.held c.loop-lines.out) (g.R.ByteIn.ahead c.next_window.new.content)) c.in_err-lines.field-0.0) v.job
     (c.in_err-lines.ensures.stopped first so.0 x (g.W.ByteOut.held c.loop-lines.out) so.1 so.2))
 
 pub returns-in-Err-clause-cut : goal.returns-in-Err-clause-cut
@@ -32,7 +33,7 @@ returns-in-Err-clause-cut g c = λ first told x has put.
     let y = g.W.ByteOut.held c.loop-lines.out in
     let z = g.W.ByteOut.held c.write_lines.new.out in
     let goes = subst (λ o. GoesOn c.loop-lines.planner q (g.R.ByteIn.ahead c.loop-lines.content) after (option_map (λ lines. lines.items) o)) c.in-Some.is c.in_ok-lines.ensures.told in
-    subst (λ (j : Job). IsCutPlan j first after x z fault.Write) (goes.1 ∙ v.job)
+    subst (λ (j : Job). IsCutPlan j (wire x first) (wire z after) fault.Write) (goes.1 ∙ v.job)
     (written_cut q first after x y z so.0 lines goes.0 (goes.3 first so.0 so.1) so.2
     (subst (λ (these : List PlanLine). Cuts y z (lines_text these)) c.deref.ensures.value c.in-Err.ensures.bytes))
 

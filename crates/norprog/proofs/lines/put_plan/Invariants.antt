@@ -2,8 +2,8 @@
 use Rattle.std.proofs.Common.{◌≡◌, ◌-◌, List, Option, ℕ}
 use Rattle.std.specs.Io.KnownBytes.{Appends}
 use Rattle.nor_base.specs.Device.{Ahead}
-use Rattle.nor_plan_read.specs.Lines.{lines_text}
-use Rattle.nor_plan_read.specs.declared.line.PlanLine.{PlanLine}
+use Rattle.nor_outline.specs.Lines.{lines_text}
+use Rattle.nor_outline.specs.declared.line.PlanLine.{PlanLine}
 use Rattle.norprog.specs.Planner.{IsReady, HasTold}
 use Rattle.norprog.proofs.lines.put_plan.Given as goal
 

@@ -4,6 +4,7 @@ use Rattle.nor_base.specs.Device.{raised}
 use Rattle.nor_job.specs.Written.{AreBytes, CountsWriter, of_writer}
 use Rattle.nor_outline.specs.Outline.{RefusesLines}
 use Rattle.nor_base.proofs.FaultLaws.{answered, handed_on}
+use Rattle.nor_steps.specs.Stretch.{stretch}
 use Rattle.norprog.specs.Planner.{StopsPlanning}
 use Rattle.norprog.proofs.Content.Plans.{unread, unread_count, unplanned, unplanned_count, planned_part}
 use Rattle.norprog.proofs.planner.window_plan.Goals as goal
@@ -27,7 +28,7 @@ returns-in-Err-clause-stopped g c =
     subst (StopsPlanning c.args.job.now c.args.writer.now c.args.at (length c.args.have.now) (g.R.ByteIn.ahead c.args.content.now) (g.R.ByteIn.ahead c.fill_window.new.content)) (sym c.lifted.ensures)
     (unplanned c.args.job.now c.args.writer.now c.args.at (length c.args.have.now) _ _ have c.in-Err.fault c.fill_window.auto.window (subst AreBytes target (search rules))
     c.in_ok-fill_window.ensures.bytes
-    (subst (λ (want : List ℕ). RefusesLines c.args.writer.now.streaming.meaning c.args.writer.now.streaming.by c.args.at have want c.in-Err.fault) target c.in-Err.ensures.stopped))
+    (subst (λ (want : List ℕ). RefusesLines c.args.writer.now.streaming.meaning c.args.writer.now.streaming.by (stretch c.args.at have want) c.in-Err.fault) target c.in-Err.ensures.stopped))
 
 pub returns-in_err-fill_window-clause-counts : goal.returns-in_err-fill_window-clause-counts
 returns-in_err-fill_window-clause-counts g c = (

@@ -1,11 +1,12 @@
 -- The windows so far are done.
 use Rattle.std.proofs.Common.{◌≡◌, ◌<◌, ◌≤◌, ◌%◌, ◌-◌, length}
-use Rattle.norprog.specs.Windows.{first_writing, IsDone}
+use Rattle.nor_base.specs.Wire.{wire}
+use Rattle.norprog.specs.Windows.{first_writing, IsDone, range}
 use Rattle.norprog.proofs.windows.write_windows.Given as goal
 
 abbrev pub invariant-loop-at : goal.invariant-loop-at
 invariant-loop-at g l = record {
-  done : IsDone (g.T.WorkWriter.unit_text l.fn.writer) l.job (first_writing l.job) (g.T.WorkWriter.writing l.writer) 0 l.at (g.R.ByteIn.ahead l.fn.content) (g.R.ByteIn.ahead l.content) (g.W.ByteOut.held l.fn.out) (g.W.ByteOut.held l.out) l.told;
+  done : IsDone (g.T.WorkWriter.unit_text l.fn.writer) l.job (first_writing l.job) (g.T.WorkWriter.writing l.writer) (range 0 l.at) (wire (g.W.ByteOut.held l.fn.out) (g.R.ByteIn.ahead l.fn.content)) (wire (g.W.ByteOut.held l.out) (g.R.ByteIn.ahead l.content)) l.told;
   text : g.T.WorkWriter.unit_text l.writer ≡ g.T.WorkWriter.unit_text l.fn.writer;
   room : length l.have ≡ l.window;
   room' : length l.want ≡ l.window;

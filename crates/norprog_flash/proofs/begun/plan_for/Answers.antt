@@ -4,8 +4,8 @@ use Rattle.nor_base.proofs.FaultLaws.{handed_on}
 use Rattle.norprog_flash.specs.Begun.{printed}
 use Rattle.norprog_flash.specs.Stops.{CantPlan, NoPlace, Unplanned}
 use Rattle.norprog_flash.proofs.StopsLemmas.{on_chip, other_size, over}
-use Rattle.norprog_work.specs.Refused.{RefusesWork}
-use Rattle.norprog_work.specs.Work.{IsWork, plan_of}
+use Rattle.norprog_flash.specs.Refused.{RefusesWork}
+use Rattle.norprog_flash.specs.Work.{IsWork, plan_of}
 use Rattle.norprog_flash.proofs.begun.plan_for.Goals as goal
 
 pub returns-in_err-image-clause-refused : goal.returns-in_err-image-clause-refused

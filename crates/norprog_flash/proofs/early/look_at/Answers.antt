@@ -2,7 +2,7 @@
 use Rattle.std.proofs.Common.{◌∙◌, Bool, IfErr, ap, subst, sym}
 use Rattle.nor_job.specs.Task.{Task}
 use Rattle.norprog_flash.specs.Early.{BreaksEarly, Unnamed, Unsound, is_known}
-use Rattle.norprog_work.specs.Early as work
+use Rattle.norprog_flash.specs.Looked as work
 use Rattle.nor_base.proofs.FaultLaws.{handed_on}
 use Rattle.norprog_flash.specs.Early.{NoMemory, RefusesEarly}
 use Rattle.norprog_flash.proofs.StopsLemmas.{breaking, early}

@@ -2,7 +2,7 @@
 use Rattle.std.proofs.Common.{subst, sym}
 use Rattle.nor_base.specs.Device.{Writes}
 use Rattle.norprog_flash.specs.Line.{comparison_line}
-use Rattle.norprog_work.specs.declared.compared.Comparison.{Comparison}
+use Rattle.norprog_flash.specs.declared.compared.Comparison.{Comparison}
 use Rattle.norprog_flash.proofs.line.write_comparison.Goals as goal
 
 pub returns-in-Differs-clause-bytes : goal.returns-in-Differs-clause-bytes

@@ -1,24 +1,25 @@
 -- The steps, and then what the chip gives.
 use Rattle.std.proofs.Common.{◌≡◌, ℕ, List, Result, Ok, Err, ap, length, refl, subst, sym}
+use Rattle.nor_reader.specs.AtOnce.{at_once}
 use Rattle.nor_base.specs.declared.step.Step.{Step}
-use Rattle.nor_probe.specs.declared.difference.Mismatch.{Mismatch}
+use Rattle.nor_reader.specs.declared.difference.Mismatch.{Mismatch}
 use Rattle.nor_serprog.specs.Done.{HasDoneAll}
 use Rattle.nor_serprog.specs.Row.{HasHalted}
-use Rattle.norprog_common.specs.Wire.{Wire, wire}
+use Rattle.nor_base.specs.Wire.{Wire, wire}
 use Rattle.norprog_flash.specs.declared.ending.Ending.TheVariants.{Done, Failed}
 use Rattle.norprog_flash.specs.declared.work.Back.{Back}
 use Rattle.norprog_flash.specs.Worked.{FailedAt, HasWorked, IsFailureAt, MissedIt, ReadsBack, Session, Worked, WorksOut, back_of, session}
-use Rattle.norprog_work.specs.Work.{Plan, plan_of}
+use Rattle.norprog_flash.specs.Work.{Plan, plan_of}
 use Rattle.norprog_flash.proofs.work.do_work.Goals as goal
 
 -- what slices of the plan say
 worked : (s : Session) (before done after : Wire) (back : Back) (p : Plan) (result : Result (Unit {0}) Mismatch) (steps : List Step) (goal : List ℕ)
-    → steps ≡ p.steps → goal ≡ p.goal → HasDoneAll before.held done.held before.ahead done.ahead s.limits s.job.ask.turns steps
-    → ReadsBack s.limits.asked done after result back goal → HasWorked s before after back p result
-worked s before done after back p result steps goal these bytes all gives = record {
+    (most : ℕ) → most ≡ at_once s.limits → steps ≡ p.steps → goal ≡ p.goal → HasDoneAll before done s.limits s.job.ask.turns steps
+    → ReadsBack most done after result back goal → HasWorked s before after back p result
+worked s before done after back p result steps goal most is these bytes all gives = record {
   done = done;
-  steps = subst (λ (xs : List Step). HasDoneAll before.held done.held before.ahead done.ahead s.limits s.job.ask.turns xs) these all;
-  gives = subst (λ (xs : List ℕ). ReadsBack s.limits.asked done after result back xs) bytes gives;
+  steps = subst (λ (xs : List Step). HasDoneAll before done s.limits s.job.ask.turns xs) these all;
+  gives = subst (λ (n : ℕ). ReadsBack n done after result back p.goal) is (subst (λ (xs : List ℕ). ReadsBack most done after result back xs) bytes gives);
 }
 
 pub returns-in-Err : goal.returns-in-Err
@@ -28,8 +29,7 @@ returns-in-Err g c = record {
       let halt = c.in-Err.halt in
       FailedAt halt.step c.failure_at-why.result (record {
         halt = halt;
-        halted = subst (λ (xs : List Step). HasHalted (g.W.ByteOut.held c.args.to.now) (g.W.ByteOut.held c.do_steps.new.to)
-            (g.R.ByteIn.ahead c.args.from.now) (g.R.ByteIn.ahead c.do_steps.new.from) c.args.limits.now c.args.job.now.ask.turns xs halt) steps c.in-Err.ensures.done;
+        halted = subst (λ (xs : List Step). HasHalted (wire (g.W.ByteOut.held c.args.to.now) (g.R.ByteIn.ahead c.args.from.now)) (wire (g.W.ByteOut.held c.do_steps.new.to) (g.R.ByteIn.ahead c.do_steps.new.from)) c.args.limits.now c.args.job.now.ask.turns xs halt) steps c.in-Err.ensures.done;
         at = refl;
         failed = subst (λ (xs : List Step). IsFailureAt c.args.held.now.reading.meaning xs halt c.failure_at-why.result) steps c.failure_at-why.ensures;
       });
@@ -45,7 +45,7 @@ returns-in-Ok g c = record {
       let back = back_of c.args.job.now c.args.held.now.by in
       let p = plan_of c.args.work.now in
       subst (λ (n : ℕ). WorksOut s before after back p (Done n)) (sym (ap length c.as_slice-steps.ensures.value))
-      (Worked (worked s before done after back p (Ok tt) _ _ c.as_slice-steps.ensures.value c.as_slice.ensures.value c.in_default.ensures.done c.in-Ok.ensures.back));
+      (Worked (worked s before done after back p (Ok tt) _ _ _ c.for_reading-reading.ensures.asked c.as_slice-steps.ensures.value c.as_slice.ensures.value c.in_default.ensures.done c.in-Ok.ensures.back));
 }
 
 pub returns-in-Err-read_back : goal.returns-in-Err-read_back
@@ -60,7 +60,7 @@ returns-in-Err-read_back g c = record {
       subst (λ (n : ℕ). WorksOut s before after back p (Failed n c.failure_by.result)) (sym (ap length c.as_slice-steps.ensures.value))
       (MissedIt c.failure_by.result (record {
         mismatch = c.in-Err-read_back.why;
-        worked = worked s before done after back p (Err c.in-Err-read_back.why) _ _ c.as_slice-steps.ensures.value c.as_slice.ensures.value
+        worked = worked s before done after back p (Err c.in-Err-read_back.why) _ _ _ c.for_reading-reading.ensures.asked c.as_slice-steps.ensures.value c.as_slice.ensures.value
             c.in_default.ensures.done c.in-Err-read_back.ensures.back;
         failed = c.failure_by.ensures;
       }));

@@ -1,7 +1,7 @@
 -- The whole chip, and what comes past its end.
 use Rattle.std.proofs.Common.{◌≡◌, Bool, false, List, ℕ, Result, Ok, Err, inr, refl, subst, sym}
-use Rattle.nor_probe.specs.declared.difference.Mismatch.{Mismatch}
-use Rattle.norprog_common.specs.Wire.{Wire, wire}
+use Rattle.nor_reader.specs.declared.difference.Mismatch.{Mismatch}
+use Rattle.nor_base.specs.Wire.{Wire, wire}
 use Rattle.norprog_flash.specs.declared.work.Back.{Back}
 use Rattle.norprog_flash.specs.Worked.{ReadsAll, ReadsBack}
 use Rattle.norprog_read.specs.End.{past, EndsPast, GivesPast}

@@ -5,7 +5,7 @@ use Rattle.nor_base.specs.Script.{IsScript}
 use Rattle.nor_base.specs.declared.step.Step.{Step}
 use Rattle.nor_base.proofs.FaultLaws.{answered}
 use Rattle.nor_waves.specs.Waves.{waves}
-use Rattle.norprog_draw.specs.Drawn.{RefusesSteps, part}
+use Rattle.norprog_script.specs.Drawn.{RefusesSteps, part}
 use Rattle.norprog_files.specs.Files.{Denied, Event, Given, Loses, Loses_some, Made, Sends_all, closing}
 use Rattle.norprog_files.proofs.FilesLemmas.{adds_both, lost}
 use Rattle.norprog_files.specs.declared.replaced.OutKind.TheVariants.{Waveform}

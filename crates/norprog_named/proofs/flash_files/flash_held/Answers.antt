@@ -2,7 +2,7 @@
 use Rattle.std.proofs.Common.{ℕ, List, [], Option, Ok, Err, refl, subst}
 use Rattle.norprog_common.specs.declared.faults.FileName.TheVariants as file
 use Rattle.nor_base.proofs.FaultLaws.{answered}
-use Rattle.norprog_common.specs.Wire.{wire}
+use Rattle.nor_base.specs.Wire.{wire}
 use Rattle.norprog_files.proofs.FilesLemmas.{adds_none}
 use Rattle.norprog_flash.specs.declared.ending.Unflashed.TheVariants.{Refused}
 use Rattle.norprog_flash.specs.Begun.{printed}

@@ -6,8 +6,9 @@ use Rattle.nor_base.proofs.DeviceLaws.{never_raised}
 use Rattle.nor_base.specs.Device.{Cuts, raised}
 use Rattle.nor_job.specs.declared.fault.BuildFault.TheVariants as fault
 use Rattle.nor_job.specs.declared.job.Job.{Job}
-use Rattle.nor_plan_read.specs.Lines.{lines_text}
-use Rattle.nor_plan_read.specs.declared.line.PlanLine.{PlanLine}
+use Rattle.nor_outline.specs.Lines.{lines_text}
+use Rattle.nor_outline.specs.declared.line.PlanLine.{PlanLine}
+use Rattle.nor_base.specs.Wire.{wire}
 use Rattle.norprog.specs.Planner.{GoesOn}
 use Rattle.norprog.specs.Windows.{IsCutPlan}
 use Rattle.nor_base.proofs.FaultLaws.{handed_on, answered}
@@ -23,7 +24,7 @@ returns-in_err-lines-clause-cut g c =
     let x = g.O.ByteOut.held c.args.out.now in
     let y = g.O.ByteOut.held c.loop-lines.out in
     handed_on _ _ _ c.from_residual.ensures.1
-    (subst (λ (j : Job). IsCutPlan j a (g.R.ByteIn.ahead c.next_window.new.content) x y c.in_err-lines.field-0.0) v.job
+    (subst (λ (j : Job). IsCutPlan j (wire x a) (wire y (g.R.ByteIn.ahead c.next_window.new.content)) c.in_err-lines.field-0.0) v.job
     (c.in_err-lines.ensures.stopped a so.lines x y so.told so.put))
 
 pub add-requires : goal.add-requires
@@ -54,7 +55,7 @@ returns-in_err-add-clause-cut g c =
     let after = g.R.ByteIn.ahead c.next_window.new.content in
     let goes = subst (λ o. GoesOn c.loop-lines.planner q (g.R.ByteIn.ahead c.loop-lines.content) after (option_map (λ lines. lines.items) o)) c.in-Some.is c.in_ok-lines.ensures.told in
     handed_on _ _ fault.Memory c.from_residual-in_err-add.ensures.1
-    (subst (λ (j : Job). IsCutPlan j a after x y fault.Memory) (goes.1 ∙ v.job)
+    (subst (λ (j : Job). IsCutPlan j (wire x a) (wire y after) fault.Memory) (goes.1 ∙ v.job)
     (cut_before c.planned_lines.ensures.anywhere c.loop-lines.planner q c.args.sums.now c.loop-lines.sums a _ after x y lines so goes.0 (goes.3 a so.lines so.told)))
 
 pub returns-in-Err-clause-cut : goal.returns-in-Err-clause-cut
@@ -69,7 +70,7 @@ returns-in-Err-clause-cut g c =
     let z = g.O.ByteOut.held c.write_lines.new.out in
     let after = g.R.ByteIn.ahead c.next_window.new.content in
     let goes = subst (λ o. GoesOn c.loop-lines.planner q (g.R.ByteIn.ahead c.loop-lines.content) after (option_map (λ lines. lines.items) o)) c.in-Some.is c.in_ok-lines.ensures.told in
-    subst (λ (j : Job). IsCutPlan j a after x z fault.Write) (goes.1 ∙ v.job)
+    subst (λ (j : Job). IsCutPlan j (wire x a) (wire z after) fault.Write) (goes.1 ∙ v.job)
     (cut_window c.planned_lines.ensures.anywhere c.loop-lines.planner q c.args.sums.now c.loop-lines.sums a _ after x y z lines so goes.0 (goes.3 a so.lines so.told)
     (subst (λ (these : List PlanLine). Cuts y z (lines_text these)) c.deref-in-Some.ensures.value c.in-Err.ensures.bytes))
 

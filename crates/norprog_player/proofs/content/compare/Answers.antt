@@ -1,7 +1,7 @@
 -- Piece by piece.
 use Rattle.std.proofs.Common.{refl, ◌∙◌, arith}
 use Rattle.nor_cells.specs.Marks.{IsMarked}
-use Rattle.norprog_common.specs.Wire.{wire}
+use Rattle.nor_base.specs.Wire.{wire}
 use Rattle.norprog_player.specs.Compared.{comparison}
 use Rattle.norprog_player.proofs.ComparedLemmas.{none_read, piece_more, piece_stopped, all_read}
 use Rattle.norprog_player.proofs.content.compare.Goals as goal

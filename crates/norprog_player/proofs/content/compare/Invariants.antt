@@ -1,6 +1,6 @@
 -- The marked bytes so far were read.
 use Rattle.std.proofs.Common.{◌≡◌, ◌≤◌, ◌-◌, length}
-use Rattle.norprog_common.specs.Wire.{wire}
+use Rattle.nor_base.specs.Wire.{wire}
 use Rattle.norprog_player.specs.Compared.{comparison, HasComparedTo}
 use Rattle.nor_cells.specs.Marks.{IsMarked}
 use Rattle.norprog_player.proofs.content.compare.Given as goal

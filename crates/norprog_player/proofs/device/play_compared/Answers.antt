@@ -4,15 +4,12 @@ use Rattle.nor_base.specs.Port.{Shown}
 use Rattle.nor_base.specs.Run.{played}
 use Rattle.nor_serprog.specs.declared.limits.Limits.{Limits}
 use Rattle.norprog_player.specs.Carried.{AreCarried}
-use Rattle.norprog_common.specs.Told.{output}
 use Rattle.norprog_player.specs.Ending.{course}
 use Rattle.norprog_player.specs.Expected.{expectation_of}
 use Rattle.nor_cells.specs.Marks.{IsMarked}
 use Rattle.norprog_player.specs.Moment.{rules_of}
 use Rattle.norprog_player.specs.Port.{moment_of}
 use Rattle.norprog_player.proofs.CarriedLemmas.{stops, stops_after, same_bounds, done_bounds}
-use Rattle.nor_progress.proofs.ReportLaws.{none_reported}
-use Rattle.norprog_player.proofs.ProgressLemmas.{stop_reported, unlike_reported}
 use Rattle.norprog_player.proofs.LikenessLemmas.{all_keep, MarkedSince, compares_since, likens_since}
 use Rattle.norprog_player.proofs.TakenLemmas.{same_end}
 use Rattle.nor_play.specs.Play.{play}
@@ -113,21 +110,3 @@ returns-in-Ok-clause-ends g c =
       c.requires.steps.1,
       c.requires.content.2,
     )
-
-pub returns-in-Err-clause-told : goal.returns-in-Err-clause-told
-returns-in-Err-clause-told g c = none_reported c.args.steps.now _ _ _ _ refl refl
-
-pub returns-in-Err-follow_steps-clause-told : goal.returns-in-Err-follow_steps-clause-told
-returns-in-Err-follow_steps-clause-told g c =
-    let between = moment_of g.W.ByteOut.held g.R.ByteIn.ahead c.begin.new.port in
-    let after = moment_of g.W.ByteOut.held g.R.ByteIn.ahead c.follow_steps.new.port in
-    stop_reported (rules_of c.begin.new.port.limits c.begin.new.port.turns c.args.meaning.now) between after c.args.steps.now c.in-Err-follow_steps.halt
-    (output g.P.ByteOut.held g.P.ByteOut.count c.args.progress.now c.follow_steps.new.progress)
-    (subst (λ (l : Limits). AreCarried l c.args.steps.now) (sym c.in_default.ensures.kept.1) c.requires.steps.0.carried)
-    c.in-Err-follow_steps.ensures.done c.in-Err-follow_steps.ensures.told
-
-pub returns-in-Err-compare_unless_trusted-clause-told : goal.returns-in-Err-compare_unless_trusted-clause-told
-returns-in-Err-compare_unless_trusted-clause-told g c =
-    unlike_reported c.args.steps.now _ c.in-Err-compare_unless_trusted.why c.failure_by.result
-    (output g.P.ByteOut.held g.P.ByteOut.count c.args.progress.now c.follow_steps.new.progress) c.failure_by.ensures refl
-    c.in_default-follow_steps.ensures.told

@@ -8,7 +8,6 @@ use Rattle.nor_cells.specs.Marks.{AreMarks}
 use Rattle.norprog_player.specs.Moment.{rules_of}
 use Rattle.norprog_player.specs.Port.{moment_of}
 use Rattle.nor_cells.specs.Touched.{IsTouched}
-use Rattle.nor_progress.proofs.ReportLaws.{none_reported}
 use Rattle.norprog_player.proofs.LikenessLemmas.{ends_told, as_cells}
 use Rattle.norprog_player.proofs.device.play_on_device.Goals as goal
 
@@ -25,6 +24,3 @@ returns-clause-ends g c =
     ends_told (rules_of c.args.port.now.limits c.args.port.now.turns m) (expectation_of c.args.expected) (access_of m c.args.expected.start)
     c.access_of-access.result (Wanted c.args.port.now.chip.chip.array) (m.size / 256) c.in_ok-cells.cells.items c.as_mut_slice.result.now before
     c.args.steps.now c.access_of-access.ensures c.as_mut_slice.ensures.value are cells c.play_compared.result after c.play_compared.ensures.ends
-
-pub returns-in-Err-clause-told : goal.returns-in-Err-clause-told
-returns-in-Err-clause-told g c = none_reported c.args.steps.now _ _ _ _ refl refl

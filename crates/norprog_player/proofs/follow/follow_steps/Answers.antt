@@ -4,8 +4,6 @@ use Rattle.std.proofs.Math.Seq.{take-add}
 use Rattle.std.proofs.lemmas.List.{take-append-drop, length-take-le}
 use Rattle.nor_base.specs.declared.step.Step.{Step}
 use Rattle.nor_base.specs.Run.{played}
-use Rattle.nor_progress.specs.Come.{AreNext, HasCome}
-use Rattle.nor_progress.proofs.ReportLaws.{ended_reports, none_come}
 use Rattle.std.specs.Prelude.{None, Ok}
 use Rattle.norprog_player.specs.Moment.{rules_of, DoesAll}
 use Rattle.norprog_player.specs.Port.{moment_of}
@@ -13,17 +11,6 @@ use Rattle.norprog_player.proofs.CarriedLemmas.{done_bounds, same_bounds}
 use Rattle.norprog_player.proofs.FollowedLemmas.{goes_to_end}
 use Rattle.norprog_player.proofs.TogetherLemmas.{all_left_over, does_append, goes_through, stops_in}
 use Rattle.norprog_player.proofs.follow.follow_steps.Goals as goal
-
--- the next of some steps after the first so many
-next_of : (steps : List Step) (at k : ℕ) → at ≤ length steps → AreNext steps at (take k (take (length steps - at) (drop at steps)))
-next_of steps at k within =
-    let left : List Step = take (length steps - at) (drop at steps) in
-    record {
-      front = take at steps;
-      rest = drop k left;
-      those = sym (ap (λ (l : List Step). take at steps ++ l) (take-append-drop k left ∙ all_left_over at steps) ∙ take-append-drop at steps);
-      number = length-take-le at steps within;
-    }
 
 pub loop-done-init : goal.loop-done-init
 loop-done-init g c = record {
@@ -34,33 +21,7 @@ loop-done-init g c = record {
   limits = refl;
   turns = refl;
   room = refl;
-  come = none_come c.args.steps.now c.of-far.result (g.P.ByteOut.held c.args.progress.now) (g.P.ByteOut.count c.args.progress.now) c.of-far.ensures.few c.of-far.ensures.none;
 }
-
-pub returns-in-Err-clause-told : goal.returns-in-Err-clause-told
-returns-in-Err-clause-told g c =
-    let steps : List Step = c.args.steps.now in
-    let at = c.loop-done.done in
-    let k = c.in-Err.halt.step in
-    let left : List Step = take (length steps - at) (drop at steps) in
-    let few : k ≤ length left = omega (arith, c.in-Err.ensures.within, c.row_of-count.ensures.within) in
-    let held = g.P.ByteOut.held c.args.progress.now in
-    let count = g.P.ByteOut.count c.args.progress.now in
-    let come = c.row_done.ensures.moves steps at held count c.loop-done.invariant.come (next_of steps at k c.loop-done.invariant.within) in
-    ended_reports steps (at + k) c.row_done.new.self held (g.P.ByteOut.held c.row_done.new.out) (g.P.ByteOut.held c.end.new.out)
-    count (g.P.ByteOut.count c.row_done.new.out) (g.P.ByteOut.count c.end.new.out)
-    (subst (λ (n : ℕ). HasCome steps (at + n) c.row_done.new.self held (g.P.ByteOut.held c.row_done.new.out) count (g.P.ByteOut.count c.row_done.new.out))
-    (length-take-le k left few) come) c.end.ensures
-
-pub returns-clause-told : goal.returns-clause-told
-returns-clause-told g c =
-    let steps : List Step = c.args.steps.now in
-    let all : c.loop-done.done ≡ length steps = omega (arith, c.loop-done.invariant.within, c.loop-done-test.false) in
-    let held = g.P.ByteOut.held c.args.progress.now in
-    let count = g.P.ByteOut.count c.args.progress.now in
-    ended_reports steps (length steps) c.loop-done.far held (g.P.ByteOut.held c.loop-done.progress) _ count (g.P.ByteOut.count c.loop-done.progress) _
-    (subst (λ (n : ℕ). HasCome steps n c.loop-done.far held (g.P.ByteOut.held c.loop-done.progress) count (g.P.ByteOut.count c.loop-done.progress)) all c.loop-done.invariant.come)
-    c.end-2.ensures
 
 pub returns-in-Err-clause-done : goal.returns-in-Err-clause-done
 returns-in-Err-clause-done g c =
@@ -100,8 +61,6 @@ loop-done-preserved g c =
     let few : c.row_of-count.result ≤ length left = c.row_of-count.ensures.within in
     let long : length left ≡ length steps - c.loop-done.done = ap length whole ∙ length-drop c.loop-done.done steps in
     let further : c.loop-done.done + c.row_of-count.result ≤ length steps = omega (arith, few, long, c.loop-done.invariant.within) in
-    let held = g.P.ByteOut.held c.args.progress.now in
-    let count = g.P.ByteOut.count c.args.progress.now in
     let same_row : row ≡ take c.row_of-count.result (drop c.loop-done.done steps) = ap (take c.row_of-count.result) whole in
     record {
       within = further;
@@ -118,9 +77,6 @@ loop-done-preserved g c =
       limits = c.in_default.ensures.kept.0 ∙ c.loop-done.invariant.limits;
       turns = c.in_default.ensures.kept.1 ∙ c.loop-done.invariant.turns;
       room = c.in_default.ensures.kept.2 ∙ c.loop-done.invariant.room;
-      come = subst (λ (n : ℕ). HasCome steps (c.loop-done.done + n) c.row_done-in-loop-done.new.self held (g.P.ByteOut.held c.row_done-in-loop-done.new.out) count
-          (g.P.ByteOut.count c.row_done-in-loop-done.new.out)) (length-take-le c.row_of-count.result left few)
-          (c.row_done-in-loop-done.ensures.moves steps c.loop-done.done held count c.loop-done.invariant.come (next_of steps c.loop-done.done c.row_of-count.result c.loop-done.invariant.within));
     }
 
 pub returns-clause-chip : goal.returns-clause-chip

@@ -1,6 +1,5 @@
 -- The steps so far were done, and what is left goes well.
 use Rattle.std.proofs.Common.{◌≡◌, ◌≤◌, ◌-◌, None, take, drop, length}
-use Rattle.nor_progress.specs.Come.{HasCome}
 use Rattle.norprog_player.specs.Moment.{DoesAll}
 use Rattle.norprog_player.specs.Port.{moment_of}
 use Rattle.norprog_player.proofs.FollowedLemmas.{GoesOn}
@@ -16,8 +15,6 @@ invariant-loop-done g l = record {
   limits : l.port.limits ≡ l.fn.port.limits;
   turns : l.port.turns ≡ l.fn.port.turns;
   room : length l.room ≡ length l.fn.room;
-  come : HasCome l.steps l.done l.far (g.P.ByteOut.held l.fn.progress) (g.P.ByteOut.held l.progress) (g.P.ByteOut.count l.fn.progress)
-      (g.P.ByteOut.count l.progress);
 }
 
 abbrev pub decreases-loop-done : goal.decreases-loop-done

@@ -1,5 +1,5 @@
 -- The handshake, and then the test of the line.
-use Rattle.norprog_common.specs.Wire.{wire}
+use Rattle.nor_base.specs.Wire.{wire}
 use Rattle.norprog_player.proofs.OpenedLemmas.{opens_so}
 use Rattle.norprog_player.proofs.greeted.greet_and_test.Goals as goal
 

@@ -1,7 +1,7 @@
 -- The mode was entered, the piece read, and the mode left.
 use Rattle.nor_base.proofs.FaultLaws.{answered}
-use Rattle.nor_probe.specs.declared.difference.Mismatch.TheVariants.{Exchange}
-use Rattle.norprog_common.specs.Wire.{wire}
+use Rattle.nor_reader.specs.declared.difference.Mismatch.TheVariants.{Exchange}
+use Rattle.nor_base.specs.Wire.{wire}
 use Rattle.norprog_player.specs.declared.access.Access.TheVariants.{Entered}
 use Rattle.norprog_player.specs.Access.{far_ops}
 use Rattle.norprog_player.specs.Compared.{piece_at, ReadsOps}

@@ -1,5 +1,5 @@
 -- The exchange ended early.
-use Rattle.norprog_common.specs.Wire.{wire}
+use Rattle.nor_base.specs.Wire.{wire}
 use Rattle.norprog_player.specs.Compared.{piece_at}
 use Rattle.norprog_player.proofs.PieceLemmas.{read_stopped}
 use Rattle.norprog_player.proofs.piece.read_by.Goals as goal

@@ -1,7 +1,7 @@
 -- One after the other.
 use Rattle.std.proofs.Common.{◌∙◌, ap, refl}
 use Rattle.nor_base.proofs.FaultLaws.{handed_on}
-use Rattle.norprog_common.specs.Wire.{wire}
+use Rattle.nor_base.specs.Wire.{wire}
 use Rattle.norprog_read.specs.Came.{HidesLine, ShowsLine}
 use Rattle.norprog_read.specs.Size.{asked_register, noted_size}
 use Rattle.norprog_read.specs.Stops.{AtContent, AtEnd, AtFile, AtId, AtLine, AtMeaning, AtMode, AtPast, AtRegister, AtSize, AtStatus, AtTables, OtherId, StopsChip, Unexpected}

@@ -1,7 +1,7 @@
 -- The content that came twice is known.
 use Rattle.std.proofs.Common.{◌≡◌, ◌≤◌, ◌∙◌, ◌^◌, true, false, length, refl, sym, arith}
 use Rattle.nor_base.proofs.FaultLaws.{handed_on}
-use Rattle.norprog_common.specs.Wire.{wire}
+use Rattle.nor_base.specs.Wire.{wire}
 use Rattle.norprog_read.specs.Stops.{Hidden, Lost, NoMemory, Other, StopsContent, Unreadable}
 use Rattle.norprog_read.specs.Way.{first_by, is_readable, second_by, IsShownBy}
 use Rattle.norprog_read.proofs.ReadLemmas.{written}
@@ -23,7 +23,7 @@ returns-then-is_certain-clause-whole g c =
     let sure = c.args.sure in
     let u = wire (g.W.ByteOut.held c.args.to.now) (g.R.ByteIn.ahead c.args.from.now) in
     let v = wire (g.W.ByteOut.held c.read_content.new.to) (g.R.ByteIn.ahead c.read_content.new.from) in
-    let long : c.in_ok-content.content.len ≡ length new = omega (arith, c.read_content.auto.content, c.as_mut_slice.ensures.len) in
+    let long : c.in_ok-content.content.len ≡ length new = omega (arith, c.read_content.auto.content, c.as_mut_slice-bytes.ensures.len) in
     let whole : length new ≡ m.size = omega (arith, long, c.in_ok-content.ensures.len, c.size_in.ensures.is) in
     let fits : length new ≤ 2 ^ 32 = omega (arith, whole, c.size_in.ensures.is, c.size_in.ensures.few) in
     let readable : is_readable m start ≡ true = sym c.is_readable.ensures ∙ c.if-not-is_readable.false in
@@ -47,7 +47,7 @@ returns-then-is_certain-clause-whole g c =
 pub returns-in-Ok-clause-stops : goal.returns-in-Ok-clause-stops
 returns-in-Ok-clause-stops g c =
     let new = c.read_content.new.content in
-    let long : c.in_ok-content.content.len ≡ length new = omega (arith, c.read_content.auto.content, c.as_mut_slice.ensures.len) in
+    let long : c.in_ok-content.content.len ≡ length new = omega (arith, c.read_content.auto.content, c.as_mut_slice-bytes.ensures.len) in
     let same = c.as_slice.ensures.value ∙ written new c.in_ok-content.content.items c.in_ok-content.content.len long in
     Hidden new c.if-is_certain.ensures.hidden.0 (rw c.first_by-by.ensures at (rw c.second_by-again.ensures at c.in-Ok.ensures.twice))
     (λ shows. c.if-is_certain.ensures.hidden.1 (rw c.first_by-by.ensures (rw same shows)))

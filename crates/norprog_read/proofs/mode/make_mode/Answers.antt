@@ -1,7 +1,7 @@
 -- It is so already, or made so, or not.
 use Rattle.std.proofs.Common.{◌∙◌, refl, sym}
 use Rattle.nor_base.proofs.FaultLaws.{handed_on}
-use Rattle.norprog_common.specs.Wire.{wire}
+use Rattle.nor_base.specs.Wire.{wire}
 use Rattle.norprog_read.specs.Modes.{Made, Otherwise, Sent, Shown, StopsMode, Unasked, Unsent}
 use Rattle.norprog_read.proofs.mode.make_mode.Goals as goal
 

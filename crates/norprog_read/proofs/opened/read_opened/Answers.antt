@@ -1,5 +1,5 @@
 -- The handshake, the chip, the pins.
-use Rattle.norprog_common.specs.Wire.{wire}
+use Rattle.nor_base.specs.Wire.{wire}
 use Rattle.norprog_read.proofs.ReadLemmas.{opened_by, stops_by}
 use Rattle.norprog_read.proofs.opened.read_opened.Goals as goal
 

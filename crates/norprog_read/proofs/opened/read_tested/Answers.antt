@@ -1,5 +1,5 @@
 -- The test of the line, and then the chip.
-use Rattle.norprog_common.specs.Wire.{wire}
+use Rattle.nor_base.specs.Wire.{wire}
 use Rattle.norprog_read.proofs.ReadLemmas.{tested_stops}
 use Rattle.norprog_read.proofs.opened.read_tested.Goals as goal
 

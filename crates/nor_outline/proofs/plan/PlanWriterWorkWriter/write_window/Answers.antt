@@ -2,7 +2,7 @@
 use Rattle.std.proofs.Common.{subst}
 use Rattle.std.specs.Io.KnownBytes.{Appends}
 use Rattle.nor_base.specs.Device.{Cuts}
-use Rattle.nor_plan_read.specs.Lines.{lines_text}
+use Rattle.nor_outline.specs.Lines.{lines_text}
 use Rattle.nor_base.proofs.FaultLaws.{handed_on}
 use Rattle.nor_outline.proofs.PlanText.{refused, lines_wrote, lines_cut}
 use Rattle.nor_outline.proofs.plan.PlanWriterWorkWriter.write_window.Goals as goal

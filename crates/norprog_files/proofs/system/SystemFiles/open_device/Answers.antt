@@ -4,7 +4,7 @@ use Rattle.nor_base.proofs.FaultLaws.{handed_on}
 use Rattle.nor_base.specs.Device.{ahead_of}
 use Rattle.std.specs.Io.Buffered.{reader_remaining}
 use Rattle.norprog_common.specs.declared.faults.FileName.TheVariants.{Device}
-use Rattle.norprog_common.specs.Wire.{wire}
+use Rattle.nor_base.specs.Wire.{wire}
 use Rattle.norprog_files.specs.Files.{Denies, Wired}
 use Rattle.norprog_files.specs.Trace.{ToNoDevice, ToWired}
 use Rattle.norprog_files.proofs.DeniesLemmas.{device_denies}

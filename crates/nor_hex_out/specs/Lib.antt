@@ -1,4 +1,0 @@
-pub mod Records
-pub mod Segments
-pub mod Laws
-pub mod Converted

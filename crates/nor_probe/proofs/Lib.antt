@@ -1,5 +1,0 @@
-mod DifferenceLemmas
-mod StatusBits
-mod StatusLemmas
-pub mod TablesLemmas
-mod PieceLemmas

@@ -1,8 +1,0 @@
--- How far the headers so far reach.
-use Rattle.std.proofs.Common.{◌≡◌}
-use Rattle.nor_probe.specs.Tables.{greatest}
-use Rattle.nor_probe.proofs.TablesLemmas.{ends_before}
-use Rattle.nor_probe.proofs.tables.tables_reach.Given as goal
-
-abbrev pub invariant-loop-i : goal.invariant-loop-i
-invariant-loop-i l = l.reach ≡ greatest (ends_before l.tables l.i)

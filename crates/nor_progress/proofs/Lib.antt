@@ -1,2 +1,0 @@
-mod FarLemmas
-pub mod ReportLaws

@@ -1,4 +1,0 @@
-pub mod Line
-pub mod Far
-pub mod Text
-pub mod Come

@@ -1,2 +1,0 @@
-pub mod Drawn
-pub mod Request

@@ -1,2 +1,0 @@
-pub mod RowLemmas
-pub mod SubjectLemmas

@@ -1,3 +1,0 @@
-pub mod Explained
-pub mod Matching
-pub mod Topics

@@ -1,0 +1,117 @@
+-- The work of the narrowed task is the work of the task.
+use Rattle.std.proofs.Common.{◌≡◌, ◌⊎◌, inl, inr, ℕ, ◌<◌, ◌^◌, List, [], ◌++◌, length, Option, Result, Ok, refl, sym, ap, subst, ◌∙◌, arith}
+use Rattle.nor_base.specs.declared.step.Step.{Step}
+use Rattle.nor_base.specs.Parameters.{Parameters}
+use Rattle.nor_base.specs.Planned.{ArePlanned, IsWorkable, planned_units}
+use Rattle.nor_hex.specs.Image.{Pairs}
+use Rattle.nor_job.proofs.ChipLemmas.{one_chip}
+use Rattle.nor_job.specs.declared.fault.BuildFault.{BuildFault}
+use Rattle.nor_job.specs.declared.fault.BuildFault.TheVariants.{Memory}
+use Rattle.nor_job.specs.Causes.{AreAccepted, RefusesInputs}
+use Rattle.nor_job.specs.Status.{start_of}
+use Rattle.nor_job.specs.Task.{Task}
+use Rattle.nor_job.specs.Wanted.{wanted}
+use Rattle.nor_laws.specs.Laws.{TargetGives, TargetKeeps}
+use Rattle.nor_layout.specs.Region.{Region}
+use Rattle.norprog.specs.Build.{report_of}
+use Rattle.norprog.specs.PlanWindows.{plan_text}
+use Rattle.norprog.specs.declared.report.Report.{Report}
+use Rattle.norprog_flash.specs.declared.goal.Goal.{Goal}
+use Rattle.norprog_flash.specs.Narrowed.{narrowed, SpansDifference}
+use Rattle.norprog_flash.specs.Refused.{IsCause, RefusesWork, StopsPlanning}
+use Rattle.norprog_flash.specs.Work.{BuildsSteps, HasLines, IsGoal, IsWork}
+use Rattle.norprog_flash.proofs.NarrowedLemmas.{target_is_wanted}
+
+module _ (keeps : TargetKeeps) (gives : TargetGives) (t : Task) (content old : List ℕ) (narrow : Pairs) (goal : Goal) (g : IsGoal t old goal)
+    (sizes : length content ≡ length old)
+    (spans : SpansDifference content goal.bytes.items narrow) where
+  -- there is a byte of the goal for each of the content
+  long : length content ≡ length goal.bytes.items
+  long = sizes ∙ sym g.size
+
+  few : length goal.bytes.items < 2 ^ 32
+  few = let size = g.size in let below = g.few in omega (arith, size, below)
+
+  -- the narrowed task has the same chip and target
+  same_chip : (image : Pairs) (regions : List Region) (m : Parameters) → AreAccepted (narrowed t narrow) (length content) image regions m → m ≡ g.m
+  same_chip image regions m is = one_chip is.means g.accepted.means
+
+  same_target : (image : Pairs) (regions : List Region) (m : Parameters) → AreAccepted (narrowed t narrow) (length content) image regions m
+      → wanted (narrowed t narrow) image regions content ≡ goal.bytes.items
+  same_target image regions m is =
+      target_is_wanted keeps gives content goal.bytes.items image (subst (SpansDifference content goal.bytes.items) (sym is.named.imaged.spelled.0) spans) long few regions
+
+  lines_are : (lines : List ℕ) → HasLines (narrowed t narrow) content lines → lines ≡ plan_text g.m (start_of t) content goal.bytes.items
+  lines_are lines is =
+      subst (λ (m : Parameters). lines ≡ plan_text m (start_of t) content goal.bytes.items) (same_chip is.image is.regions is.m is.accepted)
+      (subst (λ (want : List ℕ). lines ≡ plan_text is.m (start_of t) content want) (same_target is.image is.regions is.m is.accepted) is.text)
+
+  here : AreAccepted t (length content) g.image g.regions g.m
+  here = subst (λ n. AreAccepted t n g.image g.regions g.m) (sym sizes) g.accepted
+
+  -- what is so of the narrowed task's chip and target is so of the task's
+  over : (P : Parameters → List ℕ → Type 0) (image : Pairs) (regions : List Region) (m : Parameters)
+      → AreAccepted (narrowed t narrow) (length content) image regions m → P m (wanted (narrowed t narrow) image regions content)
+      → P g.m (wanted t g.image g.regions old)
+  over P image regions m is p =
+      subst (P g.m) g.bytes
+      (subst (λ (n : Parameters). P n goal.bytes.items) (same_chip image regions m is) (subst (P m) (same_target image regions m is) p))
+
+  stops_are : (why : BuildFault) → StopsPlanning (narrowed t narrow) content content why → StopsPlanning t content old why
+  stops_are why s = record {
+    image = g.image;
+    regions = g.regions;
+    m = g.m;
+    accepted = here;
+    cause = over (λ (m : Parameters) (w : List ℕ). IsCause m (start_of t) content w why) s.image s.regions s.m s.accepted s.cause;
+  }
+
+  -- memory was refused
+  pub starved : RefusesWork t content old Memory
+  starved = inr (record { image = g.image; regions = g.regions; m = g.m; accepted = here; cause = tt })
+
+  pub planning_refused : (why : BuildFault) → StopsPlanning (narrowed t narrow) content content why ⊎ (why ≡ Memory) → RefusesWork t content old why
+  planning_refused why (inl stops) = inr (stops_are why stops)
+  planning_refused why (inr memory) = subst (RefusesWork t content old) (sym memory) starved
+
+  module _ (report : Report) (steps : List Step) (built : BuildsSteps (narrowed t narrow) content report steps) where
+    chip : built.m ≡ g.m
+    chip = same_chip built.image built.regions built.m built.accepted
+
+    want : wanted (narrowed t narrow) built.image built.regions content ≡ goal.bytes.items
+    want = same_target built.image built.regions built.m built.accepted
+
+    workable : IsWorkable g.m (start_of t) content goal.bytes.items
+    workable =
+        subst (λ (m : Parameters). IsWorkable m (start_of t) content goal.bytes.items) chip
+        (subst (λ (w : List ℕ). IsWorkable built.m (start_of t) content w) want built.workable)
+
+    planned : ArePlanned g.m (start_of t) t.verify content goal.bytes.items steps
+    planned =
+        subst (λ (m : Parameters). ArePlanned m (start_of t) t.verify content goal.bytes.items steps) chip
+        (subst (λ (w : List ℕ). ArePlanned built.m (start_of t) t.verify content w steps) want built.planned)
+
+    told : (r : Report) → r ≡ record report { ignored = goal.ignored }
+        → r ≡ report_of t g.image g.regions g.m (planned_units g.m (start_of t) content goal.bytes.items) steps
+    told r is =
+        let start = start_of t in
+        let these : report ≡ report_of (narrowed t narrow) built.image built.regions g.m (planned_units g.m start content goal.bytes.items) steps =
+        subst (λ (m : Parameters). report ≡ report_of (narrowed t narrow) built.image built.regions m (planned_units m start content goal.bytes.items) steps) chip
+        (subst (λ (w : List ℕ). report ≡ report_of (narrowed t narrow) built.image built.regions built.m (planned_units built.m start content w) steps) want built.told) in
+        is
+        ∙ (ap (λ (x : Report). record x { ignored = goal.ignored }) these
+        ∙ ap (λ (n : ℕ). record (report_of t g.image g.regions g.m (planned_units g.m start content goal.bytes.items) steps) { ignored = n }) g.ignored)
+
+    pub work_is : (lines : List ℕ) (r : Report) → r ≡ record report { ignored = goal.ignored } → HasLines (narrowed t narrow) content lines
+        → IsWork t content old (record { goal = goal.bytes.items; steps = steps; lines = lines; report = r })
+    work_is lines r is has = record {
+      image = g.image;
+      regions = g.regions;
+      m = g.m;
+      accepted = here;
+      goal_is = g.bytes;
+      workable = workable;
+      planned = planned;
+      lines = lines_are lines has;
+      report = told r is;
+    }

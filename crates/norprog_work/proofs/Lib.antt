@@ -1,6 +1,0 @@
-mod SpanLemmas
-mod NarrowedLemmas
-mod GoalLemmas
-mod BuiltLemmas
-mod RefusedLemmas
-mod WorkLemmas

@@ -1,6 +1,0 @@
--- What was looked through so far.
-use Rattle.norprog_work.proofs.SpanLemmas.{SpansSoFar}
-use Rattle.norprog_work.proofs.span.differing.Given as goal
-
-abbrev pub invariant-loop-place : goal.invariant-loop-place
-invariant-loop-place l = SpansSoFar l.one l.other l.low l.high l.place

@@ -1,5 +1,0 @@
-pub mod Work
-pub mod Narrowed
-pub mod Refused
-pub mod Early
-pub mod Compared
