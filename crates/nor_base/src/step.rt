@@ -3,7 +3,7 @@
 ghost use Rattle.std.specs.Prelude.{◌≡◌};
 ghost use Rattle.std.specs.List.{list_all};
 ghost use Rattle.nor_base.specs.Sample.{is_symbol};
-ghost use Rattle.nor_base.specs.Step.{is_step as passes, are_clocks, step_clocks};
+ghost use Rattle.nor_base.specs.Step.{is_step as passes, are_clocks, expected, step_clocks};
 
 use crate::bytes::Bytes;
 use crate::clock::clock_of;
@@ -40,6 +40,16 @@ impl Step {
             Step::Send { clocks } | Step::Poll { clocks } | Step::Verify { clocks, .. } => {
                 clocks.as_slice()
             }
+        }
+    }
+
+    /// The bytes that it expects: none but of a [`Step::Verify`].
+    pub fn expected(&self) -> &[u8]
+        ensures { result.now ≡ expected self.now }
+    {
+        match self {
+            Step::Send { .. } | Step::Poll { .. } => &[],
+            Step::Verify { clocks: _, expect } => expect.as_slice(),
         }
     }
 }

@@ -9,7 +9,7 @@ const EVERY: u64 = 100;
 /// How many steps are done, and how many bytes of theirs went over the bus, of all. Numbers past
 /// 2^64 - 1 stay there.
 #[derive(Drop)]
-pub struct Progress {
+pub(crate) struct Progress {
     steps: u64,
     bytes: u64,
     all_steps: u64,
@@ -22,7 +22,7 @@ pub struct Progress {
 
 impl Progress {
     /// None of these steps is done.
-    pub fn of(steps: &[Step]) -> Progress {
+    pub(crate) fn of(steps: &[Step]) -> Progress {
         let mut all_bytes: u64 = 0;
         for step in steps {
             all_bytes = all_bytes.saturating_add(bytes(step));
@@ -49,14 +49,14 @@ impl Progress {
     }
 
     /// These steps are done, one after the other.
-    pub fn row_done<P: ByteOut>(&mut self, row: &[Step], out: &mut P) {
+    pub(crate) fn row_done<P: ByteOut>(&mut self, row: &[Step], out: &mut P) {
         for step in row {
             self.step_done(step, out);
         }
     }
 
     /// Closes the line, where one was written and none failed.
-    pub fn end<P: ByteOut>(self, out: &mut P) {
+    pub(crate) fn end<P: ByteOut>(self, out: &mut P) {
         if self.works && self.shown {
             let _ = put_all(out, b"\n");
         }

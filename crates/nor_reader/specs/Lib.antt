@@ -18,3 +18,4 @@ pub mod Modes
 pub mod Cut
 pub mod Telling
 pub mod Worked
+pub mod Part

@@ -2,7 +2,8 @@
 //! (JEDEC 9Fh), its SFDP tables (JESD216B 5Ah), and its content (W25Q256JV datasheet 03h, 13h).
 //! Nothing is sent that changes what a chip holds.
 //!
-//! [`read_id`] reads the first, [`read_tables`] the second, [`read_content`] the third.
+//! [`read_id`] reads the first, [`read_tables`] the second, [`read_content`] the third;
+//! [`compare_part`] compares a part of that.
 //! [`twice_knows`] is the law that a content which came twice alike is that of every chip that
 //! would have given these answers.
 //!
@@ -21,6 +22,7 @@ mod known;
 mod laws;
 mod own;
 mod own_worked;
+mod part;
 mod pass;
 mod past;
 mod piece;
@@ -39,6 +41,7 @@ pub use known::{compare_tables, table_end, tables_reach};
 pub use laws::{mode_is_shown, twice_knows};
 pub use own::{AddressRegister, address_register, is_moved, opcode_of};
 pub use own_worked::own_tables_worked;
+pub use part::compare_part;
 pub use pass::{read_again, read_content};
 pub use past::read_past;
 pub use shows::shows_mode;

@@ -1,12 +1,8 @@
--- What a device beside a chip in memory did in one transaction (this project's).
-use Rattle.std.specs.Prelude.{◌≡◌, ◌≢◌, ◌≤◌, ◌<◌, ◌⊎◌, ◌%◌, ◌==◌, ◌+◌, ℕ, zero, suc, min, Bool, true, false, List, [], ◌∷◌, ◌++◌, length, flat_map, Option, Some, None, Result, Ok, Err}
+-- What a device did in one operation, or in a wait (this project's).
+use Rattle.std.specs.Prelude.{◌≡◌, ◌≤◌, ◌<◌, ◌⊎◌, ◌%◌, ◌==◌, ◌+◌, ℕ, zero, suc, min, Bool, true, false, List, [], ◌∷◌, ◌++◌, length, flat_map, Option, Result, Ok, Err}
 use Rattle.std.specs.List.{list_all}
 use Rattle.std.specs.Io.KnownBytes.{Appends}
-use Rattle.nor_base.specs.declared.wrong.PortFault.{PortFault}
-use Rattle.nor_base.specs.declared.wrong.PortFault.TheVariants as port
 use Rattle.nor_base.specs.Device.{Ahead, Gives, one_more}
-use Rattle.nor_base.specs.Port.{Shown, Transacts}
-use Rattle.nor_base.specs.Run.{poll_clocks}
 use Rattle.nor_base.specs.Wire.{Wire, wire}
 use Rattle.nor_serprog.specs.declared.fault.Fault.{Fault}
 use Rattle.nor_serprog.specs.declared.fault.Fault.TheVariants as fault
@@ -205,11 +201,6 @@ Operates before after (Err (reason.Differs place byte)) limits clocks want =
 Operates before after (Err reason.Carried) limits clocks want =
     IsNotCarried before after limits clocks
 
--- a transaction with the device, whose chip is to give these bytes: a poll is a wait, all else one operation
-pub record Follows (before after : Wire) (result : Result (Unit {0}) Reason) (limits : Limits) (turns : ℕ) (clocks want : List ℕ) : Type 0 where
-  pub poll : clocks ≡ poll_clocks → Waits before after result limits turns
-  pub other : clocks ≢ poll_clocks → Operates before after result limits clocks want
-
 -- the reader's count of failures rises by one exactly where the reason is Read, the writer's where it is Write
 abbrev pub CountsReason : {T : Type 0} → Fault → ℕ → ℕ → Result T Reason → Type 0
 CountsReason device before after (Ok u) = after ≡ before
@@ -219,38 +210,3 @@ CountsReason device before after (Err (reason.Differs place byte)) = after ≡ b
 CountsReason fault.Read before after (Err (reason.Exchange fault.Read)) = after ≡ one_more before
 CountsReason fault.Write before after (Err (reason.Exchange fault.Write)) = after ≡ one_more before
 CountsReason device before after (Err (reason.Exchange why)) = after ≡ before
-
--- so it is of the reason for which a port fails first; where it fails for none, or has failed before, neither count rises
-abbrev pub CountsFirst : Fault → ℕ → ℕ → Option Reason → Option Reason → Type 0
-CountsFirst device before after None (Some why) = CountsReason {T = Unit {0}} device before after (Err why)
-CountsFirst device before after reason_before reason_after = after ≡ before
-
--- the device was left alone
-pub record IsUntouched (before after : Wire) : Type 0 where
-  pub held : after.held ≡ before.held
-  pub ahead : after.ahead ≡ before.ahead
-
--- a chip in memory beside a device at one moment: the chip, the wire, and why it has failed, where it has
-pub record Beside : Type 0 where
-  pub shown : Shown
-  pub wire : Wire
-  pub reason : Option Reason
-
-abbrev pub beside : Shown → Wire → Option Reason → Beside
-beside shown wire reason = record { shown = shown; wire = wire; reason = reason }
-
--- a failed transaction, by why it had failed before: a port that has failed fails again, and asks nothing of the device. One that hadn't
--- fails by the device, and keeps the reason; its chip in memory took the instruction
-abbrev pub Fails : Option Reason → Beside → Beside → Limits → ℕ → List ℕ → List ℕ → Type 0
-Fails (Some why) before after limits turns clocks out = (after.reason ≡ Some why) × IsUntouched before.wire after.wire
-Fails None before after limits turns clocks out =
-    (why : Reason) × (after.reason ≡ Some why) × Transacts before.shown after.shown (Ok tt) clocks out
-    × Follows before.wire after.wire (Err why) limits turns clocks out
-
--- what a transaction is to the device beside the chip: done as the chip does it; never asked for where the chip refuses it
-abbrev pub Accompanies : Beside → Beside → Result (Unit {0}) PortFault → Limits → ℕ → List ℕ → List ℕ → Type 0
-Accompanies before after (Ok u) limits turns clocks out =
-    (before.reason ≡ None) × (after.reason ≡ None) × Follows before.wire after.wire (Ok tt) limits turns clocks out
-Accompanies before after (Err (port.Wrong why)) limits turns clocks out =
-    (before.reason ≡ None) × (after.reason ≡ None) × IsUntouched before.wire after.wire
-Accompanies before after (Err port.Failed) limits turns clocks out = Fails before.reason before after limits turns clocks out

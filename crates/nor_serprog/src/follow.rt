@@ -1,4 +1,4 @@
-//! The transactions of a chip in memory, done by a device.
+//! An operation by its clocks, and a wait for the status.
 
 ghost use Rattle.std.specs.Prelude.{◌≡◌, ◌<◌, ◌≤◌, ◌^◌, ℕ, List, Option, length};
 ghost use Rattle.std.specs.Io.KnownBytes.{Appends};
@@ -6,7 +6,7 @@ ghost use Rattle.nor_base.specs.Decoding.{bytes_of_bits};
 ghost use Rattle.nor_base.specs.Sample.{sampled_count};
 ghost use Rattle.nor_serprog.specs.declared.fault.Fault.TheVariants.{Read, Write};
 ghost use Rattle.nor_serprog.specs.Exchange.{Knows};
-ghost use Rattle.nor_serprog.specs.Follow.{Follows, Operates, TakesStatuses, Waits, CountsReason};
+ghost use Rattle.nor_serprog.specs.Follow.{Operates, TakesStatuses, Waits, CountsReason};
 ghost use Rattle.nor_serprog.specs.Follow.{MayGoAtOnce, status_requests};
 ghost use Rattle.nor_serprog.specs.Protocol.{request};
 ghost use Rattle.nor_base.specs.Wire.{wire};
@@ -17,31 +17,6 @@ use crate::fault::{Fault, Reason};
 use crate::limits::Limits;
 use crate::put::{Requests, add_reads, put_request};
 use nor_base::{ByteIn, ByteOut, put_all};
-use nor_decode::POLL;
-
-/// Has the device do the transaction of these clocks, which is to give these bytes. A poll is read
-/// again until it says idle, so many times at most.
-pub(crate) fn follow<R: ByteIn, W: ByteOut>(
-    from: &mut R,
-    to: &mut W,
-    limits: &Limits,
-    turns: u64,
-    clocks: &[u8],
-    want: &[u8],
-) -> Result<(), Reason>
-    requires want { length want.now ≡ sampled_count clocks.now }
-    ensures follows { Follows (wire (W.held to.old) (R.ahead from.old))
-        (wire (W.held to.new) (R.ahead from.new))
-        result limits.now turns
-        clocks.now want.now }
-    ensures counts { CountsReason Read (R.count from.old) (R.count from.new) result
-        × CountsReason Write (W.count to.old) (W.count to.new) result }
-{
-    if clocks == POLL.as_slice() {
-        return wait(from, to, limits, turns);
-    }
-    operate_once(from, to, limits, clocks, want)
-}
 
 /// Has the device do the one operation of these clocks, which is to give these bytes.
 pub(crate) fn operate_once<R: ByteIn, W: ByteOut>(

@@ -5,8 +5,7 @@
 //! [`operate`] does one SPI operation, [`operate_with`] one whose answer is known, [`is_carried`]
 //! reports which clocks are one. [`do_step`] does a step of a script, [`do_row`] steps whose
 //! requests go out in one write ([`row_length`]; [`rows`] is a law of them); [`carried`] finds a
-//! step that can't be done. [`release`] ends. [`Shadowed`] is a [`nor_chip::Port`]: a chip in
-//! memory that the chip behind the device is to go along with.
+//! step that can't be done. [`release`] ends.
 #![tactic(auto)]
 
 mod clocks;
@@ -23,7 +22,6 @@ mod operation;
 mod pins;
 mod put;
 mod row;
-mod shadowed;
 mod word;
 
 pub use clocks::is_carried;
@@ -37,4 +35,3 @@ pub use line::test_line;
 pub use operation::{operate, operate_with};
 pub use pins::release;
 pub use row::{do_row, row_length};
-pub use shadowed::Shadowed;

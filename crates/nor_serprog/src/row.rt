@@ -278,20 +278,10 @@ fn take_answers<R: ByteIn>(from: &mut R, steps: &[Step]) -> Result<(), Halt>
 {
     let mut number = 0;
     for step in steps {
-        if let Err(why) = answered(from, expected(step)) {
+        if let Err(why) = answered(from, step.expected()) {
             return Err(Halt { step: number, why });
         }
         number += 1;
     }
     Ok(())
-}
-
-/// The bytes that a step expects.
-fn expected(step: &Step) -> &[u8]
-    ensures { result.now ≡ expected step.now }
-{
-    match step {
-        Step::Send { .. } | Step::Poll { .. } => &[],
-        Step::Verify { clocks: _, expect } => expect.as_slice(),
-    }
 }

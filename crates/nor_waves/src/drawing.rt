@@ -2,7 +2,6 @@
 
 ghost use Rattle.std.specs.Prelude.{◌≡◌, ◌++◌, IfOk, flat_map};
 ghost use Rattle.nor_base.specs.Device.{Writes, Counts};
-ghost use Rattle.nor_base.specs.Step.{expected};
 ghost use Rattle.nor_waves.specs.Drawing.{after, drawn};
 ghost use Rattle.nor_waves.specs.Ticks.{clocks_ticks, gap, step_ticks};
 ghost use Rattle.nor_waves.specs.Waves.{stamp, stamped};
@@ -51,7 +50,7 @@ impl Drawing {
         ensures count { Counts (W.count out.old) (W.count out.new) result }
     {
         let at = self.put_gap(out)?;
-        at.put_clocks(step.clocks(), expected(step), out)
+        at.put_clocks(step.clocks(), step.expected(), out)
     }
 
     /// Draws the gap between transactions.
@@ -123,14 +122,4 @@ pub(crate) fn put_stamp<W: ByteOut>(tick: u64, lines: &[u8], out: &mut W) -> Res
 {
     let mut digits = Buffer::new();
     put_parts(out, &[b"#", digits.format(tick).as_bytes(), b"\n", lines])
-}
-
-/// The bytes that a step expects.
-fn expected(step: &Step) -> &[u8]
-    ensures { result.now ≡ expected step.now }
-{
-    match step {
-        Step::Send { .. } | Step::Poll { .. } => &[],
-        Step::Verify { clocks: _, expect } => expect.as_slice(),
-    }
 }

@@ -1,2 +1,3 @@
 pub mod PartLemmas
 mod LineLemmas
+pub mod CarriedLemmas

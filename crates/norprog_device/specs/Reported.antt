@@ -3,10 +3,13 @@ use Rattle.std.specs.Prelude.{◌≡◌, ℕ, ◌+◌, ◌%◌, ◌^◌, true, f
 use Rattle.nor_base.specs.Decoding.{Transaction, transaction}
 use Rattle.nor_base.specs.Effect.{is_read}
 use Rattle.nor_base.specs.Parameters.{Parameters}
+use Rattle.nor_base.specs.Step.{expected, step_clocks}
+use Rattle.nor_base.specs.declared.step.Step.{Step}
 use Rattle.nor_reader.specs.declared.difference.Mismatch.{Mismatch}
 use Rattle.nor_reader.specs.declared.difference.Mismatch.TheVariants as mismatch
 use Rattle.nor_serprog.specs.declared.fault.Reason.{Reason}
 use Rattle.nor_serprog.specs.declared.fault.Reason.TheVariants as reason
+use Rattle.nor_serprog.specs.declared.halt.Halt.{Halt}
 use Rattle.norprog_device.specs.declared.failure.Failure.{Failure}
 use Rattle.norprog_device.specs.declared.failure.Failure.TheVariants as failure
 
@@ -35,6 +38,11 @@ FailsAs m clocks want (reason.Exchange why) failed = failed ≡ failure.Exchange
 FailsAs m clocks want reason.Busy failed = failed ≡ failure.Busy
 FailsAs m clocks want reason.Carried failed = failed ≡ failure.Carried
 FailsAs m clocks want (reason.Differs place byte) failed = failed ≡ other_byte (read_address m clocks) place byte (get_or want place 0)
+
+-- the failure of the step at which a device halted
+abbrev pub IsFailureAt : Parameters → List Step → Halt → Failure → Type 0
+IsFailureAt m steps halt why =
+    (at : Step) × (at ≡ get_or steps halt.step at) × FailsAs m (step_clocks at) (expected at) halt.why why
 
 -- the failure of a read after all steps
 abbrev pub failure_by : Mismatch → Failure

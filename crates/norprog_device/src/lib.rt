@@ -7,8 +7,8 @@
 //! device is set, [`write_waiting`] which one is waited for, and [`write_word`] a text as a shell
 //! reads it.
 //!
-//! [`Failure`] says why a device didn't do a step of a script: [`failure_of`] from what the
-//! exchange gave, [`failure_by`] of a read after all steps; [`fault_of_failure`] how the exchange
+//! [`Failure`] says why a device didn't do a step of a script: [`failure_at`] from where it
+//! halted, [`failure_by`] of a read after all steps; [`fault_of_failure`] how the exchange
 //! ended that ended it. [`write_failure`] writes its line, [`write_wrong`] that of a number of what
 //! goes wrong.
 #![tactic(auto)]
@@ -29,6 +29,6 @@ pub use failure_line::{write_failure, write_wrong};
 pub use fault::DeviceFault;
 pub use line::{refuse_device, word, write_device};
 pub use pins::let_go;
-pub use reported::{failure_by, failure_of};
+pub use reported::{failure_at, failure_by};
 pub use setting::{write_stty, write_waiting};
 pub use shell::write_word;

@@ -1,19 +1,28 @@
 //! Why a step isn't done by a device.
 
-ghost use Rattle.std.specs.Prelude.{◌≡◌, get_or, option_map};
+ghost use Rattle.std.specs.Prelude.{◌≡◌, ◌<◌, get_or, length, option_map};
 ghost use Rattle.nor_decode.specs.Seen.{transaction_of};
 ghost use Rattle.norprog_device.specs.Reported.{FailsAs, address_of, read_address, other_byte};
-ghost use Rattle.norprog_device.specs.Reported.{failure_by};
+ghost use Rattle.norprog_device.specs.Reported.{IsFailureAt, failure_by};
 
 use crate::failure::Failure;
-use nor_base::{Meaning, What};
+use nor_base::{Meaning, Step, What};
 use nor_decode::{Seen, decode};
 use nor_reader::{Difference, Mismatch};
-use nor_serprog::Reason;
+use nor_serprog::{Halt, Reason};
 
-/// Why a step of these clocks isn't done that was to give these bytes. A byte that is another is
-/// reported with its address where the clocks read the chip's bytes.
-pub fn failure_of(meaning: &Meaning, clocks: &[u8], want: &[u8], why: Reason) -> Failure
+/// Why the step isn't done at which a device halted. A byte that is another is reported with its
+/// address where the step reads the chip's bytes.
+pub fn failure_at(meaning: &Meaning, steps: &[Step], halt: Halt) -> Failure
+    requires { halt.step < length steps.now }
+    ensures { IsFailureAt meaning.now steps.now halt result }
+{
+    let step = &steps[halt.step as usize];
+    failure_of(meaning, step.clocks(), step.expected(), halt.why)
+}
+
+/// Why a step of these clocks isn't done that was to give these bytes.
+fn failure_of(meaning: &Meaning, clocks: &[u8], want: &[u8], why: Reason) -> Failure
     ensures { FailsAs meaning.now clocks.now want.now why result }
 {
     match why {

@@ -20,7 +20,7 @@ use Rattle.norprog_common.specs.declared.faults.Refusal.{Refusal}
 use Rattle.norprog_read.specs.declared.asked.Reading.{Reading}
 use Rattle.norprog_flash.specs.Task.{task_on}
 use Rattle.norprog_flash.specs.Worked.{Cannot, FailedAt, Goes, GoesOn, MissedIt, Session, Worked, WorksOut, back_of}
-use Rattle.norprog_flash.proofs.CarriedLemmas.{never_fails, never_misses}
+use Rattle.norprog_device.proofs.CarriedLemmas.{never_carried, never_misses}
 use Rattle.norprog_flash.proofs.PlannedLemmas.{every_flashes, every_keeps}
 use Rattle.norprog_flash.specs.Work.{Plan}
 
@@ -35,7 +35,7 @@ module _ (close : Closes) (break : Breaks) (s : Session) (before read : Wire) (p
       AllDone p read todo by way worked
       (every_flashes (at_once s.limits) s.job before read s.reading p out planned whole close worked.done s.limits s.job.ask.turns worked.steps)
   worked_ends last by ending way carried (FailedAt step why failed) =
-      Halted p read todo step why (never_fails s read last p.steps step why carried failed) failed
+      Halted p read todo step why (never_carried s.reading.meaning s.limits s.job.ask.turns read last p.steps failed.halt why carried failed.halted failed.failed) failed
       (subst (λ (n : ℕ). BreaksApart planned.read.read.ready planned.read.read.held read (chip_read s.reading.meaning (start_of (task_on s.job s.reading)) s.reading.content.items) p.goal p.steps n
       (failed.halted.at ∷ failed.halted.beyond)) (sym failed.at)
       (every_keeps (at_once s.limits) s.job before read s.reading p out planned whole break last s.limits s.job.ask.turns failed.halt failed.halted))

@@ -5,7 +5,6 @@ mod BuiltLemmas
 mod RefusedLemmas
 mod WorkLemmas
 mod PlannedLemmas
-mod CarriedLemmas
 mod EndedLemmas
 mod LineLemmas
 mod StopsLemmas

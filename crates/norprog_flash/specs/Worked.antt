@@ -1,9 +1,7 @@
 -- How work on a chip went (this project's).
-use Rattle.std.specs.Prelude.{◌≡◌, ◌⊎◌, ℕ, List, length, get_or, Result, Ok, Err}
+use Rattle.std.specs.Prelude.{◌≡◌, ◌⊎◌, ℕ, List, length, Result, Ok, Err}
 use Rattle.nor_reader.specs.AtOnce.{at_once}
 use Rattle.nor_base.specs.declared.step.Step.{Step}
-use Rattle.nor_base.specs.Parameters.{Parameters}
-use Rattle.nor_base.specs.Step.{expected, step_clocks}
 use Rattle.nor_reader.specs.declared.difference.Mismatch.{Mismatch}
 use Rattle.nor_reader.specs.declared.by.ReadBy.{ReadBy}
 use Rattle.nor_job.specs.Status.{start_of}
@@ -17,7 +15,7 @@ use Rattle.nor_serprog.specs.Steps.{AreCarried, IsFirstNotCarried}
 use Rattle.nor_base.specs.Wire.{Wire}
 use Rattle.norprog_device.specs.declared.failure.Failure.{Failure}
 use Rattle.norprog_device.specs.declared.failure.Failure.TheVariants.{Carried}
-use Rattle.norprog_device.specs.Reported.{FailsAs, failure_by}
+use Rattle.norprog_device.specs.Reported.{IsFailureAt, failure_by}
 use Rattle.norprog_flash.specs.declared.ending.Ending.{Ending}
 use Rattle.norprog_flash.specs.declared.ending.Ending.TheVariants.{Done, Failed}
 use Rattle.norprog_flash.specs.declared.job.Job.{Job}
@@ -30,11 +28,6 @@ use Rattle.norprog_flash.specs.Work.{Plan}
 -- how the chip of a job is read back that is read so
 abbrev pub back_of : Job → ReadBy → Back
 back_of job by = record { by = by; larger = job.ask.any_size }
-
--- the failure of the step at which a device halted
-abbrev pub IsFailureAt : Parameters → List Step → Halt → Failure → Type 0
-IsFailureAt m steps halt why =
-    (at : Step) × (at ≡ get_or steps halt.step at) × FailsAs m (step_clocks at) (expected at) halt.why why
 
 -- work on a chip that gave this, by a device that reported these limits
 pub record Session : Type 0 where

@@ -1,21 +1,20 @@
 //! The work on a chip that was read and planned for.
 
-ghost use Rattle.std.specs.Prelude.{◌≡◌, ◌<◌, ◌≤◌, ◌^◌, All, length};
-ghost use Rattle.nor_base.specs.Step.{expected};
+ghost use Rattle.std.specs.Prelude.{◌≤◌, ◌^◌, All, length};
 ghost use Rattle.nor_serprog.specs.Done.{IsDoable};
 ghost use Rattle.nor_base.specs.Wire.{wire};
-ghost use Rattle.norprog_flash.specs.Worked.{IsFailureAt, ReadsBack, WorksOut, back_of, session};
+ghost use Rattle.norprog_flash.specs.Worked.{ReadsBack, WorksOut, back_of, session};
 ghost use Rattle.norprog_flash.specs.Work.{plan_of};
 
 use crate::begun::Held;
 use crate::ending::Ending;
 use crate::job::Job;
 use crate::planned::Work;
-use nor_base::{ByteIn, ByteOut, Meaning, Step};
-use nor_flasher::{Halt, do_steps};
+use nor_base::{ByteIn, ByteOut};
+use nor_flasher::do_steps;
 use nor_reader::{Mismatch, Pass, ReadBy, for_reading, read_again, read_past};
 use nor_serprog::Limits;
-use norprog_device::{Failure, failure_by, failure_of};
+use norprog_device::{failure_at, failure_by};
 
 /// How a chip is read back.
 #[derive(Clone, Copy)]
@@ -85,23 +84,4 @@ fn read_back<R: ByteIn, W: ByteOut, P: ByteOut>(
         return Ok(());
     }
     read_past(from, to, limits, back.by, bytes)
-}
-
-/// Why the step isn't done at which a device halted.
-fn failure_at(meaning: &Meaning, steps: &[Step], halt: Halt) -> Failure
-    requires { halt.step < length steps.now }
-    ensures { IsFailureAt meaning.now steps.now halt result }
-{
-    let step = &steps[halt.step as usize];
-    failure_of(meaning, step.clocks(), expected(step), halt.why)
-}
-
-/// The bytes that a step expects.
-fn expected(step: &Step) -> &[u8]
-    ensures { result.now ≡ expected step.now }
-{
-    match step {
-        Step::Send { .. } | Step::Poll { .. } => &[],
-        Step::Verify { clocks: _, expect } => expect.as_slice(),
-    }
 }

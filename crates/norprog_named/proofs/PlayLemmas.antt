@@ -1,9 +1,12 @@
 -- A play that ended, or didn't begin.
-use Rattle.std.proofs.Common.{◌≡◌, ◌∙◌, ◌<◌, ◌+◌, ℕ, Bool, List, [], ◌∷◌, Result, Ok, Err, ap, arith, subst}
-use Rattle.std.specs.Prelude.{MatchResult}
+use Rattle.std.proofs.Common.{◌≡◌, ◌∙◌, ◌<◌, ◌+◌, ℕ, Bool, List, ap, arith, subst}
 use Rattle.nor_base.proofs.DeviceLaws.{risen_some}
 use Rattle.nor_base.specs.Device.{raised}
+use Rattle.std.specs.Prelude.{All}
 use Rattle.nor_base.specs.Port.{Shown}
+use Rattle.nor_base.specs.declared.step.Step.{Step}
+use Rattle.nor_serprog.specs.Done.{IsDoable}
+use Rattle.norprog_player.specs.Put.{Answered, ArePut, Themselves}
 use Rattle.nor_base.specs.declared.meaning.Part.{Part}
 use Rattle.nor_base.specs.declared.meaning.Start.{Start}
 use Rattle.nor_job.specs.Status.{start_of}
@@ -13,22 +16,14 @@ use Rattle.norprog_common.specs.Content.{of_reader}
 use Rattle.norprog_common.specs.declared.faults.FileName.TheVariants as file
 use Rattle.norprog_common.specs.declared.faults.Refusal.{Refusal}
 use Rattle.norprog_common.specs.declared.faults.Refusal.TheVariants.{Build, File}
-use Rattle.nor_base.specs.Wire.{Wire}
-use Rattle.norprog_files.specs.Files.{Unwired, Wired}
-use Rattle.norprog_named.specs.Play.{EndsPlaying, OnDevice, Stopped, begun}
-use Rattle.norprog_player.specs.Expected.{Expectation, Play}
+use Rattle.norprog_player.specs.Expected.{Expectation}
 use Rattle.norprog_player.specs.Job.{of_script}
-use Rattle.norprog_player.specs.Moment.{moment}
-use Rattle.norprog_player.specs.Played.{EndsOnDevice, StopsOnDevice}
 use Rattle.norprog_player.specs.Tables.{tables_of}
-use Rattle.norprog_player.specs.declared.ending.Ending.{Ending}
-use Rattle.norprog_player.specs.declared.unplayed.Unplayed.{Unplayed}
 
-pub ends_playing : (device : List ℕ) (p : Play) (first last : Wire) (shown : Shown) (result : Result Ending Unplayed)
-    → MatchResult result (EndsOnDevice p (begun p first) (moment shown last.held last.ahead)) (StopsOnDevice p (begun p first) (moment shown last.held last.ahead))
-    → EndsPlaying device p (Wired device first ∷ Unwired device last ∷ []) result
-ends_playing device p first last shown (Ok ending) ends = OnDevice first last shown ending ends
-ends_playing device p first last shown (Err why) ends = Stopped first last shown why ends
+-- what a device is to do it can do
+pub put_doable : (shown : Shown) (steps put : List Step) → ArePut shown steps put → All IsDoable put
+put_doable shown steps put (Themselves each) = each
+put_doable shown steps put (Answered put' after answered each) = each
 
 -- a reader that is blamed has failed, where none had before
 pub script_failed : (m n : ℕ) (why : Refusal) → n ≡ raised m (of_script why) → why ≡ File file.Script → 0 < n

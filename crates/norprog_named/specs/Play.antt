@@ -13,11 +13,12 @@ use Rattle.norprog_common.specs.declared.faults.Refusal.TheVariants.{Build, File
 use Rattle.nor_base.specs.Wire.{Wire}
 use Rattle.norprog_files.specs.Files.{Event, Denied, Denies, Opened, StopsOpening, Unwired, Wired}
 use Rattle.norprog_named.specs.Job.{ReadsTables, origin_files}
-use Rattle.norprog_player.specs.Early.{EndsInMemory, MayPlay}
-use Rattle.norprog_player.specs.Expected.{Expectation, Play}
+use Rattle.norprog_player.specs.declared.course.Course.{Course}
+use Rattle.norprog_player.specs.declared.early.Rehearsed.{Rehearsed}
+use Rattle.norprog_player.specs.Early.{EndsInMemory, MayPlay, chip_with}
+use Rattle.norprog_player.specs.Expected.{Expectation, Play, expectation_of}
 use Rattle.norprog_player.specs.Job.{IsReady, RefusesJob, Sources}
-use Rattle.norprog_player.specs.Moment.{Moment, moment}
-use Rattle.norprog_player.specs.Played.{EndsOnDevice, StopsOnDevice, shown_in}
+use Rattle.norprog_player.specs.Played.{EndsGreeted}
 use Rattle.norprog_player.specs.Tables as chip
 use Rattle.norprog_player.specs.declared.ending.Ending.{Ending}
 use Rattle.norprog_player.specs.declared.request.PlayRequest.{PlayRequest}
@@ -45,9 +46,19 @@ pub record IsPlayOf (r : PlayRequest) (p : Play) (log : List Event) : Type 0 whe
   pub expected : p.expected ≡ expects r sources.task
   pub limit : p.limit ≡ r.limit
 
--- what the chip in memory, a device beside it and its line are, as that was opened
-abbrev pub begun : Play → Wire → Moment
-begun p wire = moment (shown_in p) wire.held wire.ahead
+-- the chip in memory before the first step
+abbrev pub shown_in : Play → Shown
+shown_in p = chip_with p.meaning p.expected.start p.content
+
+-- what a device is to do for a play that went so in memory
+pub record IsCourseOf (p : Play) (r : Rehearsed) (c : Course) : Type 0 where
+  pub meaning : c.meaning.now ≡ p.meaning
+  pub expected : expectation_of c.expected ≡ p.expected
+  pub content : c.content.now ≡ p.content
+  pub steps : c.steps.now ≡ r.steps.items
+  pub left : c.left.now ≡ r.left.items
+  pub transactions : c.transactions ≡ r.transactions
+  pub turns : c.turns ≡ p.limit
 
 -- how a play ends, by the device of this name
 pub data EndsPlaying (device : List ℕ) (p : Play) : List Event → Result Ending Unplayed → Type 0 where
@@ -55,13 +66,11 @@ pub data EndsPlaying (device : List ℕ) (p : Play) : List Event → Result Endi
   InMemory : (ending : Ending) → EndsInMemory (shown_in p) p.steps ending → EndsPlaying device p [] (Ok ending)
   NoMemory : EndsPlaying device p [] (Err (Refused (Build Memory)))
   -- the device can't be opened
-  NoDevice : (why : Refusal) → MayPlay (shown_in p) p.steps → Denies file.Device why → EndsPlaying device p (Denied device ∷ []) (Err (Refused why))
+  NoDevice : (r : Rehearsed) (why : Refusal) → MayPlay (shown_in p) p.steps r → Denies file.Device why
+      → EndsPlaying device p (Denied device ∷ []) (Err (Refused why))
   -- it ended so on the device, which was closed
-  OnDevice : (first last : Wire) (shown : Shown) (ending : Ending) → EndsOnDevice p (begun p first) (moment shown last.held last.ahead) ending
-      → EndsPlaying device p (Wired device first ∷ Unwired device last ∷ []) (Ok ending)
-  -- the device can't be used, or memory ran out after its handshake
-  Stopped : (first last : Wire) (shown : Shown) (why : Unplayed) → StopsOnDevice p (begun p first) (moment shown last.held last.ahead) why
-      → EndsPlaying device p (Wired device first ∷ Unwired device last ∷ []) (Err why)
+  OnDevice : (r : Rehearsed) (c : Course) (first last : Wire) (answer : Result Ending Unplayed) → MayPlay (shown_in p) p.steps r → IsCourseOf p r c
+      → EndsGreeted c first last answer → EndsPlaying device p (Wired device first ∷ Unwired device last ∷ []) answer
 
 -- how `play` ends, and what was done with files by then
 pub data EndsPlay (Unread : Type 0) (r : PlayRequest) : List Event → Result Ending Unplayed → Type 0 where

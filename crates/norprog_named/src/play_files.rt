@@ -11,7 +11,8 @@ use nor_base::ByteOut;
 use norprog_common::{FileName, setup_inputs};
 use norprog_files::{Files, Trail};
 use norprog_player::{
-    Early, Ending, Expected, Job, PlayRequest, Unplayed, ends_early, job_of, known_tables, play_on,
+    Course, Early, Ending, Expected, Job, PlayRequest, Unplayed, ends_early, job_of, known_tables,
+    play_on,
 };
 use std::alloc::Global;
 
@@ -67,24 +68,28 @@ fn play_job<F: Files, P: ByteOut>(
         (λ log. EndsPlaying device.now (play_of job.steps.items (expectation_of expected.entry)
         job.meaning job.content.items limit) log result) }
 {
-    let steps = job.steps.as_slice();
-    let content = job.content.as_slice();
-    match ends_early(alloc, &job.meaning, expected.start, content, steps)? {
-        Early::Ends(ending) => Ok(ending),
-        Early::Goes { transactions } => {
-            let (from, to) = files.open_device(trail, alloc, device)?;
-            let (ended, from, to) = play_on(
-                alloc,
-                job,
-                expected,
-                transactions,
-                limit,
-                from,
-                to,
-                progress,
-            );
-            files.close_device(trail, device, from, to);
-            ended
-        }
-    }
+    let Job {
+        meaning,
+        start: _,
+        steps,
+        content,
+    } = job;
+    let content = content.as_slice();
+    let rehearsed = match ends_early(alloc, &meaning, expected.start, content, steps)? {
+        Early::Ends(ending) => return Ok(ending),
+        Early::Goes(rehearsed) => rehearsed,
+    };
+    let course = Course {
+        meaning: &meaning,
+        expected,
+        content,
+        steps: rehearsed.steps.as_slice(),
+        left: rehearsed.left.as_slice(),
+        transactions: rehearsed.transactions,
+        turns: limit,
+    };
+    let (mut from, mut to) = files.open_device(trail, alloc, device)?;
+    let ended = play_on(alloc, &mut from, &mut to, &course, progress);
+    files.close_device(trail, device, from, to);
+    ended
 }

@@ -1,5 +1,5 @@
 -- Ranges read one after the other.
-use Rattle.std.proofs.Common.{◌≡◌, Bool, ℕ, ◌+◌, ◌<◌, ◌≤◌, ◌⊎◌, inl, inr, List, [], ◌∷◌, ◌++◌, length, Err, sym, ◌∙◌, ap, subst, arith, append-nil}
+use Rattle.std.proofs.Common.{◌≡◌, Bool, ℕ, ◌+◌, ◌<◌, ◌≤◌, ◌⊎◌, inl, inr, List, [], ◌∷◌, ◌++◌, length, Option, Some, None, Ok, Err, sym, ◌∙◌, ap, subst, arith, append-nil}
 use Rattle.std.specs.Prelude.{flat_map, ◌↔◌}
 use Rattle.std.specs.List.{slice_range}
 use Rattle.std.proofs.lemmas.Bool.{cases_lt}
@@ -7,10 +7,13 @@ use Rattle.std.proofs.lemmas.Grind.{flat_map-append}
 use Rattle.nor_reader.specs.declared.difference.Mismatch.{Mismatch}
 use Rattle.nor_serprog.specs.declared.limits.Limits.{Limits}
 use Rattle.nor_loop.proofs.DeviceLemmas.{logged_none, logged_both}
+use Rattle.nor_loop.specs.Log.{HasLogged}
+use Rattle.nor_reader.specs.declared.by.ReadBy.{ReadBy}
+use Rattle.nor_reader.specs.Part.{AllCame}
 use Rattle.nor_base.specs.Wire.{Wire}
 use Rattle.norprog_player.specs.declared.access.Access.{Access}
-use Rattle.norprog_player.specs.Access.{read_ops}
-use Rattle.norprog_player.specs.Compared.{comparison, piece_at, range_ops, AreInOrder, Comparison, HasCompared, HasComparedTo, HasDone, IsOneSided, IsOneSidedPiece, LiesIn, LiesInOne, Range, ReadsRange, StopsComparing}
+use Rattle.norprog_player.specs.Access.{way_at}
+use Rattle.norprog_player.specs.Compared.{comparison, ops_by, range_ops, AreInOrder, Comparison, HasCompared, HasComparedTo, IsOneSided, IsOneSidedPiece, LiesIn, LiesInOne, Range, ReadsAt, StopsComparing}
 use Rattle.nor_cells.specs.Marks.{IsMarked, IsNextMarked, AreMarkedFrom}
 
 -- one range more
@@ -40,8 +43,8 @@ in_order_more most low high higher (x ∷ xs) r order past some few sided upto =
     (order.0, order.1, order.2, order.3, in_order_more most (x.start + x.len) high higher xs r order.4 past some few sided upto)
 
 -- nothing was read yet
-pub none_read : (u : Wire) (c : Comparison) (content : List ℕ) → HasComparedTo u u c content 0
-none_read u c content = record {
+pub none_read : (u : Wire) (c : Comparison) → HasComparedTo u u c 0
+none_read u c = record {
   ranges = [];
   in_order = omega arith;
   just = λ k. ((λ h. absurd h), (λ h. absurd (omega (arith, h.0))));
@@ -49,9 +52,9 @@ none_read u c content = record {
 }
 
 -- where no address up to a higher one is wanted
-pub reaches : (u v : Wire) (c : Comparison) (content : List ℕ) (high higher : ℕ) → high ≤ higher → ((k : ℕ) → high ≤ k → k < higher → c.Wanted k → ⊥)
-    → HasComparedTo u v c content high → HasComparedTo u v c content higher
-reaches u v c content high higher more none so_far = record {
+pub reaches : (u v : Wire) (c : Comparison) (high higher : ℕ) → high ≤ higher → ((k : ℕ) → high ≤ k → k < higher → c.Wanted k → ⊥)
+    → HasComparedTo u v c high → HasComparedTo u v c higher
+reaches u v c high higher more none so_far = record {
   ranges = so_far.ranges;
   in_order = in_order_higher c.limits.asked 0 high higher so_far.ranges more so_far.in_order;
   just = λ k. (
@@ -65,11 +68,11 @@ reaches u v c content high higher more none so_far = record {
 }
 
 -- one range more, of addresses that are all wanted
-pub reads_more : (u v w : Wire) (c : Comparison) (content : List ℕ) (r : Range) → 0 < r.len → r.len ≤ c.limits.asked → IsOneSided r
-    → ((k : ℕ) → r.start ≤ k → k < r.start + r.len → c.Wanted k) → HasComparedTo u v c content r.start → HasDone v w (range_ops c.access content r)
-    → HasComparedTo u w c content (r.start + r.len)
-reads_more u v w c content r some few sided wanted so_far read =
-    let each = range_ops c.access content in
+pub reads_more : (u v w : Wire) (c : Comparison) (r : Range) → 0 < r.len → r.len ≤ c.limits.asked → IsOneSided r
+    → ((k : ℕ) → r.start ≤ k → k < r.start + r.len → c.Wanted k) → HasComparedTo u v c r.start → HasLogged v w (range_ops c.access c.content r)
+    → HasComparedTo u w c (r.start + r.len)
+reads_more u v w c r some few sided wanted so_far read =
+    let each = range_ops c.access c.content in
     let ops : flat_map each (so_far.ranges ++ r ∷ []) ≡ flat_map each so_far.ranges ++ each r =
     flat_map-append each so_far.ranges (r ∷ []) ∙ ap (λ l. flat_map each so_far.ranges ++ l) (append-nil (each r)) in
     record {
@@ -85,29 +88,34 @@ reads_more u v w c content r some few sided wanted so_far read =
           | inr past ↦ in_one_last so_far.ranges r k (past, h.0)
         ]),
       );
-      read = subst (HasDone u w) (sym ops) (logged_both u.held v.held w.held u.ahead v.ahead w.ahead _ _ so_far.read read);
+      read = subst (HasLogged u w) (sym ops) (logged_both u.held v.held w.held u.ahead v.ahead w.ahead _ _ so_far.read read);
     }
+
+-- bytes that came were read by these operations
+all_came : (v w : Wire) (way : Option ReadBy) (at : ℕ) (want : List ℕ) → ReadsAt way at want v w (Ok tt) → HasLogged v w (ops_by way at want)
+all_came v w None at want same = subst (λ (x : Wire). HasLogged v x []) (sym same.1) (logged_none v.held v.ahead)
+all_came v w (Some by) at want (AllCame read) = read
 
 abbrev piece_of : ℕ → ℕ → Range
 piece_of start len = record { start = start; len = len }
 
 module _ (limits : Limits) (access : Access) (content : List ℕ) (marks : List Bool) where
   abbrev marked : Comparison
-  marked = comparison limits access (IsMarked marks)
+  marked = comparison limits access content (IsMarked marks)
 
   -- the next piece of marked addresses
   pub piece_more : (u v w : Wire) (done start upto len : ℕ) → IsNextMarked marks done start → AreMarkedFrom marks start limits.asked upto → 0 < len
-      → len ≤ upto → IsOneSidedPiece start len → HasComparedTo u v marked content done
-      → HasDone v w (read_ops access start (slice_range content start (start + len))) → HasComparedTo u w marked content (start + len)
+      → len ≤ upto → IsOneSidedPiece start len → HasComparedTo u v marked done
+      → ReadsAt (way_at access start) start (slice_range content start (start + len)) v w (Ok tt) → HasComparedTo u w marked (start + len)
   piece_more u v w done start upto len next from some few sided so_far read =
-      reads_more u v w marked content (piece_of start len) some (omega (arith, few, from.few)) sided
+      reads_more u v w marked (piece_of start len) some (omega (arith, few, from.few)) sided
       (λ k past below. from.each k past (omega (arith, below, few)))
-      (reaches u v marked content done start next.past next.none_before so_far) read
+      (reaches u v marked done start next.past next.none_before so_far) (all_came v w (way_at access start) start (slice_range content start (start + len)) read)
 
   -- its read ended so
   pub piece_stopped : (u v w : Wire) (done start upto len : ℕ) (why : Mismatch) → start + len ≤ length content → IsNextMarked marks done start
-      → AreMarkedFrom marks start limits.asked upto → 0 < len → len ≤ upto → IsOneSidedPiece start len → HasComparedTo u v marked content done
-      → ReadsRange v w (Err why) access (piece_at start (slice_range content start (start + len))) → StopsComparing u w marked content why
+      → AreMarkedFrom marks start limits.asked upto → 0 < len → len ≤ upto → IsOneSidedPiece start len → HasComparedTo u v marked done
+      → ReadsAt (way_at access start) start (slice_range content start (start + len)) v w (Err why) → StopsComparing u w marked why
   piece_stopped u v w done start upto len why within next from some few sided so_far stop = record {
     last = piece_of start len;
     some = some;
@@ -116,18 +124,18 @@ module _ (limits : Limits) (access : Access) (content : List ℕ) (marks : List 
     sided = sided;
     wanted = λ k h. from.each k h.0 (omega (arith, h.1, few));
     between = v;
-    compared = reaches u v marked content done start next.past next.none_before so_far;
+    compared = reaches u v marked done start next.past next.none_before so_far;
     stop = stop;
   }
 
   -- there are no more
-  pub all_read : (u v : Wire) (done : ℕ) → done ≤ length content → ((k : ℕ) → done ≤ k → IsMarked marks k → ⊥) → HasComparedTo u v marked content done
-      → HasCompared u v marked content
-  all_read u v done within none so_far = reaches u v marked content done (length content) within (λ k past below is. none k past is) so_far
+  pub all_read : (u v : Wire) (done : ℕ) → done ≤ length content → ((k : ℕ) → done ≤ k → IsMarked marks k → ⊥) → HasComparedTo u v marked done
+      → HasCompared u v marked
+  all_read u v done within none so_far = reaches u v marked done (length content) within (λ k past below is. none k past is) so_far
 
 -- of addresses that are wanted just where others are
 pub wanted_alike : (u v : Wire) (limits : Limits) (access : Access) (content : List ℕ) (P Q : ℕ → Type 0) (high : ℕ) → ((k : ℕ) → k < high → (P k ↔ Q k))
-    → HasComparedTo u v (comparison limits access P) content high → HasComparedTo u v (comparison limits access Q) content high
+    → HasComparedTo u v (comparison limits access content P) high → HasComparedTo u v (comparison limits access content Q) high
 wanted_alike u v limits access content P Q high alike so_far = record {
   ranges = so_far.ranges;
   in_order = so_far.in_order;

@@ -1,5 +1,5 @@
 -- A script that goes well on the chip in memory: it takes each step.
-use Rattle.std.proofs.Common.{◌≡◌, ℕ, Bool, true, false, if◌then◌else◌, List, [], ◌∷◌, length, Result, Ok, Err, refl, sym, ◌∙◌, ap, subst}
+use Rattle.std.proofs.Common.{◌≡◌, ℕ, Bool, true, false, if◌then◌else◌, List, [], ◌∷◌, Vec, Global, length, Result, Ok, Err, refl, sym, ◌∙◌, ap, subst}
 use Rattle.std.proofs.lemmas.Slice.Eq.{bytes_eq-Decides}
 use Rattle.std.specs.Str.{bytes_eq}
 use Rattle.nor_base.specs.declared.step.Step.{Step}
@@ -19,6 +19,7 @@ use Rattle.nor_play.specs.declared.fault.PlayFault.{PlayFault}
 use Rattle.nor_play.specs.declared.fault.PlayFault.TheVariants as fault
 use Rattle.nor_base.specs.Step.{step_clocks}
 use Rattle.nor_base.proofs.OutcomeLaws.{later_ok}
+use Rattle.nor_laws.proofs.EffectLaws.{keeps_size}
 use Rattle.norprog_player.specs.declared.rehearsal.Rehearsal.TheVariants as rehearsal
 use Rattle.norprog_player.specs.Rehearsal.{Rehearses}
 
@@ -82,9 +83,15 @@ goes_on s c d x xs h = by (step_for s 1 c x) refl h
     by (Ok e) is h = (e, step_takes s c e x is, later_ok (played s 1 e xs) d h)
     by (Err halt) is h = cc
 
-pub nothing_more : (s : Setting) (c d : Chip) → played s 1 c [] ≡ Ok d → c ≡ d
+nothing_more : (s : Setting) (c d : Chip) → played s 1 c [] ≡ Ok d → c ≡ d
 unfolding played
 nothing_more s c d h = cc
+
+-- a run leaves as many bytes as there were
+keeps : (s : Setting) (c d : Chip) (steps : List Step) → played s 1 c steps ≡ Ok d → length d.array ≡ length c.array
+keeps s c d [] h = ap (λ (e : Chip). length e.array) (sym (nothing_more s c d h))
+keeps s c d (x ∷ xs) h =
+    let next = goes_on s c d x xs h in keeps s next.0 d xs next.2 ∙ keeps_size s c next.0 (step_clocks x) next.1.0 next.1.1
 
 -- the end of a run that goes well
 abbrev ended : ℕ → Chip → Bool → Result Chip Stop
@@ -98,16 +105,20 @@ pub without_end : (s : Setting) (count : ℕ) (r : Result Chip Stop) (d : Chip) 
 without_end s count (Ok c) d h = at_rest count c d (is_settled s c) h
 without_end s count (Err stop) d h = h
 
+pub left_whole : (s : Setting) (c d : Chip) (steps : List Step) → play s 1 c steps ≡ Ok d → length d.array ≡ length c.array
+left_whole s c d steps h = keeps s c d steps (without_end s (length steps) (played s 1 c steps) d h)
+
 -- a play on a ready chip that leaves these bytes, judged by them
-pub well : (before after : Shown) (s : Setting) (content left : List ℕ) (steps : List Step) (count : ℕ) → before ≡ ready_chip s content → EndsPlay before after 1 steps count
-    → left ≡ after.chip.array → DoesTaskOnEvery s.meaning s.start content left steps → Rehearses s (ready s content) steps (rehearsal.Well count)
+pub well : (before after : Shown) (s : Setting) (content : List ℕ) (left : Vec ℕ Global) (steps : List Step) (count : ℕ) → before ≡ ready_chip s content → EndsPlay before after 1 steps count
+    → left.items ≡ after.chip.array → DoesTaskOnEvery s.meaning s.start content after.chip.array steps → Rehearses s (ready s content) steps (rehearsal.Well count left)
 well before after s content left steps count is ends holds every = (
   record {
     left = after.chip;
     ends = subst (λ (b : Shown). play b.setting 1 b.chip steps ≡ Ok after.chip) is ends.ends;
-    every = subst (λ (l : List ℕ). DoesTaskOnEvery s.meaning s.start content l steps) holds every;
+    every = every;
   },
   subst (λ (b : Shown). count ≡ length (trail b.setting b.chip steps)) is ends.counted,
+  holds,
 )
 
 pub other : (before after : Shown) (s : Setting) (content left : List ℕ) (steps : List Step) (count at : ℕ) (why : Why) → before ≡ ready_chip s content
@@ -124,9 +135,3 @@ pub wrong_at : (before after : Shown) (s : Setting) (content : List ℕ) (steps 
 wrong_at before after s content steps at why f is told plays =
     let stops = subst (λ (k : PlayFault). Plays before after 1 steps (Err k)) told plays in
     (after.chip, subst (λ (b : Shown). play b.setting 1 b.chip steps ≡ Err (record { at = at; why = why; chip = after.chip })) is stops.stops)
-
--- a run that goes well ends where its steps do
-pub same_end : (s : Setting) (c d e : Chip) (steps : List Step) → play s 1 c steps ≡ Ok d → played s 1 c steps ≡ Ok e → play s 1 c steps ≡ Ok e
-same_end s c d e steps goes ends =
-    let steps_end : played s 1 c steps ≡ Ok d = without_end s (length steps) (played s 1 c steps) d goes in
-    goes ∙ (sym steps_end ∙ ends)

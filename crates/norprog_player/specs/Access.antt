@@ -1,13 +1,12 @@
 -- By which instructions a chip is read (W25Q256JV datasheet: Read Data 03h, Read Data with 4-Byte Address 13h, Enter and Exit 4-Byte
 -- Address Mode B7h and E9h).
-use Rattle.std.specs.Prelude.{ℕ, Bool, false, ◌^◌, ◌&&◌, nat_lt, if◌then◌else◌, List, [], ◌∷◌, ◌++◌}
+use Rattle.std.specs.Prelude.{ℕ, true, false, ◌^◌, ◌&&◌, nat_lt, if◌then◌else◌, Option, Some, None}
 use Rattle.nor_base.specs.declared.meaning.Start.{Start}
 use Rattle.nor_base.specs.Chip.{begins4}
-use Rattle.nor_base.specs.Clocks.{address_bytes}
 use Rattle.nor_base.specs.Instructions.{is_there}
 use Rattle.nor_base.specs.Parameters.{Parameters}
-use Rattle.nor_loop.specs.Log.{Operation}
-use Rattle.nor_loop.specs.Reads.{switch_ops}
+use Rattle.nor_reader.specs.declared.by.ReadBy.{ReadBy}
+use Rattle.nor_reader.specs.declared.by.ReadBy.TheVariants as by
 use Rattle.norprog_player.specs.declared.access.Access.{Access}
 use Rattle.norprog_player.specs.declared.access.Access.TheVariants.{Four, Dedicated, Entered, Near}
 
@@ -17,29 +16,13 @@ access_of m start =
     if begins4 m start then Four
     else (if m.read4 then Dedicated else (if is_there m.enter && is_there m.leave then Entered m.enter m.leave else Near))
 
--- an opcode and an address in three bytes, and in four
-abbrev pub three_bytes : ℕ → ℕ → List ℕ
-three_bytes opcode address = opcode ∷ address_bytes 3 address
+-- where three address bytes don't reach
+abbrev pub far_way : Access → Option ReadBy
+far_way Dedicated = Some by.FourBytes
+far_way (Entered enter leave) = Some (by.Entered enter leave)
+far_way other = None
 
-abbrev pub four_bytes : ℕ → ℕ → List ℕ
-four_bytes opcode address = opcode ∷ address_bytes 4 address
-
--- such a read of bytes
-abbrev pub reading : List ℕ → List ℕ → Operation
-reading sent got = record { sent = sent; got = got }
-
--- what reads these bytes from an address on that three address bytes don't reach
-abbrev pub far_ops : Access → ℕ → List ℕ → List Operation
-far_ops Four address got = reading (four_bytes 0x03 address) got ∷ []
-far_ops Dedicated address got = reading (four_bytes 0x13 address) got ∷ []
-far_ops (Entered enter leave) address got = switch_ops enter 0xB7 ++ (reading (four_bytes 0x03 address) got ∷ switch_ops leave 0xE9)
-far_ops Near address got = []
-
--- the address is read by 03h with three address bytes, so that a chip in four-byte mode gives other bytes
-abbrev pub is_near : Access → ℕ → Bool
-is_near Four address = false
-is_near access address = nat_lt address (2 ^ 24)
-
--- what reads these bytes from an address on
-abbrev pub read_ops : Access → ℕ → List ℕ → List Operation
-read_ops access address got = if is_near access address then reading (three_bytes 0x03 address) got ∷ [] else far_ops access address got
+-- by which instruction a chip is read from an address on: by 03h with the address bytes of the mode that it begins in, as far as these reach
+abbrev pub way_at : Access → ℕ → Option ReadBy
+way_at Four address = Some (by.Content true)
+way_at access address = if nat_lt address (2 ^ 24) then Some (by.Content false) else far_way access

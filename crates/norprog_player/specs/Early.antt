@@ -11,11 +11,13 @@ use Rattle.nor_chip.specs.Ready.{ready_chip}
 use Rattle.nor_play.specs.Play.{play}
 use Rattle.norprog_device.specs.declared.failure.Failure.TheVariants.{Carried}
 use Rattle.nor_serprog.specs.declared.limits.Limits.{Limits}
-use Rattle.norprog_player.specs.Carried.{AreCarried, IsFirstNotCarried}
+use Rattle.nor_serprog.specs.Steps.{AreCarried, IsFirstNotCarried}
 use Rattle.norprog_player.specs.declared.early.Early.{Early}
 use Rattle.norprog_player.specs.declared.early.Early.TheVariants.{Ends, Goes}
 use Rattle.norprog_player.specs.declared.ending.Ending.{Ending}
 use Rattle.norprog_player.specs.declared.ending.Ending.TheVariants.{Wrong as GoesWrong, No, Failed}
+use Rattle.norprog_player.specs.declared.early.Rehearsed.{Rehearsed}
+use Rattle.norprog_player.specs.Put.{ArePut}
 use Rattle.norprog_player.specs.Rehearsal.{DoesSame, DoesOther}
 
 -- a ready chip that is never busy, with this content
@@ -42,12 +44,17 @@ pub record IsFirstOfNone (shown : Shown) (steps : List Step) (at : ℕ) : Type 0
   pub widest : AreWidest limits
   pub first : IsFirstNotCarried limits steps at
 
--- they go well on it, do the same on every chip of its meaning and start, and each is an operation of some device
-pub record MayPlay (shown : Shown) (steps : List Step) : Type 0 where
+-- they go well on it, in so many transactions, and leave these bytes; they do the same on every chip of its meaning and start, and each is an
+-- operation of some device; and so a device does them
+pub record MayPlay (shown : Shown) (steps : List Step) (r : Rehearsed) : Type 0 where
   pub same : DoesSame shown.setting shown.chip steps
+  pub left : r.left.items ≡ same.left.array
+  pub whole : length r.left.items ≡ length shown.chip.array
+  pub counted : r.transactions ≡ length (trail shown.setting shown.chip steps)
   pub limits : Limits
   pub widest : AreWidest limits
   pub carried : AreCarried limits steps
+  pub put : ArePut shown steps r.steps.items
 
 -- they end so whatever the device is
 abbrev pub EndsInMemory : Shown → List Step → Ending → Type 0
@@ -59,4 +66,4 @@ EndsInMemory shown steps other = ⊥
 -- so, or they may be played, in so many transactions
 abbrev pub EndsEarly : Shown → List Step → Early → Type 0
 EndsEarly shown steps (Ends ending) = EndsInMemory shown steps ending
-EndsEarly shown steps (Goes transactions) = MayPlay shown steps × (transactions ≡ length (trail shown.setting shown.chip steps))
+EndsEarly shown steps (Goes rehearsed) = MayPlay shown steps rehearsed

@@ -24,6 +24,7 @@ pub record DoesOther (s : Setting) (c : Chip) (steps : List Step) (at : ℕ) (wh
 
 -- how the steps go on a chip in memory and, where that is well, on every chip
 abbrev pub Rehearses : Setting → Chip → List Step → Rehearsal → Type 0
-Rehearses s c steps (Well transactions) = DoesSame s c steps × (transactions ≡ length (trail s c steps))
+Rehearses s c steps (Well transactions left) =
+    (same : DoesSame s c steps) × (transactions ≡ length (trail s c steps)) × (left.items ≡ same.left.array)
 Rehearses s c steps (Wrong at why) = (d : Chip) × (play s 1 c steps ≡ Err (record { at = at; why = why; chip = d }))
 Rehearses s c steps (No at why) = DoesOther s c steps at why

@@ -1,11 +1,11 @@
 //! What the chip behind a device holds, compared with a content.
 
-ghost use Rattle.std.specs.Prelude.{◌≡◌, ◌<◌, ◌≤◌, ◌*◌, ◌^◌, length, MatchResult};
+ghost use Rattle.std.specs.Prelude.{◌≡◌, ◌<◌, ◌≤◌, ◌*◌, ◌^◌, false, Err, length, MatchResult};
 ghost use Rattle.nor_cells.specs.Marks.{IsMarked};
 ghost use Rattle.nor_base.specs.Wire.{wire};
 ghost use Rattle.norprog_player.specs.Compared.{comparison, HasCompared, IsOneSidedPiece};
 ghost use Rattle.norprog_player.specs.Compared.{StopsComparing};
-ghost use Rattle.norprog_player.specs.Likeness.{ComparesWhole, past_by};
+ghost use Rattle.norprog_player.specs.Likeness.{Compares, ComparesWhole, past_by};
 
 use crate::access::Access;
 use crate::piece::{FAR, compare_piece};
@@ -31,11 +31,36 @@ pub(crate) fn compare_whole<R: ByteIn, W: ByteOut>(
     requires cells { length content.now ≡ 256 * length marks.now }
     ensures compared { ComparesWhole (wire (W.held to.old) (R.ahead from.old))
         (wire (W.held to.new) (R.ahead from.new))
-        (comparison limits.now access (IsMarked marks.now)) content.now result }
+        (comparison limits.now access content.now (IsMarked marks.now)) result }
 {
     compare(from, to, limits, access, content, marks)?;
     read_past(from, to, limits, past_by(access), content)?;
     Ok(())
+}
+
+/// The same unless the chip is trusted, of which nothing is asked.
+pub(crate) fn compare_unless_trusted<R: ByteIn, W: ByteOut>(
+    from: &mut R,
+    to: &mut W,
+    limits: &Limits,
+    access: Access,
+    content: &[u8],
+    marks: &[bool],
+    trusted: bool,
+) -> Result<(), Mismatch>
+    requires size { length content.now < 2 ^ 32 }
+    requires cells { length content.now ≡ 256 * length marks.now }
+    ensures compared { MatchResult result
+        (λ _. Compares (comparison limits.now access content.now (IsMarked marks.now)) trusted
+        (wire (W.held to.old) (R.ahead from.old)) (wire (W.held to.new) (R.ahead from.new)))
+        (λ why. (trusted ≡ false) × ComparesWhole (wire (W.held to.old) (R.ahead from.old))
+        (wire (W.held to.new) (R.ahead from.new))
+        (comparison limits.now access content.now (IsMarked marks.now)) (Err why)) }
+{
+    if trusted {
+        return Ok(());
+    }
+    compare_whole(from, to, limits, access, content, marks)
 }
 
 /// By which instruction a chip is read past its end.
@@ -64,10 +89,10 @@ fn compare<R: ByteIn, W: ByteOut>(
     ensures compared { MatchResult result
         (λ _. HasCompared (wire (W.held to.old) (R.ahead from.old))
         (wire (W.held to.new) (R.ahead from.new))
-        (comparison limits.now access (IsMarked marks.now)) content.now)
+        (comparison limits.now access content.now (IsMarked marks.now)))
         (StopsComparing (wire (W.held to.old) (R.ahead from.old))
         (wire (W.held to.new) (R.ahead from.new))
-        (comparison limits.now access (IsMarked marks.now)) content.now) }
+        (comparison limits.now access content.now (IsMarked marks.now))) }
 {
     let mut done = 0;
     while let Some((start, most)) = next_piece(marks, done, limits.asked as usize) {

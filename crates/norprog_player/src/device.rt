@@ -1,130 +1,98 @@
-//! A script on a device.
+//! Steps on a device, between the test of its line and its pins.
 
-ghost use Rattle.std.specs.Prelude.{◌≡◌, ◌≤◌, ◌<◌, ◌*◌, ◌^◌, ◌⊎◌, [], None, false};
-ghost use Rattle.std.specs.Prelude.{length, All, MatchResult};
-ghost use Rattle.nor_base.specs.Chip.{chip_of};
-ghost use Rattle.nor_base.specs.Run.{trail};
-ghost use Rattle.nor_base.specs.Sample.{sampled_count};
-ghost use Rattle.nor_base.specs.Step.{step_clocks};
-ghost use Rattle.nor_chip.specs.Ready.{ready_chip};
-ghost use Rattle.norprog_player.specs.Early.{GoesWellInMemory};
-ghost use Rattle.norprog_player.specs.Ending.{course, EndsComparing, EndsSo, MayBegin, SaysBlank};
-ghost use Rattle.norprog_player.specs.Expected.{expectation_of, play_of};
-ghost use Rattle.norprog_player.specs.Port.{moment_of, rules_at};
-ghost use Rattle.nor_cells.specs.Cells.{IsInCellOf};
-ghost use Rattle.nor_cells.specs.Marks.{IsMarked};
-ghost use Rattle.nor_cells.specs.Wrap.{ShowsWrap};
+ghost use Rattle.std.specs.Prelude.{◌≡◌, ◌<◌, ◌*◌, ◌^◌, All, MatchResult, length};
+ghost use Rattle.nor_base.specs.Chip.{begins4};
+ghost use Rattle.nor_base.specs.Wire.{wire};
+ghost use Rattle.nor_cells.specs.Compared.{IsAsked};
+ghost use Rattle.nor_cells.specs.Marks.{AreMarks};
+ghost use Rattle.nor_cells.specs.Touched.{IsTouched};
+ghost use Rattle.nor_serprog.specs.Done.{IsDoable};
+ghost use Rattle.nor_serprog.specs.Steps.{AreCarried};
+ghost use Rattle.norprog_player.specs.Ending.{EndsOnChip, SaysBlank};
+ghost use Rattle.norprog_player.specs.Expected.{expectation_of};
 
-use crate::access::{Access, access_of};
+use crate::access::access_of;
 use crate::asked::begin;
+use crate::content::compare_unless_trusted;
+use crate::course::Course;
 use crate::ending::Ending;
 use crate::expected::Expected;
-use crate::follow::{Halt, follow_steps};
-use crate::likeness::compare_unless_trusted;
-use crate::step::widest;
-use crate::within::carried;
-use nor_base::{ByteIn, ByteOut, Meaning, Step};
+use nor_base::{ByteIn, ByteOut};
 use nor_cells::{compared_cells, first_held, mark_wraps};
-use nor_serprog::Shadowed;
-use norprog_device::{Failure, failure_by};
+use nor_flasher::do_steps;
+use nor_serprog::{Limits, carried};
+use norprog_device::{Failure, failure_at, failure_by};
 use std::alloc::{AllocError, Global};
 
-/// Plays steps on a device, after its handshake, beside a ready chip in memory on which they go
-/// well ([`ends_early`](crate::ends_early)), in the order of docs/FORMATS.md, section 14.
+/// Has a device do steps after the test of its line, in the order of docs/FORMATS.md, section 14.
+/// How many are done is written to `progress`; where that fails nothing changes.
 ///
-/// How many are done is written to `progress`; where that fails nothing changes. Memory is taken
-/// before the device is asked for anything.
-pub fn play_on_device<R: ByteIn + Drop, W: ByteOut + Drop, P: ByteOut>(
+/// Memory is taken before the chip is asked for anything.
+pub fn play_on_device<R: ByteIn, W: ByteOut, P: ByteOut>(
     alloc: Global,
-    meaning: &Meaning,
-    expected: Expected<'_>,
-    steps: &[Step],
-    transactions: u128,
-    port: &mut Shadowed<'_, R, W>,
+    from: &mut R,
+    to: &mut W,
+    limits: &Limits,
+    course: &Course<'_>,
     progress: &mut P,
 ) -> Result<Ending, AllocError>
-    requires ready { (port.old.reason ≡ None) }
-    requires chip { (port.old.chip ≡ ready_chip (chip_of meaning.now expected.start [] false)
-        port.old.chip.chip.array)
-        × (length port.old.chip.chip.array ≡ meaning.now.size) }
-    requires well { GoesWellInMemory port.old.chip steps.now
-        × (transactions
-        ≡ length (trail port.old.chip.setting port.old.chip.chip steps.now)) }
+    requires form { All IsDoable course.now.steps.now }
+    requires sizes { (length course.now.content.now ≡ course.now.meaning.now.size)
+        × (length course.now.left.now ≡ course.now.meaning.now.size) }
     ensures ends { MatchResult result
-        (λ ending. EndsSo port.old.limits (play_of steps.now (expectation_of expected.entry)
-        meaning.now port.old.chip.chip.array port.old.turns)
-        (moment_of W.held R.ahead port.old) ending
-        (moment_of W.held R.ahead port.new))
-        (λ _. port.new ≡ port.old) }
-    ensures after { (port.new.limits ≡ port.old.limits) }
+        (EndsOnChip limits.now course.now (wire (W.held to.old) (R.ahead from.old))
+        (wire (W.held to.new) (R.ahead from.new)))
+        (λ _. (from.new ≡ from.old) × (to.new ≡ to.old)) }
 {
-    if let Err(step) = carried(steps, &port.limits) {
+    if let Err(step) = carried(course.steps, limits) {
         let why = Failure::Carried;
         return Ok(Ending::Failed { step, why });
     }
-    meaning.acceptance();
-    let mut room = vec![in alloc; 0u8; widest(steps)]?;
-    let mut cells = compared_cells(alloc, meaning, &expected.start, port.chip.content(), steps)?;
-    let room = room.as_mut_slice();
-    let access = access_of(meaning, &expected.start);
-    let blank = says_blank(expected, port.chip.content());
-    Ok(play_compared(
-        meaning,
-        expected,
-        access,
-        cells.as_mut_slice(),
-        steps,
-        transactions,
-        blank,
-        port,
-        room,
-        progress,
-    ))
+    course.meaning.acceptance();
+    let start = &course.expected.start;
+    let mut cells = compared_cells(alloc, course.meaning, start, course.content, course.steps)?;
+    let cells = cells.as_mut_slice();
+    Ok(play_compared(from, to, limits, course, cells, progress))
 }
 
-/// Asks the chip behind the device, plays steps that go well in memory and that the device can do,
-/// and reads the chip again.
-fn play_compared<R: ByteIn + Drop, W: ByteOut + Drop, P: ByteOut>(
-    meaning: &Meaning,
-    expected: Expected<'_>,
-    access: Access,
+/// Asks the chip behind the device, has it do steps that the device can do, and reads it again.
+fn play_compared<R: ByteIn, W: ByteOut, P: ByteOut>(
+    from: &mut R,
+    to: &mut W,
+    limits: &Limits,
+    course: &Course<'_>,
     cells: &mut [bool],
-    steps: &[Step],
-    transactions: u128,
-    blank: bool,
-    port: &mut Shadowed<'_, R, W>,
-    room: &mut [u8],
     progress: &mut P,
 ) -> Ending
-    requires ready { (port.old.reason ≡ None) }
-    requires content { (length port.old.chip.chip.array < 2 ^ 32)
-        × (length port.old.chip.chip.array ≡ 256 * length cells.old)
-        × SaysBlank (expectation_of expected) port.old.chip.chip.array blank }
-    requires steps { MayBegin port.old.limits (moment_of W.held R.ahead port.old) steps.now
-        × (transactions ≡ length (trail port.old.chip.setting port.old.chip.chip steps.now))
-        × All (λ step. sampled_count (step_clocks step) ≤ length room.old) steps.now }
-    ensures ends { EndsComparing (course (rules_at port.old meaning.now)
-        (expectation_of expected.entry) access (IsMarked cells.old)
-        (λ left a. IsMarked cells.old a ⊎ IsInCellOf (ShowsWrap left) a))
-        (moment_of W.held R.ahead port.old)
-        steps.now result (moment_of W.held R.ahead port.new) }
-    ensures after { (port.new.limits ≡ port.old.limits) }
+    requires form { All IsDoable course.now.steps.now }
+    requires carried { AreCarried limits.now course.now.steps.now }
+    requires sizes { (length course.now.content.now ≡ 256 * length cells.old)
+        × (length course.now.left.now ≡ 256 * length cells.old)
+        × (256 * length cells.old < 2 ^ 32) }
+    requires cells { AreMarks (IsAsked (IsTouched course.now.meaning.now
+        (begins4 course.now.meaning.now course.now.expected.start) course.now.steps.now)
+        course.now.content.now) (length cells.old) cells.old }
+    ensures { EndsOnChip limits.now course.now (wire (W.held to.old) (R.ahead from.old))
+        (wire (W.held to.new) (R.ahead from.new)) result }
 {
-    if let Err(why) = begin(port, expected, access, cells) {
+    let access = access_of(course.meaning, &course.expected.start);
+    if let Err(why) = begin(from, to, limits, course, access, cells) {
         return Ending::Unlike { why };
     }
-    if let Err(halt) = follow_steps(meaning, steps, port, room, progress) {
-        let Halt { step, why } = halt;
+    if let Err(halt) = do_steps(from, to, limits, course.turns, course.steps, progress) {
+        let step = halt.step;
+        let why = failure_at(course.meaning, course.steps, halt);
         return Ending::Failed { step, why };
     }
-    mark_wraps(cells, port.chip.content());
-    match compare_unless_trusted(port, access, cells, expected.trusted) {
+    mark_wraps(cells, course.left);
+    let trusted = course.expected.trusted;
+    match compare_unless_trusted(from, to, limits, access, course.left, cells, trusted) {
         Ok(()) => Ending::Done {
-            transactions,
-            blank,
+            transactions: course.transactions,
+            blank: says_blank(course.expected, course.content),
         },
         Err(why) => Ending::Failed {
-            step: steps.len() as u64,
+            step: course.steps.len() as u64,
             why: failure_by(why),
         },
     }

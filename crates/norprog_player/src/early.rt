@@ -1,14 +1,14 @@
 //! What is known of a play before a device is asked.
 
-ghost use Rattle.std.specs.Prelude.{◌≡◌, ◌-◌, ◌^◌, false, length, IfOk};
+ghost use Rattle.std.specs.Prelude.{◌≡◌, ◌-◌, ◌^◌, length, IfOk};
 ghost use Rattle.nor_base.specs.Chip.{IsPossible};
 ghost use Rattle.norprog_player.specs.Early.{chip_with, EndsEarly};
 
 use crate::ending::Ending;
+use crate::put::put_steps;
 use crate::rehearsal::{Rehearsal, rehearse};
-use crate::within::carried;
 use nor_base::{Meaning, Start, Step};
-use nor_serprog::Limits;
+use nor_serprog::{Limits, carried};
 use norprog_device::Failure;
 use std::alloc::{AllocError, Global};
 
@@ -16,10 +16,9 @@ use std::alloc::{AllocError, Global};
 const MOST: u32 = (1 << 24) - 1;
 
 /// The limits of a device that can do the most.
-pub fn widest() -> Limits
+fn widest() -> Limits
     ensures sent { result.sent ≡ 2 ^ 24 - 1 }
     ensures asked { result.asked ≡ 2 ^ 24 - 1 }
-    ensures pins { result.pins ≡ false }
 {
     Limits {
         sent: MOST,
@@ -29,43 +28,56 @@ pub fn widest() -> Limits
     }
 }
 
+/// Steps that may be played: they do on every chip what they do in memory, and each is an operation
+/// of some device.
+#[derive(Drop)]
+pub struct Rehearsed {
+    /// The steps as a device does them.
+    pub steps: Vec<Step>,
+    /// What the chip holds after them, from address 0 on.
+    pub left: Vec<u8>,
+    /// Transactions of the chip in memory, one for each step.
+    pub transactions: u128,
+}
+
 /// What is known of a play before a device is asked.
-#[derive(Clone, Copy, Drop)]
+#[derive(Drop)]
 pub enum Early {
     /// It ends so whatever the device is.
     Ends(Ending),
-    /// The steps do on every chip what they do in memory, and each is an operation of some device.
-    Goes {
-        /// Transactions, one for each step.
-        transactions: u128,
-    },
+    /// The steps may be played.
+    Goes(Rehearsed),
 }
 
 /// How steps end whatever the device is: `Wrong` where a ready chip in memory that is never busy
 /// goes wrong; else `No` where they don't do the same on every chip; else `Failed` for `Carried`
-/// with the first that is no operation of any device; else `Goes`.
+/// with the first that no device can do; else `Goes`.
 ///
-/// Memory is taken as by [`rehearse`].
+/// Memory is taken as by [`rehearse`]. Where a [`Step::Send`] samples something, it takes more.
 pub fn ends_early(
     alloc: Global,
     meaning: &Meaning,
     start: Start,
     content: &[u8],
-    steps: &[Step],
+    steps: Vec<Step>,
 ) -> Result<Early, AllocError>
     requires size { length content.now ≡ meaning.now.size }
     requires mode { IsPossible meaning.now start }
-    ensures { IfOk result (EndsEarly (chip_with meaning.now start content.now) steps.now) }
+    ensures { IfOk result (EndsEarly (chip_with meaning.now start content.now) steps.items) }
 {
-    match rehearse(alloc, meaning, start, content, steps)? {
-        Rehearsal::Wrong { step, why } => Ok(Early::Ends(Ending::Wrong { step, why })),
-        Rehearsal::No { step, why } => Ok(Early::Ends(Ending::No { step, why })),
-        Rehearsal::Well { transactions } => match carried(steps, &widest()) {
-            Ok(()) => Ok(Early::Goes { transactions }),
-            Err(step) => Ok(Early::Ends(Ending::Failed {
-                step,
-                why: Failure::Carried,
-            })),
-        },
+    let (transactions, left) = match rehearse(alloc, meaning, start, content, steps.as_slice())? {
+        Rehearsal::Well { transactions, left } => (transactions, left),
+        Rehearsal::Wrong { step, why } => return Ok(Early::Ends(Ending::Wrong { step, why })),
+        Rehearsal::No { step, why } => return Ok(Early::Ends(Ending::No { step, why })),
+    };
+    if let Err(step) = carried(steps.as_slice(), &widest()) {
+        let why = Failure::Carried;
+        return Ok(Early::Ends(Ending::Failed { step, why }));
     }
+    let steps = put_steps(alloc, meaning, start, content, steps)?;
+    Ok(Early::Goes(Rehearsed {
+        steps,
+        left,
+        transactions,
+    }))
 }

@@ -1,26 +1,19 @@
 //! One piece of what the chip behind a device holds, compared with bytes.
 
 ghost use Rattle.std.specs.Prelude.{◌≡◌, ◌<◌, ◌+◌, ◌^◌, length};
-ghost use Rattle.norprog_player.specs.Access.{far_ops, four_bytes, is_near};
 ghost use Rattle.nor_base.specs.Wire.{wire};
-ghost use Rattle.norprog_player.specs.Compared.{piece_at, ReadsBy, ReadsOps, ReadsRange};
-ghost use Rattle.norprog_player.specs.declared.access.Access.TheVariants.{Entered};
+ghost use Rattle.norprog_player.specs.Access.{far_way, way_at};
+ghost use Rattle.norprog_player.specs.Compared.{ReadsAt};
 
 use crate::access::Access;
-use nor_base::{ByteIn, ByteOut, Switch};
-use nor_reader::{Difference, ENTER, LEAVE, Mismatch, switch_mode};
-use nor_serprog::{Reason, operate_with};
+use nor_base::{ByteIn, ByteOut};
+use nor_reader::{Mismatch, ReadBy, compare_part};
 
 /// The first address that three bytes don't reach.
 pub(crate) const FAR: u32 = 1 << 24;
 
-/// Read data, with the address bytes of the chip's mode.
-const READ: u8 = 0x03;
-
-/// Read data with four address bytes.
-const READ4: u8 = 0x13;
-
-/// Has the device read as many bytes as a piece has, from an address on, and compares them with it.
+/// Has the device read as many bytes as a piece has, from an address on, and compares them with it;
+/// nothing where no instruction reaches it.
 pub(crate) fn compare_piece<R: ByteIn, W: ByteOut>(
     from: &mut R,
     to: &mut W,
@@ -29,129 +22,40 @@ pub(crate) fn compare_piece<R: ByteIn, W: ByteOut>(
     piece: &[u8],
 ) -> Result<(), Mismatch>
     requires size { length piece.now < 2 ^ 24 }
-    requires end { address + length piece.now < 2 ^ 32 }
-    ensures read { ReadsRange (wire (W.held to.old) (R.ahead from.old))
-        (wire (W.held to.new) (R.ahead from.new)) result access (piece_at address piece.now) }
+    requires end { address + length piece.now < 2 ^ 32 + 1 }
+    ensures { ReadsAt (way_at access address) address piece.now
+        (wire (W.held to.old) (R.ahead from.old)) (wire (W.held to.new) (R.ahead from.new))
+        result }
 {
-    if is_near(access, address) {
-        let [_, high, low, lowest] = address.to_be_bytes();
-        read_by(from, to, &[READ, high, low, lowest], address, piece)
-    } else {
-        compare_far(from, to, access, address, piece)
+    match way_at(access, address) {
+        Some(by) => compare_part(from, to, by, address, piece),
+        None => Ok(()),
     }
 }
 
-/// Whether an address is read by 03h with three address bytes.
-fn is_near(access: Access, address: u32) -> bool
-    ensures { result ≡ is_near access address }
+/// By which instruction a piece is read from an address on.
+fn way_at(access: Access, address: u32) -> Option<ReadBy>
+    ensures { result ≡ way_at access address }
 {
     match access {
-        Access::Four => false,
-        Access::Dedicated | Access::Entered { .. } | Access::Near => address < FAR,
+        Access::Four => Some(ReadBy::Content { mode4: true }),
+        Access::Dedicated | Access::Entered { .. } | Access::Near => {
+            if address < FAR {
+                Some(ReadBy::Content { mode4: false })
+            } else {
+                far_way(access)
+            }
+        }
     }
 }
 
-/// The same for an address that isn't.
-fn compare_far<R: ByteIn, W: ByteOut>(
-    from: &mut R,
-    to: &mut W,
-    access: Access,
-    address: u32,
-    piece: &[u8],
-) -> Result<(), Mismatch>
-    requires size { length piece.now < 2 ^ 24 }
-    requires end { address + length piece.now < 2 ^ 32 }
-    ensures read { ReadsOps (wire (W.held to.old) (R.ahead from.old))
-        (wire (W.held to.new) (R.ahead from.new)) result (far_ops access address) (piece_at address
-        piece.now) }
+/// The same of one that three address bytes don't reach.
+fn far_way(access: Access) -> Option<ReadBy>
+    ensures { result ≡ far_way access }
 {
     match access {
-        Access::Four => read_four(from, to, READ, address, piece),
-        Access::Dedicated => read_four(from, to, READ4, address, piece),
-        Access::Entered { enter, leave } => {
-            compare_entered(from, to, enter, leave, address, piece)
-        }
-        Access::Near => Ok(()),
-    }
-}
-
-/// The same in four-byte mode, which is entered before and left after it.
-fn compare_entered<R: ByteIn, W: ByteOut>(
-    from: &mut R,
-    to: &mut W,
-    enter: Switch,
-    leave: Switch,
-    address: u32,
-    piece: &[u8],
-) -> Result<(), Mismatch>
-    requires size { length piece.now < 2 ^ 24 }
-    requires end { address + length piece.now < 2 ^ 32 }
-    ensures read { ReadsOps (wire (W.held to.old) (R.ahead from.old))
-        (wire (W.held to.new) (R.ahead from.new)) result (far_ops (Entered enter leave) address)
-        (piece_at address piece.now) }
-{
-    switch_mode(from, to, enter, ENTER)?;
-    match read_four(from, to, READ, address, piece) {
-        Ok(()) => {
-            switch_mode(from, to, leave, LEAVE)?;
-            Ok(())
-        }
-        Err(Mismatch::Exchange(why)) => Err(Mismatch::Exchange(why)),
-        Err(Mismatch::Differs(difference)) => {
-            switch_mode(from, to, leave, LEAVE)?;
-            Err(Mismatch::Differs(difference))
-        }
-    }
-}
-
-/// Has the device send an opcode with four address bytes and take as many bytes as a piece has,
-/// which are to be these.
-fn read_four<R: ByteIn, W: ByteOut>(
-    from: &mut R,
-    to: &mut W,
-    opcode: u8,
-    address: u32,
-    piece: &[u8],
-) -> Result<(), Mismatch>
-    requires size { length piece.now < 2 ^ 24 }
-    requires end { address + length piece.now < 2 ^ 32 }
-    ensures read { ReadsBy (wire (W.held to.old) (R.ahead from.old))
-        (wire (W.held to.new) (R.ahead from.new)) result (four_bytes opcode address) (piece_at
-        address piece.now) }
-{
-    let [highest, high, low, lowest] = address.to_be_bytes();
-    read_by(
-        from,
-        to,
-        &[opcode, highest, high, low, lowest],
-        address,
-        piece,
-    )
-}
-
-/// Has the device send an opcode with an address and take as many bytes as a piece has, which are
-/// to be these.
-fn read_by<R: ByteIn, W: ByteOut>(
-    from: &mut R,
-    to: &mut W,
-    sent: &[u8],
-    address: u32,
-    piece: &[u8],
-) -> Result<(), Mismatch>
-    requires sent { length sent.now < 2 ^ 24 }
-    requires size { length piece.now < 2 ^ 24 }
-    requires end { address + length piece.now < 2 ^ 32 }
-    ensures read { ReadsBy (wire (W.held to.old) (R.ahead from.old))
-        (wire (W.held to.new) (R.ahead from.new)) result sent.now (piece_at address piece.now) }
-{
-    match operate_with(from, to, sent, piece) {
-        Ok(()) => Ok(()),
-        Err(Reason::Exchange(why)) => Err(Mismatch::Exchange(why)),
-        Err(Reason::Differs { place, byte }) => Err(Mismatch::Differs(Difference {
-            address: address + place,
-            chip: byte,
-            want: piece[place as usize],
-        })),
-        Err(Reason::Busy) | Err(Reason::Carried) => unreachable!("nothing is waited for"),
+        Access::Four | Access::Near => None,
+        Access::Dedicated => Some(ReadBy::FourBytes),
+        Access::Entered { enter, leave } => Some(ReadBy::Entered { enter, leave }),
     }
 }

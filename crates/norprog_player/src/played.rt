@@ -1,74 +1,75 @@
-//! Steps that go well in memory, on a device that was opened.
+//! Steps on a device that was opened, from its handshake on.
 
-ghost use Rattle.std.specs.Prelude.{◌≡◌, length, MatchResult};
-ghost use Rattle.nor_base.specs.Chip.{IsPossible};
-ghost use Rattle.nor_base.specs.Port.{Shown};
-ghost use Rattle.nor_base.specs.Run.{trail};
-ghost use Rattle.norprog_player.specs.Early.{MayPlay, chip_with};
-ghost use Rattle.norprog_player.specs.Expected.{expectation_of, play_of};
-ghost use Rattle.norprog_player.specs.Moment.{moment};
-ghost use Rattle.norprog_player.specs.Played.{EndsOnDevice, StopsOnDevice, shown_in};
+ghost use Rattle.std.specs.Prelude.{◌≡◌, ◌&&◌, not, All, length};
+ghost use Rattle.nor_base.specs.Wire.{wire};
+ghost use Rattle.nor_serprog.specs.Done.{IsDoable};
+ghost use Rattle.norprog_device.specs.Blame.{is_cut};
+ghost use Rattle.norprog_player.specs.Blame.{fault_in};
+ghost use Rattle.norprog_player.specs.Played.{EndsGreeted, EndsTested};
 
 use crate::blame::fault_in;
-use crate::early::widest;
+use crate::course::Course;
+use crate::device::play_on_device;
 use crate::ending::Ending;
-use crate::expected::Expected;
-use crate::greeted::{greet_and_play, release_pins};
-use crate::job::Job;
 use crate::unplayed::Unplayed;
 use nor_base::{ByteIn, ByteOut};
-use nor_chip::Chip;
-use nor_serprog::Shadowed;
-use norprog_device::is_cut;
+use nor_serprog::{Limits, greet, test_line};
+use norprog_device::{DeviceFault, is_cut, let_go};
 use std::alloc::Global;
 
-/// Plays the steps of a job, which go well in memory in so many transactions, on a device that was
-/// opened, from its handshake on; a poll makes at most `limit` status reads. At last it lets the
-/// pins of the device's chip go. The device is handed back.
-pub fn play_on<R: ByteIn + Drop, W: ByteOut + Drop, P: ByteOut>(
+/// Begins with a device, tests the line to it, and has it do steps as [`play_on_device`] does. At
+/// last it lets the pins of the device's chip go, where it drives them; after a failed write
+/// nothing more is sent.
+///
+/// `Device` where the handshake or the test of the line ended early, `Refused` for `Memory`: no
+/// step was sent.
+pub fn play_on<R: ByteIn, W: ByteOut, P: ByteOut>(
     alloc: Global,
-    job: Job,
-    expected: Expected<'_>,
-    transactions: u128,
-    limit: u64,
-    from: R,
-    to: W,
+    from: &mut R,
+    to: &mut W,
+    course: &Course<'_>,
     progress: &mut P,
-) -> (Result<Ending, Unplayed>, R, W)
-    requires chip { (length job.content.items ≡ job.meaning.size)
-        × IsPossible job.meaning expected.start }
-    requires may { MayPlay (chip_with job.meaning expected.start job.content.items)
-        job.steps.items
-        × (transactions
-        ≡ length (trail (chip_with job.meaning expected.start job.content.items).setting
-        (chip_with job.meaning expected.start job.content.items).chip job.steps.items)) }
-    ensures { (shown : Shown) × MatchResult result.0
-        (EndsOnDevice (play_of job.steps.items (expectation_of expected.entry) job.meaning
-        job.content.items limit) (moment (shown_in (play_of job.steps.items
-        (expectation_of expected.entry) job.meaning job.content.items limit)) (W.held to)
-        (R.ahead from)) (moment shown (W.held result.2) (R.ahead result.1)))
-        (StopsOnDevice (play_of job.steps.items (expectation_of expected.entry) job.meaning
-        job.content.items limit) (moment (shown_in (play_of job.steps.items
-        (expectation_of expected.entry) job.meaning job.content.items limit)) (W.held to)
-        (R.ahead from)) (moment shown (W.held result.2) (R.ahead result.1))) }
+) -> Result<Ending, Unplayed>
+    requires form { All IsDoable course.now.steps.now }
+    requires sizes { (length course.now.content.now ≡ course.now.meaning.now.size)
+        × (length course.now.left.now ≡ course.now.meaning.now.size) }
+    ensures { EndsGreeted course.now (wire (W.held to.old) (R.ahead from.old))
+        (wire (W.held to.new) (R.ahead from.new)) result }
 {
-    let Job {
-        meaning,
-        start: _,
-        steps,
-        content,
-    } = job;
-    let chip = Chip::new(&meaning, expected.start, content, Vec::new(alloc), false);
-    let mut port = Shadowed::new(chip, from, to, widest(), limit);
-    let ended = greet_and_play(
-        alloc,
-        &meaning,
-        expected,
-        steps.as_slice(),
-        transactions,
-        &mut port,
-        progress,
-    );
-    release_pins(&mut port, is_cut(fault_in(&ended)));
-    (ended, port.from, port.to)
+    let limits = match greet(from, to) {
+        Ok(limits) => limits,
+        Err(why) => return Err(Unplayed::Device(DeviceFault::Greet(why))),
+    };
+    let ended = play_tested(alloc, from, to, &limits, course, progress);
+    let_go(from, to, frees_pins(&limits, &ended));
+    ended
+}
+
+/// Whether the pins are let go after a play that ended so: the device drives them, and no request
+/// was cut. A device would take what follows as the rest of such a request.
+fn frees_pins(limits: &Limits, ended: &Result<Ending, Unplayed>) -> bool
+    ensures { result ≡ (limits.now.pins && not (is_cut (fault_in ended.now))) }
+{
+    limits.pins && !is_cut(fault_in(ended))
+}
+
+/// Tests the line to a device, and has it do steps.
+fn play_tested<R: ByteIn, W: ByteOut, P: ByteOut>(
+    alloc: Global,
+    from: &mut R,
+    to: &mut W,
+    limits: &Limits,
+    course: &Course<'_>,
+    progress: &mut P,
+) -> Result<Ending, Unplayed>
+    requires form { All IsDoable course.now.steps.now }
+    requires sizes { (length course.now.content.now ≡ course.now.meaning.now.size)
+        × (length course.now.left.now ≡ course.now.meaning.now.size) }
+    ensures { EndsTested limits.now course.now (wire (W.held to.old) (R.ahead from.old))
+        (wire (W.held to.new) (R.ahead from.new)) result }
+{
+    if let Err(why) = test_line(from, to, limits) {
+        return Err(Unplayed::Device(DeviceFault::Line(why)));
+    }
+    Ok(play_on_device(alloc, from, to, limits, course, progress)?)
 }

@@ -11,13 +11,15 @@ use nor_play::{PlayFault, play};
 use std::alloc::{AllocError, Global};
 
 /// How a script goes in memory.
-#[derive(Clone, Copy, Drop)]
+#[derive(Drop)]
 pub enum Rehearsal {
     /// Nothing goes wrong on the chip in memory, which is settled at the end, and each chip ends
     /// with the same bytes.
     Well {
         /// Transactions, one for each step.
         transactions: u128,
+        /// What the chip holds at the end, from address 0 on.
+        left: Vec<u8>,
     },
     /// The chip goes wrong.
     Wrong {
@@ -39,7 +41,7 @@ pub enum Rehearsal {
 /// Plays steps on a ready chip in memory that holds these bytes and is never busy. Where that goes
 /// well it checks that they do the same on every chip ([`nor_check::check`]).
 ///
-/// Memory is taken for two more such contents; where a step tells chips of different pages apart,
+/// Memory is taken for three more such contents; where a step tells chips of different pages apart,
 /// more.
 #[tactic(auto, using(nor_base::proofs::DeviceLaws::risen_some))]
 pub fn rehearse(
@@ -63,7 +65,10 @@ pub fn rehearse(
         Err(PlayFault::Memory) => return Err(AllocError),
     };
     match check(alloc, steps, meaning, &start, content, chip.content()) {
-        Ok(Verdict::Yes) => Ok(Rehearsal::Well { transactions }),
+        Ok(Verdict::Yes) => {
+            let left = Vec::from_slice(alloc, chip.content())?;
+            Ok(Rehearsal::Well { transactions, left })
+        }
         Ok(Verdict::No { step, why }) => Ok(Rehearsal::No { step, why }),
         Err(CheckFault::Memory) => Err(AllocError),
     }

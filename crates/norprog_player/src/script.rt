@@ -7,7 +7,8 @@ ghost use Rattle.nor_script.specs.View.{step_of};
 ghost use Rattle.norprog_common.specs.Reading.{GivesSome};
 ghost use Rattle.nor_script.specs.declared.fault.ScriptFault.TheVariants.{Memory};
 
-use nor_base::{ByteIn, Bytes, Step};
+use crate::put::copied;
+use nor_base::{ByteIn, Step};
 use nor_script::{ReadFault, ScriptFault, StepReader, StepView};
 use std::alloc::Global;
 
@@ -57,13 +58,4 @@ fn owned(alloc: Global, step: StepView<'_>) -> Result<Step, ScriptFault>
             expect: copied(alloc, expect)?,
         },
     })
-}
-
-/// A copy of some bytes; `Memory` where a growth is refused.
-fn copied(alloc: Global, bytes: &[u8]) -> Result<Bytes, ScriptFault>
-    ensures copied { IfOk result (λ copy. copy ≡ bytes.now) }
-    ensures refused { IfErr result (λ fault. fault ≡ Memory) }
-{
-    let copy = Vec::from_slice(alloc, bytes)?;
-    Ok(Bytes::new(copy))
 }

@@ -26,7 +26,6 @@ mod planners;
 #[cfg(test)]
 mod play;
 #[cfg(test)]
-mod plays;
 #[cfg(test)]
 mod ports;
 #[cfg(test)]

@@ -425,3 +425,89 @@ fn does_a_verify_of_the_status(rt: HostRuntime) -> Result<(), Fail> {
     }
     Ok(())
 }
+
+/// What a device answers to the steps of [`SCRIPT`], a row each, busy for two status reads; and at
+/// which step it does each byte.
+const ANSWERS: &[u8; 10] = b"\x06\x06\x06\x03\x06\x01\x06\x00\x06\x00";
+
+static STEPS: [u64; 10] = [0, 1, 2, 2, 2, 2, 2, 2, 3, 3];
+
+/// A device that answers NAK, or another byte, in place of each ACK and of what is read, of which
+/// the last is another byte of the chip.
+#[test]
+fn each_byte_lies(rt: HostRuntime) -> Result<(), Fail> {
+    let steps = read(rt.alloc(), SCRIPT.as_bytes())?;
+    for place in [0usize, 1, 2, 4, 6, 8] {
+        for (byte, why) in [(0x15, Fault::Nak), (0x80, Fault::Differs)] {
+            lies(
+                &rt,
+                rt.alloc(),
+                &steps,
+                (place, byte),
+                Reason::Exchange(why),
+            );
+        }
+    }
+    for byte in [0x15, 0x80] {
+        let why = Reason::Differs { place: 0, byte };
+        lies(&rt, rt.alloc(), &steps, (9, byte), why);
+    }
+    Ok(())
+}
+
+/// A device that answers this byte at this place stops the steps for this reason.
+fn lies(rt: &impl Abort, alloc: Global, steps: &[Step], (place, byte): (usize, u8), why: Reason) {
+    let mut answers = *ANSWERS;
+    if let Some(old) = answers.get_mut(place) {
+        *old = byte;
+    }
+    let device = Device {
+        sent: 256,
+        ahead: 0,
+        answers: &answers,
+        end: End::Silent,
+        room: 1000,
+        turns: 3,
+    };
+    let step = STEPS.get(place).copied().unwrap_or(0);
+    let (ended, put, _) = done_on(rt, alloc, steps, &device);
+    same(rt, "ended", ended, Err(Halt { step, why }));
+    holds(rt, "what was put", PUT.starts_with(put.as_slice()));
+}
+
+/// A read of the four bytes at 0.
+const READ_FOUR: &str =
+    "norscript 1\nv 00000011000000000000000000000000................................ ffffffff\n\
+        end 1\n";
+
+/// What goes out for it.
+const READ_PUT: &[u8] = b"\x13\x04\x00\x00\x04\x00\x00\x03\x00\x00\x00";
+
+/// Of an answer with another byte in it the rest is taken: the next command's answer comes next.
+#[test]
+fn an_answer_is_taken_whole(rt: HostRuntime) -> Result<(), Fail> {
+    let limits = Limits {
+        sent: 256,
+        asked: 256,
+        ahead: 0,
+        pins: false,
+    };
+    for step in &read(rt.alloc(), READ_FOUR.as_bytes())? {
+        let mut from = FromRead::new(Canned {
+            answers: b"\x06\xFF\xFF\xFE\xFF\x06\x01\x00",
+            silent: 0,
+            end: End::Silent,
+        });
+        let mut to = IntoWrite::new(Held::new(rt.alloc(), 1000));
+        holds(&rt, "doable", is_doable(step));
+        let ended = do_step(&mut from, &mut to, &limits, 3, step);
+        let place = 2;
+        let byte = 0xFE;
+        same(&rt, "ended", ended, Err(Reason::Differs { place, byte }));
+        let put = to.into_inner().bytes;
+        holds(&rt, "what was put", put.as_slice() == READ_PUT);
+        let next = from.into_inner().answers;
+        holds(&rt, "what comes next", next == b"\x06\x01\x00".as_slice());
+    }
+    Ok(())
+}

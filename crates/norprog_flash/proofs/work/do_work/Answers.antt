@@ -6,9 +6,10 @@ use Rattle.nor_reader.specs.declared.difference.Mismatch.{Mismatch}
 use Rattle.nor_serprog.specs.Done.{HasDoneAll}
 use Rattle.nor_serprog.specs.Row.{HasHalted}
 use Rattle.nor_base.specs.Wire.{Wire, wire}
+use Rattle.norprog_device.specs.Reported.{IsFailureAt}
 use Rattle.norprog_flash.specs.declared.ending.Ending.TheVariants.{Done, Failed}
 use Rattle.norprog_flash.specs.declared.work.Back.{Back}
-use Rattle.norprog_flash.specs.Worked.{FailedAt, HasWorked, IsFailureAt, MissedIt, ReadsBack, Session, Worked, WorksOut, back_of, session}
+use Rattle.norprog_flash.specs.Worked.{FailedAt, HasWorked, MissedIt, ReadsBack, Session, Worked, WorksOut, back_of, session}
 use Rattle.norprog_flash.specs.Work.{Plan, plan_of}
 use Rattle.norprog_flash.proofs.work.do_work.Goals as goal
 

@@ -10,7 +10,7 @@ pub loop-start-init : goal.loop-start-init
 loop-start-init g c = record {
   within = omega arith;
   read = none_read (wire (g.W.ByteOut.held c.args.to.now) (g.R.ByteIn.ahead c.args.from.now))
-      (comparison c.args.limits.now c.args.access (IsMarked c.args.marks.now)) c.args.content.now;
+      (comparison c.args.limits.now c.args.access c.args.content.now (IsMarked c.args.marks.now));
 }
 
 pub returns-in-Err : goal.returns-in-Err
@@ -23,7 +23,7 @@ returns-in-Err g c = record {
       (wire (g.W.ByteOut.held c.loop-start.to) (g.R.ByteIn.ahead c.loop-start.from))
       (wire (g.W.ByteOut.held c.compare_piece.new.to) (g.R.ByteIn.ahead c.compare_piece.new.from)) c.loop-start.done c.in-Some.start c.in-Some.most
       c.len_on_side-len.result c.in-Err.why (omega (arith, some.1.within, len.few, c.requires.cells)) some.0 some.1 len.some len.few len.sided
-      c.loop-start.invariant.read c.in-Err.ensures.read;
+      c.loop-start.invariant.read c.in-Err.ensures;
 }
 
 pub loop-start-preserved : goal.loop-start-preserved
@@ -36,7 +36,7 @@ loop-start-preserved g c =
           (wire (g.W.ByteOut.held c.args.to.now) (g.R.ByteIn.ahead c.args.from.now))
           (wire (g.W.ByteOut.held c.loop-start.to) (g.R.ByteIn.ahead c.loop-start.from))
           (wire (g.W.ByteOut.held c.compare_piece.new.to) (g.R.ByteIn.ahead c.compare_piece.new.from)) c.loop-start.done c.in-Some.start c.in-Some.most
-          c.len_on_side-len.result some.0 some.1 len.some len.few len.sided c.loop-start.invariant.read c.in_default-compare_piece.ensures.read;
+          c.len_on_side-len.result some.0 some.1 len.some len.few len.sided c.loop-start.invariant.read c.in_default-compare_piece.ensures;
     }
 
 pub returns : goal.returns

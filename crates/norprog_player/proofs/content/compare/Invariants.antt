@@ -9,7 +9,7 @@ abbrev pub invariant-loop-start : goal.invariant-loop-start
 invariant-loop-start g l = record {
   within : l.done ≤ length l.content;
   read : HasComparedTo (wire (g.W.ByteOut.held l.fn.to) (g.R.ByteIn.ahead l.fn.from)) (wire (g.W.ByteOut.held l.to) (g.R.ByteIn.ahead l.from))
-      (comparison l.limits l.access (IsMarked l.marks)) l.content l.done;
+      (comparison l.limits l.access l.content (IsMarked l.marks)) l.done;
 }
 
 abbrev pub decreases-loop-start : goal.decreases-loop-start

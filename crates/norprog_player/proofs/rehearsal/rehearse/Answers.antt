@@ -9,7 +9,8 @@ pub returns-in-Ok-Yes : goal.returns-in-Ok-Yes
 returns-in-Ok-Yes c =
     let is : c.new-chip.result ≡ ready_chip (chip_of c.args.meaning.now c.args.start [] false) c.args.content.now =
     c.new-chip.ensures ∙ rw (c.new.ensures.items, c.in_ok-array.ensures.items) refl in
-    well _ _ _ c.args.content.now c.content.result.now c.args.steps.now c.in-Ok.transactions is c.in-Ok.ensures.played c.content.ensures (c.in-Ok-Yes.ensures.yes.0 c.in-Ok-Yes.field-0-is)
+    well _ _ _ c.args.content.now c.in_ok-left-in-Ok-Yes.left c.args.steps.now c.in-Ok.transactions is c.in-Ok.ensures.played (c.in_ok-left-in-Ok-Yes.ensures.items ∙ c.content-in-Ok-Yes.ensures)
+    (rw c.content.ensures at (c.in-Ok-Yes.ensures.yes.0 c.in-Ok-Yes.field-0-is))
 
 pub returns-in-Ok-No : goal.returns-in-Ok-No
 returns-in-Ok-No c =

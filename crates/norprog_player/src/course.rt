@@ -1,0 +1,21 @@
+//! What a device is to do on which chip.
+
+use crate::expected::Expected;
+use nor_base::{Meaning, Step};
+
+/// What a device is to do on which chip.
+#[derive(Clone, Copy)]
+pub struct Course<'a> {
+    pub meaning: &'a Meaning,
+    pub expected: Expected<'a>,
+    /// What the chip holds before the steps, from address 0 on.
+    pub content: &'a [u8],
+    /// As a device does them.
+    pub steps: &'a [Step],
+    /// What the chip holds after them, from address 0 on.
+    pub left: &'a [u8],
+    /// Transactions of the chip in memory, one for each step.
+    pub transactions: u128,
+    /// Most status reads of one poll.
+    pub turns: u64,
+}
