@@ -19,6 +19,6 @@ IsAsked P content a = P a ⊎ (IsEdge content a ⊎ (IsBeside P content a ⊎ Sh
 abbrev pub IsCompared : Parameters → Start → List ℕ → List Step → ℕ → Type 0
 IsCompared m start content steps a = IsInCellOf (IsAsked (IsTouched m (begins4 m start) steps) content) a
 
--- what is compared after them: the same cells, and those by which a smaller chip shows in the content that they leave
-abbrev pub IsReadBack : Parameters → Start → List ℕ → List Step → List ℕ → ℕ → Type 0
-IsReadBack m start content steps left a = IsCompared m start content steps a ⊎ IsInCellOf (ShowsWrap left) a
+-- what is compared after them: the same, and the cells by which a smaller chip shows in the content that they leave
+abbrev pub IsReadBack : (ℕ → Type 0) → List ℕ → ℕ → Type 0
+IsReadBack P left a = P a ⊎ IsInCellOf (ShowsWrap left) a

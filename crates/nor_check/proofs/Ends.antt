@@ -16,7 +16,7 @@ use Rattle.nor_check.specs.declared.verdict.Verdict.{Verdict}
 use Rattle.nor_check.specs.declared.verdict.Verdict.TheVariants.{Yes, No}
 use Rattle.nor_check.specs.declared.verdict.Why.TheVariants as why
 use Rattle.nor_check.specs.Order.{is_before}
-use Rattle.nor_check.specs.Outcome.{first_difference, at_difference, ended, outcome_from, outcome}
+use Rattle.nor_check.specs.Outcome.{trial, first_difference, at_difference, ended, outcome_from, outcome}
 use Rattle.nor_check.specs.Worst.{IsWorst}
 use Rattle.nor_check.proofs.Found.{same_arrays, none_differs}
 
@@ -96,7 +96,7 @@ none_before_yes Yes h = refl
 none_before_yes (No n b) h = cc
 
 pub yes_exactly : (m : Parameters) (start : Start) (content target : List ℕ) (steps : List Step) (v : Verdict) → KeepsSize → PollEnds
-    → length content ≡ length target → IsWorst m start content target steps v → (v ≡ Yes) ↔ DoesTaskOnEvery m start content target steps
+    → length content ≡ length target → IsWorst (trial m start content target steps) v → (v ≡ Yes) ↔ DoesTaskOnEvery m start content target steps
 yes_exactly m start content target steps v keeps ends sizes worst = (
   λ yes s is.
       yes_does s content target steps keeps ends sizes

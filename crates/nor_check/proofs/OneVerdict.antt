@@ -1,16 +1,14 @@
 -- Two worst verdicts are one.
 use Rattle.std.proofs.Common.{◌≡◌, ℕ, ◌+◌, ◌<◌, ◌==◌, if◌then◌else◌, Bool, true, false, List, length, get_or, drop, refl, sym, ◌∙◌, ap, arith, inl, inr, subst}
-use Rattle.nor_base.specs.declared.meaning.Start.{Start}
-use Rattle.nor_base.specs.declared.step.Step.{Step}
 use Rattle.nor_base.specs.declared.wrong.Wrong.{Wrong}
 use Rattle.nor_base.specs.declared.wrong.Wrong.TheVariants as wrong
-use Rattle.nor_base.specs.Parameters.{Parameters}
 use Rattle.nor_check.specs.declared.verdict.Verdict.{Verdict}
 use Rattle.nor_check.specs.declared.verdict.Verdict.TheVariants.{Yes, No}
 use Rattle.nor_check.specs.declared.verdict.Why.{Why}
 use Rattle.nor_check.specs.declared.verdict.Why.TheVariants as why
 use Rattle.nor_check.specs.Order.{rank, rank_of, is_before, earlier}
 use Rattle.nor_check.specs.Chips.{Together}
+use Rattle.nor_check.specs.Outcome.{Trial}
 use Rattle.nor_check.specs.Pages.{worst_of}
 use Rattle.std.proofs.lemmas.List.{at_drop_more}
 use Rattle.nor_check.specs.Worst.{IsWorst}
@@ -70,15 +68,12 @@ same_verdict (No k a) (No n b) (inr same) (inr too) =
     ap (λ m. No m a) same.0 ∙ ap (No n) (same_cause a b ranks)
 
 -- what is worst is no later than any outcome, and so than what is worst
-no_later : (m : Parameters) (start : Start) (content target : List ℕ) (steps : List Step) (v u : Verdict) → IsWorst m start content target steps v
-    → IsWorst m start content target steps u → IsNoLater v u
-no_later m start content target steps v u first second =
+no_later : (t : Trial) (v u : Verdict) → IsWorst t v → IsWorst t u → IsNoLater v u
+no_later t v u first second =
     untold v u (subst (λ (t : Verdict). is_before t v ≡ false) second.so (first.first second.chip second.is))
 
-pub one_worst : (m : Parameters) (start : Start) (content target : List ℕ) (steps : List Step) (v u : Verdict) → IsWorst m start content target steps v
-    → IsWorst m start content target steps u → v ≡ u
-one_worst m start content target steps v u first second =
-    same_verdict v u (no_later m start content target steps v u first second) (no_later m start content target steps u v second first)
+pub one_worst : (t : Trial) (v u : Verdict) → IsWorst t v → IsWorst t u → v ≡ u
+one_worst t v u first second = same_verdict v u (no_later t v u first second) (no_later t u v second first)
 
 -- the order of three
 below_both : (a v u : Verdict) → IsNoLater a v → IsNoLater a u → IsNoLater a (earlier v u)

@@ -6,12 +6,10 @@ use Rattle.std.specs.Str.{bytes_eq}
 use Rattle.nor_laws.proofs.EffectLaws.{taken}
 use Rattle.nor_laws.proofs.VerifyLaws.{status_begins}
 use Rattle.std.proofs.lemmas.Bool.{and_parts, cases_eq, ne_eqb, or_left}
-use Rattle.nor_base.specs.declared.meaning.Start.{Start}
 use Rattle.nor_base.specs.declared.step.Step.{Step}
 use Rattle.nor_base.specs.declared.step.Step.TheVariants.{Send, Poll, Verify}
 use Rattle.nor_base.specs.declared.wrong.Wrong.{Wrong}
 use Rattle.nor_base.specs.declared.wrong.Wrong.TheVariants as wrong
-use Rattle.nor_base.specs.Parameters.{Parameters}
 use Rattle.nor_base.specs.Chip.{Chip, is_busy, is_settled, is_mode, first_mode4, may_page, page_sizes}
 use Rattle.nor_base.specs.Decoding.{Instruction, decode}
 use Rattle.nor_base.specs.Effect.{effect_of, is_status}
@@ -23,7 +21,7 @@ use Rattle.nor_check.specs.declared.verdict.Verdict.TheVariants.{Yes, No}
 use Rattle.nor_check.specs.declared.verdict.Why.{Why}
 use Rattle.nor_check.specs.declared.verdict.Why.TheVariants as why
 use Rattle.nor_check.specs.Order.{is_before}
-use Rattle.nor_check.specs.Outcome.{first_difference, at_difference, outcome_from}
+use Rattle.nor_check.specs.Outcome.{Trial, first_difference, at_difference, outcome_from}
 use Rattle.nor_check.specs.Witness.{is_status_read, in_a_row, reads_from, reads_before, Witnesses, EachNoIsShown, FewReads, even}
 use Rattle.nor_check.specs.Chips.{Kind, Chips, one_like, latch_of, MayBeLeft, one_of, some_left, least_able, all_ready, begun}
 use Rattle.nor_check.specs.Judged.{later, all_taken, all_effect, all_done, all_matched, all_step, judge_on, judged, judged_with, is_other_page}
@@ -249,58 +247,55 @@ of_two : (v u : Verdict) (b : Bool) (j : ℕ) (cause : Why) → (if b then u els
 of_two v u true j cause h = inr h
 of_two v u false j cause h = inl h
 
-pub record Found (m : Parameters) (start : Start) (content target : List ℕ) (steps : List Step) (j : ℕ) (cause : Why) : Type 0 where
+pub record Found (t : Trial) (j : ℕ) (cause : Why) : Type 0 where
   pub page : ℕ
-  pub may : may_page m page ≡ true
-  pub so : judged_with m start content target steps page ≡ No j cause
+  pub may : may_page t.m page ≡ true
+  pub so : judged_with t page ≡ No j cause
 
-module _ (m : Parameters) (start : Start) (content target : List ℕ) (steps : List Step) (j : ℕ) (cause : Why) where
-  found_by : (q : ℕ) (rest : List ℕ) (b : Bool) → is_other_page m q ≡ b
-      → (judged_each target (map (with_page (begun m start m.page content)) rest) steps ≡ No j cause → Found m start content target steps j cause)
-      → judged_each target (map (with_page (begun m start m.page content)) (if b then q ∷ rest else rest)) steps ≡ No j cause
-      → Found m start content target steps j cause
+module _ (t : Trial) (j : ℕ) (cause : Why) where
+  found_by : (q : ℕ) (rest : List ℕ) (b : Bool) → is_other_page t.m q ≡ b
+      → (judged_each t.want (map (with_page (begun t.m t.start t.m.page t.have)) rest) t.steps ≡ No j cause → Found t j cause)
+      → judged_each t.want (map (with_page (begun t.m t.start t.m.page t.have)) (if b then q ∷ rest else rest)) t.steps ≡ No j cause → Found t j cause
   found_by q rest true other more h =
-      elim (of_two (judged_with m start content target steps q) (judged_each target (map (with_page (begun m start m.page content)) rest) steps)
-      (is_before (judged_each target (map (with_page (begun m start m.page content)) rest) steps) (judged_with m start content target steps q)) j cause h) [
-        | inl here ↦ record { page = q; may = (and_parts (not (q == m.page)) (may_page m q) other).1; so = here }
+      elim (of_two (judged_with t q) (judged_each t.want (map (with_page (begun t.m t.start t.m.page t.have)) rest) t.steps)
+      (is_before (judged_each t.want (map (with_page (begun t.m t.start t.m.page t.have)) rest) t.steps) (judged_with t q)) j cause h) [
+        | inl here ↦ record { page = q; may = (and_parts (not (q == t.m.page)) (may_page t.m q) other).1; so = here }
         | inr there ↦ more there
       ]
   found_by q rest false other more h = more h
 
-  found_others : (sizes : List ℕ) → judged_each target (map (with_page (begun m start m.page content)) (others m sizes)) steps ≡ No j cause
-      → Found m start content target steps j cause
+  found_others : (sizes : List ℕ) → judged_each t.want (map (with_page (begun t.m t.start t.m.page t.have)) (others t.m sizes)) t.steps ≡ No j cause → Found t j cause
   found_others [] h = cc
-  found_others (q ∷ sizes) h = found_by q (others m sizes) (is_other_page m q) refl (found_others sizes) h
+  found_others (q ∷ sizes) h = found_by q (others t.m sizes) (is_other_page t.m q) refl (found_others sizes) h
 
-  found : judged_each target (begun_each m start content) steps ≡ No j cause → Found m start content target steps j cause
+  found : judged_each t.want (begun_each t.m t.start t.have) t.steps ≡ No j cause → Found t j cause
   found h =
-      elim (of_two (judged_with m start content target steps m.page) (judged_each target (map (with_page (begun m start m.page content)) (others m page_sizes)) steps)
-      (is_before (judged_each target (map (with_page (begun m start m.page content)) (others m page_sizes)) steps) (judged_with m start content target steps m.page)) j cause h) [
-        | inl here ↦ record { page = m.page; may = or_left (m.page == m.page) _ (eq-eqb m.page m.page refl); so = here }
+      elim (of_two (judged_with t t.m.page) (judged_each t.want (map (with_page (begun t.m t.start t.m.page t.have)) (others t.m page_sizes)) t.steps)
+      (is_before (judged_each t.want (map (with_page (begun t.m t.start t.m.page t.have)) (others t.m page_sizes)) t.steps) (judged_with t t.m.page)) j cause h) [
+        | inl here ↦ record { page = t.m.page; may = or_left (t.m.page == t.m.page) _ (eq-eqb t.m.page t.m.page refl); so = here }
         | inr there ↦ found_others page_sizes there
       ]
 
-  pub on_page : PollEnds → VerifyKeeps → (n : ℕ) (f : Found m start content target steps j cause) → reads_before j steps < n
-      → Witnesses m start content target steps j cause (even n (j == length steps) f.page)
+  pub on_page : PollEnds → VerifyKeeps → (n : ℕ) (f : Found t j cause) → reads_before j t.steps < n → Witnesses t j cause (even n (j == length t.steps) f.page)
   on_page ends quiet n f low =
-      let k : Kind = record { meaning = m; start = start; page = f.page } in
-      let w = all_ready k content in
-      let told = tells k target steps w 0 0 j cause quiet (omega arith) f.so in
+      let k : Kind = record { meaning = t.m; start = t.start; page = f.page } in
+      let w = all_ready k t.have in
+      let told = tells k t.want t.steps w 0 0 j cause quiet (omega arith) f.so in
       let few = told.within in
       record {
         may = f.may;
         shows = λ many enough.
-            let even : IsEven w n 0 0 (replicate many n) steps =
+            let even : IsEven w n 0 0 (replicate many n) t.steps =
             record { may = refl; enough = λ is. cc; count = many; same = refl; many = enough } in
-            subst (λ b. outcome_from (one_like k (replicate many n) b) (one_of w b 0 (replicate many n)) target steps ≡ No j cause) told.last
-            (shows k target n (replicate many n) ends quiet steps w 0 0 (replicate many n) even (omega (arith, few, low)) ∙ f.so);
+            subst (λ b. outcome_from (one_like k (replicate many n) b) (one_of w b 0 (replicate many n)) t.want t.steps ≡ No j cause) told.last
+            (shows k t.want n (replicate many n) ends quiet t.steps w 0 0 (replicate many n) even (omega (arith, few, low)) ∙ f.so);
       }
 
 pub each_no_is_shown : PollEnds → VerifyKeeps → EachNoIsShown
-each_no_is_shown ends quiet m start have want steps step cause worst =
-    let same = one_worst m start have want steps (judged_each want (begun_each m start have) steps) (No step cause) (worst_of_each m start have want steps ends quiet) worst in
-    let f = found m start have want steps step cause same in
-    (f.page, λ n low. on_page m start have want steps step cause ends quiet n f low)
+each_no_is_shown ends quiet t step cause worst =
+    let same = one_worst t (judged_each t.want (begun_each t.m t.start t.have) t.steps) (No step cause) (worst_of_each t ends quiet) worst in
+    let f = found t step cause same in
+    (f.page, λ n low. on_page t step cause ends quiet n f low)
 
 few_from : (steps : List Step) (n reads : ℕ) → reads_from reads n steps ≤ reads + n
 unfolding reads_from

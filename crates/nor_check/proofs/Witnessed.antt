@@ -3,7 +3,6 @@ use Rattle.std.proofs.Common.{◌≡◌, ℕ, zero, suc, ◌+◌, ◌<◌, ◌�
 use Rattle.std.specs.Prelude.{slice_set, is_some}
 use Rattle.std.proofs.lemmas.Bool.{and_parts, or_left}
 use Rattle.std.proofs.lemmas.List.{drop_more, drop-set-lt, drop-drop}
-use Rattle.nor_base.specs.declared.meaning.Start.{Start}
 use Rattle.nor_base.specs.declared.step.Step.{Step}
 use Rattle.nor_base.specs.declared.wrong.Wrong.{Wrong}
 use Rattle.nor_base.specs.declared.wrong.Wrong.TheVariants as wrong
@@ -12,11 +11,12 @@ use Rattle.nor_base.specs.Chip.{is_settled, may_page, page_sizes}
 use Rattle.nor_laws.specs.Laws.{PollEnds}
 use Rattle.nor_laws.specs.Spelling.{VerifyKeeps}
 use Rattle.nor_check.specs.declared.verdict.Verdict.{Verdict}
-use Rattle.nor_check.specs.declared.verdict.Verdict.TheVariants.{No}
+use Rattle.nor_check.specs.declared.verdict.Verdict.TheVariants.{Yes, No}
+use Rattle.nor_check.specs.declared.verdict.Witness.{Witness}
 use Rattle.nor_check.specs.declared.verdict.Why.{Why}
 use Rattle.nor_check.specs.declared.verdict.Why.TheVariants as why
 use Rattle.nor_check.specs.Order.{is_before, earlier}
-use Rattle.nor_check.specs.Outcome.{first_difference, at_difference, at_end}
+use Rattle.nor_check.specs.Outcome.{Trial, first_difference, at_difference, at_end}
 use Rattle.nor_check.specs.Chips.{Kind, Chips, Together, one_like, last_settled, begun}
 use Rattle.nor_check.specs.Judged.{later, StepsAll, all_step, judge_on, judged, is_other_page}
 use Rattle.nor_check.specs.Pages.{IsOneOf, IsRefusedBy, IsToldBy, IsJudgedBy, StepsEach, begun_each, each_step, first_of, is_sooner, joined, judged_each, others, page_by_page, with_page}
@@ -121,53 +121,51 @@ found_if m q t own rest true P is here more (inl same) = here is same
 found_if m q t own rest true P is here more (inr there) = more there
 found_if m q t own rest false P is here more h = more h
 
-module _ (m : Parameters) (start : Start) (content target : List ℕ) (steps : List Step) (j : ℕ) (cause : Why) where
+module _ (t : Trial) (j : ℕ) (cause : Why) where
   -- a page of which some show a no has chips that show it
   Shows : ℕ → Type 0
-  Shows page = (may_page m page ≡ true) × (judged (record { meaning = m; start = start; page = page }) target (begun m start m.page content).chips steps ≡ No j cause)
+  Shows page = (may_page t.m page ≡ true) × (judged (record { meaning = t.m; start = t.start; page = page }) t.want (begun t.m t.start t.m.page t.have).chips t.steps ≡ No j cause)
 
-  at_page : (q page : ℕ) (t : Together) → may_page m q ≡ true → t ≡ with_page (begun m start m.page content) q → t.kind.page ≡ page
-      → judged t.kind target t.chips steps ≡ No j cause → Shows page
+  at_page : (q page : ℕ) (c : Together) → may_page t.m q ≡ true → c ≡ with_page (begun t.m t.start t.m.page t.have) q → c.kind.page ≡ page
+      → judged c.kind t.want c.chips t.steps ≡ No j cause → Shows page
   unfolding Shows
-  at_page q page t may same its so =
+  at_page q page c may same its so =
       let here : q ≡ page = ap (λ (u : Together). u.kind.page) (sym same) ∙ its in (
-        subst (λ n. may_page m n ≡ true) here may,
-        subst (λ n. judged (record { meaning = m; start = start; page = n }) target (begun m start m.page content).chips steps ≡ No j cause) here
-            (subst (λ (u : Together). judged u.kind target u.chips steps ≡ No j cause) same so),
+        subst (λ n. may_page t.m n ≡ true) here may,
+        subst (λ n. judged (record { meaning = t.m; start = t.start; page = n }) t.want (begun t.m t.start t.m.page t.have).chips t.steps ≡ No j cause) here
+            (subst (λ (u : Together). judged u.kind t.want u.chips t.steps ≡ No j cause) same so),
       )
 
-  among_others : (sizes : List ℕ) (page : ℕ) (t : Together) → IsOneOf t (map (with_page (begun m start m.page content)) (others m sizes)) → t.kind.page ≡ page
-      → judged t.kind target t.chips steps ≡ No j cause → Shows page
-  among_others [] page t h its so = absurd h
-  among_others (q ∷ sizes) page t h its so =
-      found_if m q t (begun m start m.page content) (others m sizes) (is_other_page m q) (Shows page) refl
-      (λ other same. at_page q page t (and_parts (not (q == m.page)) (may_page m q) other).1 same its so) (λ there. among_others sizes page t there its so) h
+  among_others : (sizes : List ℕ) (page : ℕ) (c : Together) → IsOneOf c (map (with_page (begun t.m t.start t.m.page t.have)) (others t.m sizes)) → c.kind.page ≡ page
+      → judged c.kind t.want c.chips t.steps ≡ No j cause → Shows page
+  among_others [] page c h its so = absurd h
+  among_others (q ∷ sizes) page c h its so =
+      found_if t.m q c (begun t.m t.start t.m.page t.have) (others t.m sizes) (is_other_page t.m q) (Shows page) refl
+      (λ other same. at_page q page c (and_parts (not (q == t.m.page)) (may_page t.m q) other).1 same its so) (λ there. among_others sizes page c there its so) h
 
-  among_all : (page : ℕ) (t : Together) → IsOneOf t (begun_each m start content) → t.kind.page ≡ page → judged t.kind target t.chips steps ≡ No j cause → Shows page
-  among_all page t (inl own) its so = at_page m.page page t (or_left (m.page == m.page) _ (eq-eqb m.page m.page refl)) own its so
-  among_all page t (inr other) its so = among_others page_sizes page t other its so
+  among_all : (page : ℕ) (c : Together) → IsOneOf c (begun_each t.m t.start t.have) → c.kind.page ≡ page → judged c.kind t.want c.chips t.steps ≡ No j cause → Shows page
+  among_all page c (inl own) its so = at_page t.m.page page c (or_left (t.m.page == t.m.page) _ (eq-eqb t.m.page t.m.page refl)) own its so
+  among_all page c (inr other) its so = among_others page_sizes page c other its so
 
-pub begins_shown : (m : Parameters) (start : Start) (content target : List ℕ) (steps : List Step) (step : ℕ) (cause : Why) (own page reads n : ℕ) → PollEnds → VerifyKeeps
-    → (ts : List Together) → ts ≡ begun_each m start content
-    → IsShown (record { target = target; number = 0; chips = ts; stopped = None; page = own; reads = 0 }) steps step cause page reads → reads < n
-    → Witnesses m start content target steps step cause (even n (step == length steps) page)
+pub begins_shown : (t : Trial) (step : ℕ) (cause : Why) (own : ℕ) (w : Witness) (n : ℕ) → PollEnds → VerifyKeeps → (ts : List Together) → ts ≡ begun_each t.m t.start t.have
+    → IsShown (record { target = t.want; number = 0; chips = ts; stopped = None; page = own; reads = 0 }) t.steps (No step cause) w → w.reads < n
+    → Witnesses t step cause (even n (step == length t.steps) w.page)
 unfolding IsShown Shows
-begins_shown m start content target steps step cause own page reads n ends quiet ts is h low =
+begins_shown t step cause own w n ends quiet ts is h low =
     let same : h.0 ≡ step = omega (arith, h.1) in
     let of = h.2 in
-    let shows = among_all m start content target steps h.0 cause page of.these (subst (IsOneOf of.these) is of.among) of.its_page of.so in
-    let few : reads_before h.0 steps < n = omega (arith, h.3, low) in
-    subst (λ j. Witnesses m start content target steps j cause (even n (j == length steps) page)) same
-    (on_page m start content target steps h.0 cause ends quiet n (record { page = page; may = shows.0; so = shows.1 }) few)
+    let shows = among_all t h.0 cause w.page of.these (subst (IsOneOf of.these) is of.among) of.its_page of.so in
+    let few : reads_before h.0 t.steps < n = omega (arith, h.3, low) in
+    subst (λ j. Witnesses t j cause (even n (j == length t.steps) w.page)) same
+    (on_page t h.0 cause ends quiet n (record { page = w.page; may = shows.0; so = shows.1 }) few)
 
 -- the number of status reads is that of those right before
-pub begins_counted : (target : List ℕ) (ts : List Together) (steps : List Step) (step : ℕ) (cause : Why) (own page reads : ℕ)
-    → IsShown (record { target = target; number = 0; chips = ts; stopped = None; page = own; reads = 0 }) steps step cause page reads
-    → reads ≡ reads_before step steps
+pub begins_counted : (target : List ℕ) (ts : List Together) (steps : List Step) (step : ℕ) (cause : Why) (own : ℕ) (w : Witness)
+    → IsShown (record { target = target; number = 0; chips = ts; stopped = None; page = own; reads = 0 }) steps (No step cause) w → w.reads ≡ reads_before step steps
 unfolding IsShown
-begins_counted target ts steps step cause own page reads h =
+begins_counted target ts steps step cause own w h =
     let same : h.0 ≡ step = omega (arith, h.1) in
-    subst (λ j. reads ≡ reads_before j steps) same (sym h.3)
+    subst (λ j. w.reads ≡ reads_before j steps) same (sym h.3)
 
 -- one step more
 later_of : (v : Verdict) (i : ℕ) (cause : Why) → v ≡ No i cause → later v ≡ No (suc i) cause
@@ -206,11 +204,12 @@ module _ (target : List ℕ) (number reads own then_own : ℕ) (ts after : List 
   abbrev old : Fed
   old = record { target = target; number = number; chips = ts; stopped = None; page = own; reads = reads }
 
-  stepped : (step : ℕ) (cause : Why) (page row : ℕ) → each_step ts x ≡ Ok after
-      → IsShown (record { target = target; number = number + 1; chips = after; stopped = None; page = then_own; reads = in_a_row reads x }) more step cause page row
-      → IsShown old (x ∷ more) step cause page row
+  stepped : (v : Verdict) (w : Witness) → each_step ts x ≡ Ok after
+      → IsShown (record { target = target; number = number + 1; chips = after; stopped = None; page = then_own; reads = in_a_row reads x }) more v w
+      → IsShown old (x ∷ more) v w
   unfolding IsShown judged reads_from
-  stepped step cause page row is h =
+  stepped Yes w is h = absurd h
+  stepped (No step cause) w is h =
       let of = h.2 in
       let from = came_from target x more ts after of.these is of.among in (
         suc h.0,
@@ -226,11 +225,12 @@ module _ (target : List ℕ) (number reads own then_own : ℕ) (ts after : List 
         h.3,
       )
 
-  stopped_by : (step : ℕ) (cause : Why) (page row : ℕ) (wrong : Wrong) → IsRefusedBy ts x wrong then_own
-      → IsShown (record { target = target; number = number + 1; chips = after; stopped = Some (No number (why.Wrong wrong)); page = then_own; reads = reads }) more step cause page row
-      → IsShown old (x ∷ more) step cause page row
+  stopped_by : (v : Verdict) (w : Witness) (wrong : Wrong) → IsRefusedBy ts x wrong then_own
+      → IsShown (record { target = target; number = number + 1; chips = after; stopped = Some (No number (why.Wrong wrong)); page = then_own; reads = reads }) more v w
+      → IsShown old (x ∷ more) v w
   unfolding IsShown judged reads_from
-  stopped_by step cause page row wrong told h =
+  stopped_by Yes w wrong told h = let clash = h.0 in cc
+  stopped_by (No step cause) w wrong told h =
       let number_is : number ≡ step = cc in
       let cause_is : why.Wrong wrong ≡ cause = cc in (
         0,
@@ -246,33 +246,31 @@ module _ (target : List ℕ) (number reads own then_own : ℕ) (ts after : List 
 
 -- what is shown after a step is shown before it
 pub feeds_shown : (target : List ℕ) (number reads then_reads own then_own : ℕ) (ts after : List Together) (x : Step) (more : List Step) (o : Option Verdict)
-    (r : Result (Unit {0}) Wrong) (step : ℕ) (cause : Why) (page row : ℕ) → false ≡ is_some o → StepsEach ts after r x → IsToldBy ts r x then_own
-    → then_reads ≡ reads_after reads x r
-    → IsShown (record { target = target; number = number + 1; chips = after; stopped = verdict_at number r; page = then_own; reads = then_reads }) more step cause page row
-    → IsShown (record { target = target; number = number; chips = ts; stopped = o; page = own; reads = reads }) (x ∷ more) step cause page row
-feeds_shown target number reads then_reads own then_own ts after x more (Some v) r step cause page row none is told counted h = cc
-feeds_shown target number reads then_reads own then_own ts after x more None (Ok u) step cause page row none is told counted h =
-    stepped target number reads own then_own ts after x more step cause page row is
-    (subst (λ n. IsShown (record { target = target; number = number + 1; chips = after; stopped = None; page = then_own; reads = n }) more step cause page row) counted h)
-feeds_shown target number reads then_reads own then_own ts after x more None (Err wrong) step cause page row none is told counted h =
-    stopped_by target number reads own then_own ts after x more step cause page row wrong told
-    (subst (λ n. IsShown (record { target = target; number = number + 1; chips = after; stopped = Some (No number (why.Wrong wrong)); page = then_own; reads = n }) more step cause page row)
+    (r : Result (Unit {0}) Wrong) (v : Verdict) (w : Witness) → false ≡ is_some o → StepsEach ts after r x → IsToldBy ts r x then_own → then_reads ≡ reads_after reads x r
+    → IsShown (record { target = target; number = number + 1; chips = after; stopped = verdict_at number r; page = then_own; reads = then_reads }) more v w
+    → IsShown (record { target = target; number = number; chips = ts; stopped = o; page = own; reads = reads }) (x ∷ more) v w
+feeds_shown target number reads then_reads own then_own ts after x more (Some u) r v w none is told counted h = cc
+feeds_shown target number reads then_reads own then_own ts after x more None (Ok u) v w none is told counted h =
+    stepped target number reads own then_own ts after x more v w is
+    (subst (λ n. IsShown (record { target = target; number = number + 1; chips = after; stopped = None; page = then_own; reads = n }) more v w) counted h)
+feeds_shown target number reads then_reads own then_own ts after x more None (Err wrong) v w none is told counted h =
+    stopped_by target number reads own then_own ts after x more v w wrong told
+    (subst (λ n. IsShown (record { target = target; number = number + 1; chips = after; stopped = Some (No number (why.Wrong wrong)); page = then_own; reads = n }) more v w)
     counted h)
 
 -- once a verdict is reached it stays
-pub stays_shown : (target : List ℕ) (number later_on own reads : ℕ) (ts : List Together) (x : Step) (more : List Step) (o : Option Verdict) (step : ℕ) (cause : Why) (page row : ℕ)
-    → true ≡ is_some o
-    → IsShown (record { target = target; number = later_on; chips = ts; stopped = o; page = own; reads = reads }) more step cause page row
-    → IsShown (record { target = target; number = number; chips = ts; stopped = o; page = own; reads = reads }) (x ∷ more) step cause page row
+pub stays_shown : (target : List ℕ) (number later_on own reads : ℕ) (ts : List Together) (x : Step) (more : List Step) (o : Option Verdict) (v : Verdict) (w : Witness)
+    → true ≡ is_some o → IsShown (record { target = target; number = later_on; chips = ts; stopped = o; page = own; reads = reads }) more v w
+    → IsShown (record { target = target; number = number; chips = ts; stopped = o; page = own; reads = reads }) (x ∷ more) v w
 unfolding IsShown
-stays_shown target number later_on own reads ts x more None step cause page row some h = cc
-stays_shown target number later_on own reads ts x more (Some v) step cause page row some h = h
+stays_shown target number later_on own reads ts x more None v w some h = cc
+stays_shown target number later_on own reads ts x more (Some u) v w some h = h
 
 -- at the end
-pub reached_shown : (f : Fed) (v : Verdict) (step : ℕ) (cause : Why) → f.stopped ≡ Some v → to_come f [] ≡ No step cause → IsShown f [] step cause f.page f.reads
+pub reached_shown : (f : Fed) (v : Verdict) (step : ℕ) (cause : Why) → f.stopped ≡ Some v → to_come f [] ≡ No step cause → IsShown f [] (No step cause) (record { reads = f.reads; page = f.page })
 unfolding IsShown to_come
 reached_shown f v step cause is h =
-    subst (λ (o : Option Verdict). IsShownBy o f [] step cause f.page f.reads) (sym is)
+    subst (λ (o : Option Verdict). IsShownBy o f [] (No step cause) (record { reads = f.reads; page = f.page })) (sym is)
     (ap (λ (o : Option Verdict). reached o (after_steps f.number (judged_each f.target f.chips []))) (sym is) ∙ h, refl, refl)
 
 zero_at : (n : ℕ) (b : Bool) (o : Option ℕ) (step : ℕ) (cause : Why) → (if b then at_difference n o else No n (why.Wrong wrong.NotIdleAtEnd)) ≡ No step cause
@@ -283,11 +281,11 @@ zero_at n false o step cause h = let number : n ≡ step = cc in let same : why.
 
 pub ends_shown : (target : List ℕ) (n own page reads : ℕ) (ts : List Together) (o : Option Verdict) (v : Verdict) (step : ℕ) (cause : Why) → o ≡ None
     → IsJudgedBy (λ t. at_end (one_like t.kind [] true) target n (last_settled t.chips)) ts v page → v ≡ No step cause
-    → IsShown (record { target = target; number = n; chips = ts; stopped = o; page = own; reads = reads }) [] step cause page reads
+    → IsShown (record { target = target; number = n; chips = ts; stopped = o; page = own; reads = reads }) [] (No step cause) (record { reads = reads; page = page })
 unfolding IsShown judged reads_from
 ends_shown target n own page reads ts o v step cause none told is =
     let ends = zero_at n (is_settled (one_like told.these.kind [] true) (last_settled told.these.chips)) (first_difference told.these.chips.array target) step cause (told.so ∙ is) in
-    subst (λ (o : Option Verdict). IsShownBy o (record { target = target; number = n; chips = ts; stopped = o; page = own; reads = reads }) [] step cause page reads) (sym none)
+    subst (λ (o : Option Verdict). IsShownBy o (record { target = target; number = n; chips = ts; stopped = o; page = own; reads = reads }) [] (No step cause) (record { reads = reads; page = page })) (sym none)
     (0, omega (arith, ends.0), record { these = told.these; among = told.among; its_page = told.its_page; so = ends.1 }, refl)
 
 pub reads_most : (reads number : ℕ) (x : Step) (r : Result (Unit {0}) Wrong) → reads ≤ number → reads_after reads x r ≤ number + 1

@@ -2,13 +2,13 @@
 use Rattle.std.specs.Prelude.{◌≡◌, ℕ, ◌+◌, List, Option, Some, None, Result, Ok, Err}
 use Rattle.nor_base.specs.declared.step.Step.{Step}
 use Rattle.nor_base.specs.declared.wrong.Wrong.{Wrong}
-use Rattle.nor_check.specs.declared.verdict.Why.{Why}
 use Rattle.nor_check.specs.declared.verdict.Why.TheVariants as why
 use Rattle.nor_check.specs.declared.verdict.Verdict.{Verdict}
 use Rattle.nor_check.specs.declared.verdict.Verdict.TheVariants.{Yes, No}
+use Rattle.nor_check.specs.declared.verdict.Witness.{Witness}
 use Rattle.nor_check.specs.Chips.{Together}
 use Rattle.nor_check.specs.Judged.{judged}
-use Rattle.nor_check.specs.Pages.{IsOneOf, judged_each}
+use Rattle.nor_check.specs.Pages.{IsJudgedBy, judged_each}
 use Rattle.nor_check.specs.Witness.{in_a_row, reads_from}
 
 -- a checker after some steps: what the chips are to hold at the end, how many steps there were, the chips of each page, the
@@ -44,18 +44,13 @@ reads_after reads x (Err cause) = reads
 unfoldable pub to_come : Fed → List Step → Verdict
 to_come f more = reached f.stopped (after_steps f.number (judged_each f.target f.chips more))
 
--- the chips of a page, one of some, show this from a moment on
-pub record IsOfPage (target : List ℕ) (ts : List Together) (more : List Step) (at : ℕ) (cause : Why) (page : ℕ) : Type 0 where
-  pub these : Together
-  pub among : IsOneOf these ts
-  pub its_page : these.kind.page ≡ page
-  pub so : judged these.kind target these.chips more ≡ No at cause
+abbrev pub IsShownBy : Option Verdict → Fed → List Step → Verdict → Witness → Type 0
+IsShownBy (Some verdict) f more v w = (verdict ≡ v) × (f.page ≡ w.page) × (f.reads ≡ w.reads)
+IsShownBy None f more Yes w = ⊥
+IsShownBy None f more (No step cause) w =
+    (at : ℕ) × (step ≡ at + f.number) × IsJudgedBy (λ t. judged t.kind f.target t.chips more) f.chips (No at cause) w.page × (reads_from f.reads at more ≡ w.reads)
 
-abbrev pub IsShownBy : Option Verdict → Fed → List Step → ℕ → Why → ℕ → ℕ → Type 0
-IsShownBy (Some verdict) f more step cause page reads = (verdict ≡ No step cause) × (f.page ≡ page) × (f.reads ≡ reads)
-IsShownBy None f more step cause page reads =
-    (at : ℕ) × (step ≡ at + f.number) × IsOfPage f.target f.chips more at cause page × (reads_from f.reads at more ≡ reads)
-
--- if these steps come, and then the end, the chips of this page go wrong at this step so, right after so many status reads
-unfoldable pub IsShown : Fed → List Step → ℕ → Why → ℕ → ℕ → Type 0
-IsShown f more step cause page reads = IsShownBy f.stopped f more step cause page reads
+-- if these steps come, and then the end, the chips of the witness's page go wrong as this verdict says, right after so many status
+-- reads
+unfoldable pub IsShown : Fed → List Step → Verdict → Witness → Type 0
+IsShown f more v w = IsShownBy f.stopped f more v w

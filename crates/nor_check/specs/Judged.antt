@@ -2,7 +2,6 @@
 use Rattle.std.specs.Prelude.{◌≡◌, ℕ, Bool, true, false, ◌+◌, ◌==◌, not, ◌&&◌, if◌then◌else◌, List, [], ◌∷◌, Option, Some, None, Result, Ok, Err}
 use Rattle.std.specs.Str.{bytes_eq}
 use Rattle.nor_base.specs.declared.instruction.What.{What}
-use Rattle.nor_base.specs.declared.meaning.Start.{Start}
 use Rattle.nor_base.specs.declared.step.Step.{Step}
 use Rattle.nor_base.specs.declared.step.Step.TheVariants.{Send, Poll, Verify}
 use Rattle.nor_base.specs.declared.wrong.Wrong.{Wrong}
@@ -16,7 +15,7 @@ use Rattle.nor_check.specs.declared.chips.Latches.TheVariants.{Clear}
 use Rattle.nor_check.specs.declared.verdict.Verdict.{Verdict}
 use Rattle.nor_check.specs.declared.verdict.Verdict.TheVariants.{Yes, No}
 use Rattle.nor_check.specs.declared.verdict.Why.TheVariants as why
-use Rattle.nor_check.specs.Outcome.{at_end}
+use Rattle.nor_check.specs.Outcome.{Trial, at_end}
 use Rattle.nor_check.specs.Chips.{Kind, Chips, Together, one_like, least_able, last_settled, all_after, all_ready}
 
 -- all of them after an instruction that the least able chip takes
@@ -70,10 +69,9 @@ judged k target w [] = at_end (one_like k [] true) target 0 (last_settled w)
 judged k target w (x ∷ xs) = judge_on (all_step k w x) (λ after. judged k target after xs)
 
 -- on all ready chips with a page of a size
-abbrev pub judged_with : Parameters → Start → List ℕ → List ℕ → List Step → ℕ → Verdict
-judged_with m start content target steps page =
-    let k : Kind = record { meaning = m; start = start; page = page } in
-    judged k target (all_ready k content) steps
+abbrev pub judged_with : Trial → ℕ → Verdict
+judged_with t page =
+    let k : Kind = record { meaning = t.m; start = t.start; page = page } in judged k t.want (all_ready k t.have) t.steps
 
 -- another page than the meaning's own that a chip may have
 abbrev pub is_other_page : Parameters → ℕ → Bool

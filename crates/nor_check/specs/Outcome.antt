@@ -1,13 +1,26 @@
 -- How a script comes out on one chip (this project's).
 use Rattle.std.specs.Prelude.{ℕ, Bool, ◌==◌, not, if◌then◌else◌, List, length, Option, Some, None, Result, Ok, Err, slice_index}
 use Rattle.std.specs.List.{find, range_with_len}
+use Rattle.nor_base.specs.declared.meaning.Start.{Start}
 use Rattle.nor_base.specs.declared.step.Step.{Step}
 use Rattle.nor_base.specs.declared.wrong.Wrong.TheVariants as wrong
+use Rattle.nor_base.specs.Parameters.{Parameters}
 use Rattle.nor_base.specs.Chip.{Setting, Chip, is_settled, ready}
 use Rattle.nor_base.specs.Run.{Stop, run}
 use Rattle.nor_check.specs.declared.verdict.Verdict.{Verdict}
 use Rattle.nor_check.specs.declared.verdict.Verdict.TheVariants.{Yes, No}
 use Rattle.nor_check.specs.declared.verdict.Why.TheVariants as why
+
+-- a chip of these parameters, its start and what it holds, what it is to hold, and the steps
+pub record Trial : Type 0 where
+  pub m : Parameters
+  pub start : Start
+  pub have : List ℕ
+  pub want : List ℕ
+  pub steps : List Step
+
+abbrev pub trial : Parameters → Start → List ℕ → List ℕ → List Step → Trial
+trial m start have want steps = record { m = m; start = start; have = have; want = want; steps = steps }
 
 -- the array has another byte there than the target
 abbrev pub differs : List ℕ → List ℕ → ℕ → Bool

@@ -8,12 +8,8 @@ use Rattle.nor_base.specs.Parameters.{Parameters}
 use Rattle.nor_base.specs.Chip.{Setting, may_page}
 use Rattle.nor_check.specs.declared.verdict.Verdict.TheVariants.{No}
 use Rattle.nor_check.specs.declared.verdict.Why.{Why}
-use Rattle.nor_check.specs.Outcome.{outcome}
+use Rattle.nor_check.specs.Outcome.{Trial, outcome}
 use Rattle.nor_check.specs.Worst.{IsWorst}
-
--- a chip whose first so many programs and erases are each busy for the same number of status reads
-abbrev pub even_chip : Parameters → Start → ℕ → ℕ → Bool → ℕ → Setting
-even_chip m start many n keeps page = record { meaning = m; start = start; page = page; busy = replicate many n; keeps = keeps }
 
 -- how such a chip is: how often each busy time says busy, whether a poll leaves it, and its page
 pub record Even : Type 0 where
@@ -24,10 +20,14 @@ pub record Even : Type 0 where
 abbrev pub even : ℕ → Bool → ℕ → Even
 even n keeps page = record { each_busy = n; keeps = keeps; page = page }
 
+-- a chip whose first so many programs and erases are each busy for the same number of status reads
+abbrev pub even_chip : Parameters → Start → ℕ → Even → Setting
+even_chip m start many e = record { meaning = m; start = start; page = e.page; busy = replicate many e.each_busy; keeps = e.keeps }
+
 -- on the chip of these numbers the steps go wrong at this step, so; as many busy times as steps are enough
-pub record Witnesses (m : Parameters) (start : Start) (have want : List ℕ) (steps : List Step) (step : ℕ) (why : Why) (e : Even) : Type 0 where
-  pub may : may_page m e.page ≡ true
-  pub shows : (many : ℕ) → length steps ≤ many → outcome (even_chip m start many e.each_busy e.keeps e.page) have want steps ≡ No step why
+pub record Witnesses (t : Trial) (step : ℕ) (why : Why) (e : Even) : Type 0 where
+  pub may : may_page t.m e.page ≡ true
+  pub shows : (many : ℕ) → length t.steps ≤ many → outcome (even_chip t.m t.start many e) t.have t.want t.steps ≡ No step why
 
 -- a status read that is sent, and not polled
 abbrev pub is_status_read : Step → Bool
@@ -51,9 +51,8 @@ reads_before n steps = reads_from 0 n steps
 -- some page shows a no with each number above that of the status reads that are sent right before; the latch is kept just where
 -- it goes wrong at the end
 abbrev pub EachNoIsShown : Type 0
-EachNoIsShown = (m : Parameters) (start : Start) (have want : List ℕ) (steps : List Step) (step : ℕ) (why : Why)
-    → IsWorst m start have want steps (No step why)
-    → (page : ℕ) × ((n : ℕ) → reads_before step steps < n → Witnesses m start have want steps step why (even n (step == length steps) page))
+EachNoIsShown = (t : Trial) (step : ℕ) (why : Why) → IsWorst t (No step why)
+    → (page : ℕ) × ((n : ℕ) → reads_before step t.steps < n → Witnesses t step why (even n (step == length t.steps) page))
 
 -- they are no more than the steps before
 abbrev pub FewReads : Type 0

@@ -6,9 +6,12 @@ ghost use Rattle.nor_base.specs.Chip.{IsPossible};
 ghost use Rattle.nor_base.specs.Run.{DoesTaskOnEvery};
 ghost use Rattle.nor_base.specs.declared.step.Step.{Step};
 ghost use Rattle.nor_base.specs.declared.step.Step.TheVariants.{Send, Poll, Verify};
+ghost use Rattle.nor_check.specs.declared.verdict.Verdict.{Verdict};
 ghost use Rattle.nor_check.specs.declared.verdict.Verdict.TheVariants.{Yes, No};
 ghost use Rattle.nor_check.specs.declared.verdict.Why.{Why};
+ghost use Rattle.nor_check.specs.declared.verdict.Witness.{Witness};
 ghost use Rattle.nor_check.specs.Fed.{IsShown, reads_after, to_come, verdict_at};
+ghost use Rattle.nor_check.specs.Outcome.{trial};
 ghost use Rattle.nor_check.specs.View.{step_of};
 ghost use Rattle.nor_check.specs.Witness.{Witnesses, reads_before, even};
 ghost use Rattle.nor_check.specs.Worst.{IsWorst};
@@ -73,17 +76,16 @@ impl<'a> StepChecker<'a> {
         requires contents { (length have.items ≡ meaning.now.size)
             × (length want.now ≡ meaning.now.size)
             × IsPossible meaning.now start }
-        ensures worst { (steps : List Step) → IsWorst meaning.now start have.items want.now steps
-            (to_come result steps) }
+        ensures worst { (steps : List Step) → IsWorst
+            (trial meaning.now start have.items want.now steps) (to_come result steps) }
         ensures yes { (steps : List Step) → (to_come result steps ≡ Yes)
             ↔ DoesTaskOnEvery meaning.now start have.items want.now steps }
-        ensures shown { (steps : List Step) (step : ℕ) (why : Why) (page reads : ℕ)
-            → IsShown result steps step why page reads
-            → (n : ℕ) → reads < n → Witnesses meaning.now start have.items want.now steps step why
-            (even n (step == length steps) page) }
-        ensures counted { (steps : List Step) (step : ℕ) (why : Why) (page reads : ℕ)
-            → IsShown result steps step why page reads
-            → reads ≡ reads_before step steps }
+        ensures shown { (steps : List Step) (step : ℕ) (why : Why) (w : Witness)
+            → IsShown result steps (No step why) w → (n : ℕ) → w.reads < n
+            → Witnesses (trial meaning.now start have.items want.now steps) step why
+            (even n (step == length steps) w.page) }
+        ensures counted { (steps : List Step) (step : ℕ) (why : Why) (w : Witness)
+            → IsShown result steps (No step why) w → w.reads ≡ reads_before step steps }
         ensures number { result.number ≡ 0 }
     {
         effects();
@@ -114,9 +116,8 @@ impl<'a> StepChecker<'a> {
         requires { self.old.number < 2 ^ 64 - 1 }
         ensures fed { IfOk result (λ _. (more : List Step)
             → to_come self.new more ≡ to_come self.old (step.now ∷ more)) }
-        ensures shown { IfOk result (λ _. (more : List Step) (at : ℕ) (why : Why) (page reads : ℕ)
-            → IsShown self.new more at why page reads
-            → IsShown self.old (step.now ∷ more) at why page reads) }
+        ensures shown { IfOk result (λ _. (more : List Step) (v : Verdict) (w : Witness)
+            → IsShown self.new more v w → IsShown self.old (step.now ∷ more) v w) }
         ensures number { IfOk result (λ _. self.new.number ≡ self.old.number + 1) }
         ensures refused { OnErr result (self.new ≡ self.old) }
     {
@@ -128,9 +129,8 @@ impl<'a> StepChecker<'a> {
         requires { self.old.number < 2 ^ 64 - 1 }
         ensures fed { IfOk result (λ _. (more : List Step)
             → to_come self.new more ≡ to_come self.old (Send clocks.now ∷ more)) }
-        ensures shown { IfOk result (λ _. (more : List Step) (step : ℕ) (why : Why) (page reads : ℕ)
-            → IsShown self.new more step why page reads
-            → IsShown self.old (Send clocks.now ∷ more) step why page reads) }
+        ensures shown { IfOk result (λ _. (more : List Step) (v : Verdict) (w : Witness)
+            → IsShown self.new more v w → IsShown self.old (Send clocks.now ∷ more) v w) }
         ensures number { IfOk result (λ _. self.new.number ≡ self.old.number + 1) }
         ensures refused { OnErr result (self.new ≡ self.old) }
     {
@@ -142,9 +142,8 @@ impl<'a> StepChecker<'a> {
         requires { self.old.number < 2 ^ 64 - 1 }
         ensures fed { IfOk result (λ _. (more : List Step)
             → to_come self.new more ≡ to_come self.old (Poll clocks.now ∷ more)) }
-        ensures shown { IfOk result (λ _. (more : List Step) (step : ℕ) (why : Why) (page reads : ℕ)
-            → IsShown self.new more step why page reads
-            → IsShown self.old (Poll clocks.now ∷ more) step why page reads) }
+        ensures shown { IfOk result (λ _. (more : List Step) (v : Verdict) (w : Witness)
+            → IsShown self.new more v w → IsShown self.old (Poll clocks.now ∷ more) v w) }
         ensures number { IfOk result (λ _. self.new.number ≡ self.old.number + 1) }
         ensures refused { OnErr result (self.new ≡ self.old) }
     {
@@ -157,9 +156,9 @@ impl<'a> StepChecker<'a> {
         requires { self.old.number < 2 ^ 64 - 1 }
         ensures fed { IfOk result (λ _. (more : List Step) →
             to_come self.new more ≡ to_come self.old (Verify clocks.now expect.now ∷ more)) }
-        ensures shown { IfOk result (λ _. (more : List Step) (step : ℕ) (why : Why) (page reads : ℕ)
-            → IsShown self.new more step why page reads
-            → IsShown self.old (Verify clocks.now expect.now ∷ more) step why page reads) }
+        ensures shown { IfOk result (λ _. (more : List Step) (v : Verdict) (w : Witness)
+            → IsShown self.new more v w
+            → IsShown self.old (Verify clocks.now expect.now ∷ more) v w) }
         ensures number { IfOk result (λ _. self.new.number ≡ self.old.number + 1) }
         ensures refused { OnErr result (self.new ≡ self.old) }
     {
@@ -171,9 +170,8 @@ impl<'a> StepChecker<'a> {
         requires { self.old.number < 2 ^ 64 - 1 }
         ensures fed { IfOk result (λ _. (more : List Step)
             → to_come self.new more ≡ to_come self.old (step_of step.entry ∷ more)) }
-        ensures shown { IfOk result (λ _. (more : List Step) (at : ℕ) (why : Why) (page reads : ℕ)
-            → IsShown self.new more at why page reads
-            → IsShown self.old (step_of step.entry ∷ more) at why page reads) }
+        ensures shown { IfOk result (λ _. (more : List Step) (v : Verdict) (w : Witness)
+            → IsShown self.new more v w → IsShown self.old (step_of step.entry ∷ more) v w) }
         ensures number { IfOk result (λ _. self.new.number ≡ self.old.number + 1) }
         ensures refused { OnErr result (self.new ≡ self.old) }
     {
@@ -201,7 +199,7 @@ impl<'a> StepChecker<'a> {
     /// A chip that shows the verdict if no step follows, where that is a no.
     pub fn witness(&self) -> Witness
         ensures { (step : ℕ) (why : Why) → to_come self.now [] ≡ No step why
-            → IsShown self.now [] step why result.page result.reads }
+            → IsShown self.now [] (No step why) result }
     {
         let page = match self.stopped {
             Some(_) => self.page,
@@ -256,7 +254,8 @@ pub fn check(
     requires want { length want.now ≡ meaning.now.size }
     requires mode { IsPossible meaning.now start.now }
     ensures worst { IfOk result
-        (λ verdict. IsWorst meaning.now start.now have.now want.now steps.now verdict) }
+        (λ verdict. IsWorst
+        (trial meaning.now start.now have.now want.now steps.now) verdict) }
     ensures yes { IfOk result (λ verdict. (verdict ≡ Yes)
         ↔ DoesTaskOnEvery meaning.now start.now have.now want.now steps.now) }
 {
@@ -283,10 +282,11 @@ pub fn check_shown(
     requires want { length want.now ≡ meaning.now.size }
     requires mode { IsPossible meaning.now start.now }
     ensures worst { IfOk result
-        (λ answer. IsWorst meaning.now start.now have.now want.now steps.now answer.0) }
+        (λ answer. IsWorst
+        (trial meaning.now start.now have.now want.now steps.now) answer.0) }
     ensures shown { IfOk result (λ answer. (step : ℕ) (why : Why) → answer.0 ≡ No step why → (n : ℕ)
         → answer.1.reads < n
-        → Witnesses meaning.now start.now have.now want.now steps.now step why
+        → Witnesses (trial meaning.now start.now have.now want.now steps.now) step why
         (even n (step == length steps.now) answer.1.page)) }
 {
     let array = Vec::from_slice(alloc, have)?;

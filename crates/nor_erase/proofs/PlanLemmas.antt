@@ -20,7 +20,7 @@ use Rattle.nor_geometry.specs.declared.unit.PlanUnit.{PlanUnit}
 use Rattle.nor_geometry.specs.declared.fault.PlanFault.TheVariants as fault
 use Rattle.nor_erase.specs.Bytes.{IsFirstDue, NoneDue, IsFirstBeyond, NoneBeyond}
 use Rattle.nor_geometry.specs.Plan.{plan_unit, IsWindow, HasPart, IsPlan, IsPlanOf, IsFault}
-use Rattle.nor_erase.specs.Tiles.{AddsTiles, IsTiling, page_if}
+use Rattle.nor_erase.specs.Tiles.{AddsBlocks, IsTiling, page_if}
 use Rattle.nor_erase.proofs.Tiling.{IsIn, IsRunTo, none_smallest}
 use Rattle.nor_erase.proofs.Steps.{IsStep, step_of, step_on, step_over, first_run, last_gap, last_sound, no_fault, near_where_due}
 use Rattle.nor_erase.proofs.Planning.{ArePlanned, none_planned, tiles_planned, gap_planned, part_differs, page_some}
@@ -97,7 +97,7 @@ pub record IsNext (m : Parameters) (at : ℕ) (have : List ℕ) (high a : ℕ) (
   pub ends : (b.start + b.size) % m.page ≡ 0
 
 pub next_is : (m : Parameters) (by : Strategy) (at : ℕ) (have want : List ℕ) (high a : ℕ) (b : Block) → IsAccepted m → IsWindow m by at (length have)
-    → IsFirstDue m have want at high a → IsSmallestAt m by a b → IsNext m at have high a b
+    → IsFirstDue m (have, want) at high a → IsSmallestAt m by a b → IsNext m at have high a b
 next_is m by at have want high a b accepted w f h =
     let here = h.listed.is.here in
     let p = placed m b accepted h.listed.is.legal in
@@ -114,7 +114,7 @@ next_is m by at have want high a b accepted w f h =
 
 -- the step, for one content and target
 a_step : (m : Parameters) (by : Strategy) (at : ℕ) (have want : List ℕ) (low high a : ℕ) (items : List PlanUnit) (b : Block) → IsAccepted m → IsWindow m by at (length have)
-    → length have ≡ length want → NoneBeyond by have want at → IsPlannedTo m by at have want low high items → IsFirstDue m have want at high a → IsSmallestAt m by a b
+    → length have ≡ length want → NoneBeyond by have want at → IsPlannedTo m by at have want low high items → IsFirstDue m (have, want) at high a → IsSmallestAt m by a b
     → (start : Start) → by ≡ strategy m start → (content target : List ℕ) → HasPart content have at → HasPart target want at
     → IsStep m start content target (at + length have) high a b
 a_step m by at have want low high a items b accepted w same reach p f h start is content target hp wp =
@@ -130,7 +130,7 @@ reach_of m by start content target have want at is hp wp same reach x from upto 
     ap (λ s. is_unreachable s content target x) (sym is) ∙ part_reach by content target have want at x hp wp same reach from upto
 
 pub planned_on : (m : Parameters) (by : Strategy) (at : ℕ) (have want : List ℕ) (low high a : ℕ) (items : List PlanUnit) (b : Block) → IsAccepted m → IsWindow m by at (length have)
-    → length have ≡ length want → NoneBeyond by have want at → IsPlannedTo m by at have want low high items → IsFirstDue m have want at high a → IsSmallestAt m by a b
+    → length have ≡ length want → NoneBeyond by have want at → IsPlannedTo m by at have want low high items → IsFirstDue m (have, want) at high a → IsSmallestAt m by a b
     → b.start ≤ high → IsPlannedTo m by at have want low (b.start + b.size) items
 planned_on m by at have want low high a items b accepted w same reach p f h touches =
     let n = next_is m by at have want high a b accepted w f h in
@@ -148,7 +148,7 @@ planned_on m by at have want low high a items b accepted w same reach p f h touc
 
 -- tiles and the pages of a gap, for one content and target
 stretch_planned : (m : Parameters) (by : Strategy) (at : ℕ) (have want : List ℕ) (low high next : ℕ) (items tiled now : List PlanUnit) → IsAccepted m
-    → IsWindow m by at (length have) → length have ≡ length want → IsPlannedTo m by at have want low high items → AddsTiles m by low high items tiled
+    → IsWindow m by at (length have) → length have ≡ length want → IsPlannedTo m by at have want low high items → AddsBlocks (IsTiling m by low high) items tiled
     → now ≡ tiled ++ flat_map (page_if have want at m.page) (pages m.page high ((next - high) / m.page)) → high ≤ next → next ≤ at + length have → next % m.page ≡ 0
     → (start : Start) → by ≡ strategy m start → (content target : List ℕ) → HasPart content have at → HasPart target want at
     → ((x : ℕ) → high ≤ x → x < next → is_needed m (is_due m content target) x ≡ false)
@@ -176,7 +176,7 @@ stretch_planned m by at have want low high next items tiled now accepted w same 
 
 pub planned_over : (m : Parameters) (by : Strategy) (at : ℕ) (have want : List ℕ) (low high a : ℕ) (items tiled now : List PlanUnit) (b : Block) → IsAccepted m
     → IsWindow m by at (length have) → length have ≡ length want → NoneBeyond by have want at → IsPlannedTo m by at have want low high items
-    → IsFirstDue m have want at high a → IsSmallestAt m by a b → high < b.start → AddsTiles m by low high items tiled
+    → IsFirstDue m (have, want) at high a → IsSmallestAt m by a b → high < b.start → AddsBlocks (IsTiling m by low high) items tiled
     → now ≡ tiled ++ flat_map (page_if have want at m.page) (pages m.page high ((b.start - high) / m.page))
     → IsPlannedTo m by at have want b.start (b.start + b.size) now
 planned_over m by at have want low high a items tiled now b accepted w same reach p f h apart adds is_now =
@@ -199,7 +199,7 @@ planned_over m by at have want low high a items tiled now b accepted w same reac
 -- the end of the window
 pub planned_all : (m : Parameters) (by : Strategy) (at : ℕ) (have want : List ℕ) (low high : ℕ) (items tiled now : List PlanUnit) → IsAccepted m
     → IsWindow m by at (length have) → length have ≡ length want → NoneBeyond by have want at → IsPlannedTo m by at have want low high items
-    → NoneDue m have want at high → AddsTiles m by low high items tiled
+    → NoneDue m (have, want) at high → AddsBlocks (IsTiling m by low high) items tiled
     → now ≡ tiled ++ flat_map (page_if have want at m.page) (pages m.page high (((at + length have) - high) / m.page))
     → IsPlan m by at have want now
 planned_all m by at have want low high items tiled now accepted w same reach p none adds is_now = λ content target hp wp.
@@ -236,7 +236,7 @@ unfolding lacks_erase
 lacks m by content target a near due none = rw (near, due, none) refl
 
 pub no_erase : (m : Parameters) (by : Strategy) (at : ℕ) (have want : List ℕ) (low high a : ℕ) (items : List PlanUnit) → IsAccepted m → IsWindow m by at (length have)
-    → length have ≡ length want → NoneBeyond by have want at → IsPlannedTo m by at have want low high items → IsFirstDue m have want at high a
+    → length have ≡ length want → NoneBeyond by have want at → IsPlannedTo m by at have want low high items → IsFirstDue m (have, want) at high a
     → ((b : Block) → IsReachedAt m by a b → ⊥) → IsFault m by at have want (fault.NoErase a)
 no_erase m by at have want low high a items accepted w same reach p f none = λ content target hp wp.
     let start = w.start in

@@ -1,5 +1,5 @@
 -- The last block of a rising list that fits is the largest.
-use Rattle.std.proofs.Common.{◌≡◌, ◌⊎◌, ℕ, zero, suc, ◌+◌, ◌-◌, ◌*◌, ◌/◌, ◌%◌, take, drop, not, mul_comm, ◌<◌, ◌≤◌, nat_le, Bool, true, false, ◌&&◌, ◌||◌, List, [], ◌∷◌, ◌++◌, length, map, get_or, Option, Some, None, refl, sym, ◌∙◌, ap, arith, inl, inr, leb-true, le-leb, eqb-true, eq-eqb, ◌==◌, append_assoc, append-nil}
+use Rattle.std.proofs.Common.{◌≡◌, ◌⊎◌, ℕ, zero, suc, ◌+◌, ◌-◌, ◌*◌, ◌/◌, ◌%◌, take, drop, not, mul_comm, ◌<◌, ◌≤◌, nat_le, Bool, true, false, ◌&&◌, ◌||◌, List, [], ◌∷◌, ◌++◌, length, map, get_or, Option, Some, None, refl, sym, ◌∙◌, ap, subst, arith, inl, inr, leb-true, le-leb, eqb-true, eq-eqb, ◌==◌, append_assoc, append-nil}
 use Rattle.std.specs.Prelude.{MatchOption, flat_map}
 use Rattle.std.specs.List.{list_any, range_with_len}
 use Rattle.std.proofs.lemmas.Grind.{flat_map-append}
@@ -21,7 +21,7 @@ use Rattle.nor_geometry.specs.Legal.{IsListedAt, AreLegalAt}
 use Rattle.nor_geometry.proofs.KindLemmas.{same_place}
 use Rattle.nor_geometry.specs.declared.unit.PlanUnit.{PlanUnit}
 use Rattle.nor_geometry.specs.declared.unit.PlanUnit.TheVariants as unit
-use Rattle.nor_erase.specs.Tiles.{IsLargestAt, NoneFits, IsTiling, AddsTiles, page_if}
+use Rattle.nor_erase.specs.Tiles.{IsLargestAt, NoneFits, IsTiling, AddsBlocks, page_if}
 
 -- it starts at an address and ends by another
 abbrev pub Fits : ℕ → ℕ → Block → Type 0
@@ -95,7 +95,7 @@ last_is m by low high xs i None accepted h all few none = λ c r start fits.
 last_is m by low high xs i (Some b) accepted h all few last =
     let listed : IsListedAt m by low (get_or xs last.at b) = All-get_or (IsListedAt m by low) xs last.at b (omega (arith, last.inside)) h.each in
     record {
-      listed = moved m by low (get_or xs last.at b) b last.is listed;
+      listed = subst (IsListedAt m by low) last.is listed;
       start = last.fits.0;
       fits = last.fits.1;
       most = λ c r start fits.
@@ -120,9 +120,6 @@ last_is m by low high xs i (Some b) accepted h all few last =
             ]
           ];
     }
-  where
-    moved : (m : Parameters) (by : Strategy) (low : ℕ) (x b : Block) → x ≡ b → IsListedAt m by low x → IsListedAt m by low b
-    moved m by low x b same h = rw (← same) h
 
 -- blocks that tile a stretch so far
 pub record IsTiledTo (m : Parameters) (by : Strategy) (low high start : ℕ) (before now : List PlanUnit) : Type 0 where
@@ -136,22 +133,16 @@ one_tiled m by low high start before now items b t largest is = record {
   blocks = t.blocks ++ b ∷ [];
   added = is ∙ ap (λ xs. xs ++ unit.Block b ∷ []) t.added ∙ append_assoc before (map unit.Block t.blocks) (unit.Block b ∷ [])
       ∙ ap (λ xs. before ++ xs) (sym (map-append unit.Block t.blocks (b ∷ [])));
-  goes_on = λ rest h. again (append_assoc t.blocks (b ∷ []) rest) (t.goes_on (b ∷ rest) (largest, h));
+  goes_on = λ rest h. subst (IsTiling m by low high) (sym (append_assoc t.blocks (b ∷ []) rest)) (t.goes_on (b ∷ rest) (largest, h));
 }
-  where
-    again : {xs ys : List Block} → xs ≡ ys → IsTiling m by low high ys → IsTiling m by low high xs
-    again same h = rw same h
 
 pub tiled : (m : Parameters) (by : Strategy) (low high start : ℕ) (before now : List PlanUnit) → IsTiledTo m by low high start before now → NoneFits m by start high
-    → AddsTiles m by low high before now
+    → AddsBlocks (IsTiling m by low high) before now
 tiled m by low high start before now t none = record {
   blocks = t.blocks;
-  tiling = whole (append-nil t.blocks) (t.goes_on [] none);
+  tiling = subst (IsTiling m by low high) (append-nil t.blocks) (t.goes_on [] none);
   added = t.added;
 }
-  where
-    whole : {xs ys : List Block} → xs ≡ ys → IsTiling m by low high xs → IsTiling m by low high ys
-    whole same h = rw (← same) h
 
 -- the pages from one address up to the next
 pub record ArePaged (have want : List ℕ) (at page low high start : ℕ) (before now : List PlanUnit) : Type 0 where

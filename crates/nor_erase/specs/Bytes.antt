@@ -22,16 +22,16 @@ any_pair test lists = list_any (λ pair. test pair.0 pair.1) (zip lists.0 lists.
 abbrev pub is_due_over : Parameters → ℕ → ℕ → Bool
 is_due_over m old byte = not (old == byte) && not (may_program m old byte)
 
--- of bytes that begin at an address: the lowest address from one on whose byte is due
-pub record IsFirstDue (m : Parameters) (have want : List ℕ) (at from a : ℕ) : Type 0 where
+-- of bytes that begin at an address, with those that are wanted: the lowest address from one on whose byte is due
+pub record IsFirstDue (m : Parameters) (lists : List ℕ × List ℕ) (at from a : ℕ) : Type 0 where
   pub low : from ≤ a
-  pub high : a < at + length have
-  pub due : is_due m have want (a - at) ≡ true
-  pub before : (x : ℕ) → from ≤ x → x < a → is_due m have want (x - at) ≡ false
+  pub high : a < at + length lists.0
+  pub due : is_due m lists.0 lists.1 (a - at) ≡ true
+  pub before : (x : ℕ) → from ≤ x → x < a → is_due m lists.0 lists.1 (x - at) ≡ false
 
 -- none is, from there on
-abbrev pub NoneDue : Parameters → List ℕ → List ℕ → ℕ → ℕ → Type 0
-NoneDue m have want at from = (x : ℕ) → from ≤ x → x < at + length have → is_due m have want (x - at) ≡ false
+abbrev pub NoneDue : Parameters → List ℕ × List ℕ → ℕ → ℕ → Type 0
+NoneDue m lists at from = (x : ℕ) → from ≤ x → x < at + length lists.0 → is_due m lists.0 lists.1 (x - at) ≡ false
 
 -- of bytes that begin at an address: the lowest address that differs, where the strategy reaches none of them
 pub record IsFirstBeyond (by : Strategy) (have want : List ℕ) (at a : ℕ) : Type 0 where

@@ -1,11 +1,10 @@
 -- How a run of needed addresses is tiled, and which pages of a stretch are units.
-use Rattle.std.specs.Prelude.{◌≡◌, ℕ, Bool, ◌+◌, ◌-◌, ◌/◌, ◌≤◌, if◌then◌else◌, List, [], ◌∷◌, ◌++◌, map, flat_map}
+use Rattle.std.specs.Prelude.{◌≡◌, ℕ, Bool, ◌+◌, ◌-◌, ◌≤◌, if◌then◌else◌, List, [], ◌∷◌, ◌++◌, map}
 use Rattle.std.specs.List.{list_any, range_with_len}
 use Rattle.nor_base.specs.declared.meaning.Strategy.{Strategy}
 use Rattle.nor_base.specs.Parameters.{Parameters}
 use Rattle.nor_base.specs.Blocks.{Block}
 use Rattle.nor_base.specs.Need.{differs}
-use Rattle.nor_base.specs.Units.{pages}
 use Rattle.nor_geometry.specs.Legal.{IsReachedAt, IsListedAt}
 use Rattle.nor_geometry.specs.declared.unit.PlanUnit.{PlanUnit}
 use Rattle.nor_geometry.specs.declared.unit.PlanUnit.TheVariants as unit
@@ -26,10 +25,10 @@ abbrev pub IsTiling : Parameters → Strategy → ℕ → ℕ → List Block →
 IsTiling m by low high [] = NoneFits m by low high
 IsTiling m by low high (b ∷ bs) = IsLargestAt m by low high b × IsTiling m by (low + b.size) high bs
 
--- blocks that tile a stretch were appended to some units
-pub record AddsTiles (m : Parameters) (by : Strategy) (low high : ℕ) (before after : List PlanUnit) : Type 0 where
+-- blocks of which this is so were appended to some units
+pub record AddsBlocks (Are : List Block → Type 0) (before after : List PlanUnit) : Type 0 where
   pub blocks : List Block
-  pub tiling : IsTiling m by low high blocks
+  pub tiling : Are blocks
   pub added : after ≡ before ++ map unit.Block blocks
 
 -- some of so many bytes from a place on differ
@@ -43,7 +42,3 @@ page_differs have want at page start = differs_from have want (start - at) page
 -- a page that differs is a unit
 abbrev pub page_if : List ℕ → List ℕ → ℕ → ℕ → ℕ → List PlanUnit
 page_if have want at page start = if page_differs have want at page start then unit.Page start ∷ [] else []
-
--- the pages of a stretch that differ were appended to some units
-abbrev pub AddsPages : List ℕ → List ℕ → ℕ → ℕ → ℕ → ℕ → List PlanUnit → List PlanUnit → Type 0
-AddsPages have want at page low high before after = after ≡ before ++ flat_map (page_if have want at page) (pages page low ((high - low) / page))

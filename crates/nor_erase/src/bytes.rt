@@ -77,8 +77,8 @@ fn dirty_rest(have: &[u8], want: &[u8]) -> bool
 pub fn first_due(meaning: &Meaning, at: u32, have: &[u8], want: &[u8]) -> Option<u32>
     requires lengths { length have.now ≡ length want.now }
     requires inside { at + length have.now ≤ meaning.now.size }
-    ensures { MatchOption result (NoneDue meaning.now have.now want.now at at)
-        (IsFirstDue meaning.now have.now want.now at at) }
+    ensures { MatchOption result (NoneDue meaning.now (have.now, want.now) at at)
+        (IsFirstDue meaning.now (have.now, want.now) at at) }
 {
     next_due(meaning, at, have, want, at)
 }
@@ -94,8 +94,8 @@ pub(crate) fn next_due(
     requires lengths { length have.now ≡ length want.now }
     requires inside { at + length have.now ≤ meaning.now.size }
     requires from { at ≤ from }
-    ensures { MatchOption result (NoneDue meaning.now have.now want.now at from)
-        (IsFirstDue meaning.now have.now want.now at from) }
+    ensures { MatchOption result (NoneDue meaning.now (have.now, want.now) at from)
+        (IsFirstDue meaning.now (have.now, want.now) at from) }
 {
     meaning.acceptance();
     let quiet = skip_quiet(meaning, have, want, (from - at) as usize);

@@ -1,8 +1,10 @@
 //! The blocks of a run, and the pages of a gap.
 
 ghost use Rattle.std.specs.Prelude.{◌≡◌, ◌≤◌, ◌+◌, ◌-◌, ◌%◌, ◌==◌, ◌&&◌, length, nat_le, IfOk};
-ghost use Rattle.std.specs.Prelude.{MatchOption};
-ghost use Rattle.nor_erase.specs.Tiles.{IsLargestAt, NoneFits, AddsTiles, AddsPages, differs_from};
+ghost use Rattle.std.specs.Prelude.{MatchOption, ◌/◌, ◌++◌, flat_map};
+ghost use Rattle.nor_erase.specs.Tiles.{IsLargestAt, NoneFits, IsTiling, AddsBlocks, differs_from};
+ghost use Rattle.nor_erase.specs.Tiles.{page_if};
+ghost use Rattle.nor_base.specs.Units.{pages};
 
 use nor_base::{Meaning, Strategy};
 use nor_geometry::{Block, PlanUnit, legal};
@@ -18,7 +20,8 @@ pub(crate) fn push_blocks(
     units: &mut Vec<PlanUnit>,
 ) -> Result<(), AllocError>
     ensures { IfOk result
-        (λ _. AddsTiles meaning.now strategy low high units.old.items units.new.items) }
+        (λ _. AddsBlocks (IsTiling meaning.now strategy low high) units.old.items
+        units.new.items) }
 {
     let mut start = low;
     while let Some(block) = largest(meaning, strategy, start, high) {
@@ -62,8 +65,9 @@ pub(crate) fn push_pages(
     requires low_page { low % meaning.now.page ≡ 0 }
     requires high_page { high % meaning.now.page ≡ 0 }
     ensures { IfOk result
-        (λ _. AddsPages have.now want.now at meaning.now.page low high units.old.items
-        units.new.items) }
+        (λ _. units.new.items ≡ units.old.items
+        ++ flat_map (page_if have.now want.now at meaning.now.page)
+        (pages meaning.now.page low ((high - low) / meaning.now.page))) }
 {
     meaning.acceptance();
     let mut start = low;

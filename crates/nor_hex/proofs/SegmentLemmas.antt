@@ -57,13 +57,12 @@ module _ (xs : List Segment) (bytes run : List ℕ) (first : ℕ) (some : 0 < le
   inside_more i s e = let there = right.inside i s e in omega (arith, longer)
 
   -- ---- as a segment of its own
-  pub appended : (fresh : Segment) → fresh.first ≡ first → fresh.place ≡ length bytes → fresh.last + 1 ≡ first + length run → ((i : ℕ) (s : Segment) → slice_get xs i ≡ Some s → s.last + 1 < first) → IsJoined xs bytes (xs ++ fresh ∷ []) (bytes ++ run) first run
+  pub appended : (fresh : Segment) → fresh.first ≡ first → fresh.place ≡ length bytes → fresh.last + 1 ≡ first + length run → ((i : ℕ) (s : Segment) → slice_get xs i ≡ Some s → s.last + 1 < first) → IsJoined xs bytes (xs ++ fresh ∷ []) first run
   appended fresh first_is place_is last_is gap = record {
     right = right-snoc xs (bytes ++ run) fresh right.rises right.fits inside_more right.apart (omega arith) (omega arith) (omega (arith, longer)) (λ i s e. let h = gap i s e in omega arith);
     below = each-snoc xs fresh (λ s. s.last < first + length run) (λ i s e. let h = gap i s e in omega arith) (omega arith);
     ends = λ before segment e. let same = last_same xs before fresh segment e in subst (λ (s : Segment). s.place + size s ≡ length (bytes ++ run)) same (omega (arith, longer));
     total_is = omega (arith, total-snoc xs fresh);
-    length_is = longer;
     added = record {
       given = λ at byte h. given at byte h (get-snoc xs fresh h.index h.segment h.here);
       kept = λ at byte h. record { index = h.index; segment = h.segment; here = get-left xs (fresh ∷ []) h.index h.segment h.here; from = h.from; to = h.to; byte_is = get-left bytes run (h.segment.place + (at - h.segment.first)) byte h.byte_is };
@@ -98,13 +97,12 @@ module _ (xs : List Segment) (bytes run : List ℕ) (first : ℕ) (some : 0 < le
           }
 
   -- ---- right after the last segment
-  pub lengthened : (rest : List Segment) (before after : Segment) → xs ≡ rest ++ before ∷ [] → before.last + 1 ≡ first → before.place + size before ≡ length bytes → after.first ≡ before.first → after.place ≡ before.place → after.last + 1 ≡ first + length run → IsJoined xs bytes (rest ++ after ∷ []) (bytes ++ run) first run
+  pub lengthened : (rest : List Segment) (before after : Segment) → xs ≡ rest ++ before ∷ [] → before.last + 1 ≡ first → before.place + size before ≡ length bytes → after.first ≡ before.first → after.place ≡ before.place → after.last + 1 ≡ first + length run → IsJoined xs bytes (rest ++ after ∷ []) first run
   lengthened rest before after xs_is touches ends first_is place_is last_is = record {
     right = right-snoc rest (bytes ++ run) after (λ i s e. right.rises i s (in_xs i s e)) (λ i s e. right.fits i s (in_xs i s e)) (λ i s e. inside_more i s (in_xs i s e)) (λ i s j t e f h. right.apart i s j t (in_xs i s e) (in_xs j t f) h) (omega (arith, rises)) (omega arith) (omega (arith, longer, rises)) (λ i s e. let h = gap i s e in omega arith);
     below = each-snoc rest after (λ s. s.last < first + length run) (λ i s e. let h = gap i s e in omega (arith, rises)) (omega arith);
     ends = λ others segment e. let same = last_same rest others after segment e in subst (λ (s : Segment). s.place + size s ≡ length (bytes ++ run)) same (omega (arith, longer, rises));
     total_is = omega (arith, total-snoc rest after, total-snoc rest before, ap total xs_is, rises);
-    length_is = longer;
     added = record {
       given = λ at byte h. given at byte h (get-snoc rest after h.index h.segment h.here);
       kept = λ at byte h. kept at byte h (get-snoc rest before h.index h.segment (ap (λ ys. slice_get ys h.index) (sym xs_is) ∙ h.here));
@@ -200,13 +198,13 @@ pub record IsMade (at_last : ℕ → Option Piece) (given : List ℕ) (list : Li
   pub of_pieces : (at byte : ℕ) → Holds list made at byte → Gives at_last given at byte
   pub all : (at byte : ℕ) (g : Gives at_last given at byte) → g.last < from → Holds list made at byte
 
-pub made_more : (at_last : ℕ → Option Piece) (given : List ℕ) (list new : List Segment) (made new_made : List ℕ) (from last n : ℕ) (piece : Piece) → IsPieces at_last given → IsNext at_last from last piece → n ≡ last - piece.first + 1 → IsMade at_last given list made from → IsJoined list made new new_made piece.first (take n (drop piece.place given)) → IsMade at_last given new new_made (last + 1)
-made_more at_last given list new made new_made from last n piece pieces next n_is so_far joined = record {
+pub made_more : (at_last : ℕ → Option Piece) (given : List ℕ) (list new : List Segment) (made : List ℕ) (from last n : ℕ) (piece : Piece) → IsPieces at_last given → IsNext at_last from last piece → n ≡ last - piece.first + 1 → IsMade at_last given list made from → IsJoined list made new piece.first (take n (drop piece.place given)) → IsMade at_last given new (made ++ take n (drop piece.place given)) (last + 1)
+made_more at_last given list new made from last n piece pieces next n_is so_far joined = record {
   fits = let few = pieces.fits last piece next.found in omega arith;
   right = joined.right;
   below = λ i s e. let h = joined.below i s e in omega (arith, run_len);
   ends = joined.ends;
-  whole = let t = joined.total_is in let l = joined.length_is in let w = so_far.whole in omega arith;
+  whole = let t = joined.total_is in let l = length-append made (take n (drop piece.place given)) in let w = so_far.whole in omega arith;
   clear = λ k q e h. let past : last < k = omega arith in let apart = pieces.apart last piece k q next.found e past in omega arith;
   of_pieces = λ at byte h. of_pieces at byte (joined.added.given at byte h);
   all = λ at byte g h. all at byte g h (leb_tells from g.last);
@@ -229,7 +227,7 @@ made_more at_last given list new made new_made from last n piece pieces next n_i
         let below = found.0 in
         record { last = last; piece = piece; here = next.found; from = omega arith; to = omega (arith, rises); byte_is = found.1 }
 
-    all : (at byte : ℕ) (g : Gives at_last given at byte) → g.last < last + 1 → ((leb from g.last ≡ true) × (from ≤ g.last)) ⊎ ((leb from g.last ≡ false) × (g.last < from)) → Holds new new_made at byte
+    all : (at byte : ℕ) (g : Gives at_last given at byte) → g.last < last + 1 → ((leb from g.last ≡ true) × (from ≤ g.last)) ⊎ ((leb from g.last ≡ false) × (g.last < from)) → Holds new (made ++ take n (drop piece.place given)) at byte
     all at byte g h (inr p) = joined.added.kept at byte (so_far.all at byte g p.1)
     all at byte g h (inl p) =
         let least = next.least g.last g.piece g.here p.1 in

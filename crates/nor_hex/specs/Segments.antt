@@ -48,14 +48,13 @@ AreBelow address segments = (i : ℕ) (segment : Segment) → slice_get segments
 abbrev pub EndsAt : List Segment → ℕ → Type 0
 EndsAt segments len = (before : List Segment) (segment : Segment) → segments ≡ before ++ segment ∷ [] → segment.place + size segment ≡ len
 
--- new segments over new bytes are the old ones with the run past them
-pub record IsJoined (old : List Segment) (old_bytes : List ℕ) (new : List Segment) (new_bytes : List ℕ) (first : ℕ) (run : List ℕ) : Type 0 where
-  pub right : IsSegments new new_bytes
+-- new segments over the bytes and a run behind them are the old ones over the bytes with the run past them
+pub record IsJoined (old : List Segment) (bytes : List ℕ) (new : List Segment) (first : ℕ) (run : List ℕ) : Type 0 where
+  pub right : IsSegments new (bytes ++ run)
   pub below : AreBelow (first + length run) new
-  pub ends : EndsAt new (length new_bytes)
+  pub ends : EndsAt new (length (bytes ++ run))
   pub total_is : total new ≡ total old + length run
-  pub length_is : length new_bytes ≡ length old_bytes + length run
-  pub added : AddsRun (Holds old old_bytes) (Holds new new_bytes) first run
+  pub added : AddsRun (Holds old bytes) (Holds new (bytes ++ run)) first run
 
 -- both give each address the same byte
 pub record SameBytes (old new : ℕ → ℕ → Type 0) : Type 0 where

@@ -118,7 +118,7 @@ fn add_segment<A: Allocator + Clone>(
     ensures { OnOk result ((bytes run : List ℕ) → IsSegments list.old.items bytes
         → length bytes ≡ place
         → first + length run ≡ last + 1
-        → IsJoined list.old.items bytes list.new.items (bytes ++ run) first run) }
+        → IsJoined list.old.items bytes list.new.items first run) }
 {
     let fresh = Segment { first, last, place };
     match list.pop() {

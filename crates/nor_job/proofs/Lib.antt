@@ -3,3 +3,4 @@ pub mod LayoutLemmas
 pub mod TargetLemmas
 pub mod ChipLemmas
 pub mod OneLemmas
+pub mod PageLemmas

@@ -1,5 +1,5 @@
 -- A text has one image and one list of regions, so a job has one first region without a byte.
-use Rattle.std.proofs.Common.{◌≡◌, ◌∙◌, refl, sym, ap, subst, ℕ, ◌+◌, ◌-◌, min, nat_lt, cond, length, Bool, List, [], ◌∷◌, map, filter, Option, Some, None, Result, Ok, Err, not}
+use Rattle.std.proofs.Common.{◌≡◌, ◌∙◌, refl, sym, ap, subst, ℕ, ◌+◌, ◌-◌, min, nat_lt, cond, length, Bool, List, [], ◌∷◌, map, filter, Option, Some, None, Result, Ok, not}
 use Rattle.std.specs.Prelude.{is_some}
 use Rattle.std.specs.List.{range_with_len, position_or_len}
 use Rattle.nor_base.specs.Parameters.{Parameters}

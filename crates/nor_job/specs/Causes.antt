@@ -1,5 +1,5 @@
 -- Which inputs a build accepts, and why it refuses the others before anything is read or written (this project's).
-use Rattle.std.specs.Prelude.{◌≡◌, ◌≢◌, ℕ, List, [], Option, Some, None, Ok}
+use Rattle.std.specs.Prelude.{◌≡◌, ◌≢◌, ◌⊎◌, ℕ, List, [], Option, Some, None}
 use Rattle.nor_base.specs.Chip.{IsPossible}
 use Rattle.nor_base.specs.Parameters.{Parameters}
 use Rattle.nor_hex.specs.declared.fault.HexFault.{HexFault}
@@ -66,7 +66,7 @@ RefusesLayout t fault = (text : List ℕ) × (t.layout ≡ Some text) × IsFirst
 -- what a refusal says of the inputs that comes before anything is read or written; but for Memory, which says of contradictions
 -- alone that there is none, no earlier cause holds
 abbrev pub RefusesInputs : Task → ℕ → BuildFault → Type 0
-RefusesInputs t len (fault.Contradiction number) = contradiction t ≡ Some number
+RefusesInputs t len (fault.Contradiction number) = (contradiction t ≡ Some number) ⊎ (AreNamed t × RefusesChip t (fault.Contradiction number))
 RefusesInputs t len (fault.Hex why) = (contradiction t ≡ None) × (t.image ≡ None) × (why ≢ hex.Memory) × IsFault t.hex why
 RefusesInputs t len (fault.Layout why) = ((image : Pairs) × HasImage t image) × RefusesLayout t why
 RefusesInputs t len (fault.Sfdp why) = AreNamed t × RefusesChip t (fault.Sfdp why)

@@ -1,5 +1,5 @@
 -- A stretch of the content that a reader filled, and its target (this project's).
-use Rattle.std.specs.Prelude.{◌≡◌, ◌≢◌, ◌⊎◌, ℕ, ◌+◌, ◌%◌, ◌<◌, ◌≤◌, ⊤, List, [], ◌++◌, length, map, Result, Ok, Err}
+use Rattle.std.specs.Prelude.{ℕ, ◌<◌, ⊤, List, length, map, Result, Ok, Err}
 use Rattle.std.specs.List.{enumerate_from}
 use Rattle.nor_base.specs.Device.{Ahead, Gives, IsAtEnd}
 use Rattle.nor_base.specs.Target.{target_byte}

@@ -1,5 +1,5 @@
 -- What a build is asked for, as plain data, and when its parts contradict one another (this project's).
-use Rattle.std.specs.Prelude.{ℕ, Bool, true, false, not, ◌&&◌, ◌||◌, if◌then◌else◌, List, [], ◌∷◌, Option, Some, None, is_some, option_map}
+use Rattle.std.specs.Prelude.{ℕ, Bool, true, false, not, ◌&&◌, ◌||◌, if◌then◌else◌, List, Option, Some, None, is_some, option_map}
 use Rattle.nor_base.specs.declared.meaning.Part.{Part}
 use Rattle.nor_base.specs.Array.{is_filled}
 use Rattle.nor_hex.specs.Image.{Pairs}
@@ -32,6 +32,7 @@ pub record Task : Type 0 where
   pub base : ℕ
   pub verify : Bool
   pub erased_only : Bool
+  pub page : Option ℕ
 
 abbrev pub task_of : Inside → Task
 task_of inputs = record {
@@ -47,6 +48,7 @@ task_of inputs = record {
   base = inputs.base;
   verify = inputs.verify;
   erased_only = inputs.erased_only;
+  page = inputs.page;
 }
 
 abbrev pub has_no_tables : Origin → Bool

@@ -1,5 +1,5 @@
 -- What a job wants of a chip, and how much it reads (this project's).
-use Rattle.std.specs.Prelude.{◌≡◌, ◌≢◌, ℕ, ◌<◌, ◌≤◌, List, [], ◌++◌, length}
+use Rattle.std.specs.Prelude.{ℕ, ◌≤◌, List, length}
 use Rattle.nor_base.specs.Device.{Ahead, Gives}
 use Rattle.nor_base.specs.Target.{target}
 use Rattle.nor_hex.specs.Image.{Pairs, byte_at}

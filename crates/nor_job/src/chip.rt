@@ -1,22 +1,24 @@
 //! The chip that a build is for.
 
 ghost use Rattle.std.specs.Prelude.{◌≡◌, IsOk, IfOk, IfErr};
+ghost use Rattle.std.specs.List.{list_any};
 ghost use Rattle.nor_base.specs.Parameters.{Parameters};
 ghost use Rattle.nor_job.specs.Chip.{ChipSays, HasChip, OriginSays, RefusesChip};
-ghost use Rattle.nor_job.specs.Chip.{profiled, uniform_says};
+ghost use Rattle.nor_job.specs.Chip.{fits, paged, profiled, uniform_says};
+ghost use Rattle.nor_sheet.specs.Meaning.{is_below};
 ghost use Rattle.nor_job.specs.Status.{start_of};
 
 use crate::fault::BuildFault;
 use crate::inputs::{Inputs, Source};
 use crate::status::{start_of, status_fault};
-use nor_base::{Meaning, Start, Width};
+use nor_base::{Erase, Meaning, Start, Width};
 use nor_sfdp::SfdpFault;
 
 /// What the inputs say of the chip, and how it begins. It looks neither at image nor layout, nor
 /// for a contradiction, and takes no memory.
 ///
-/// `Sfdp` or `Sheet` where the chip's meaning is refused; else `Status` where the status says that
-/// it isn't idle and unprotected; else `ModeImpossible`.
+/// `Sfdp` or `Sheet` where the chip's meaning is refused; else `Contradiction` where no chip of it
+/// has the page; else `Status` where it isn't idle and unprotected; else `ModeImpossible`.
 pub fn chip_of(inputs: &Inputs<'_>) -> Result<(Meaning, Start), BuildFault>
     ensures chip { IfOk result (λ chip. HasChip inputs.now chip.0) }
     ensures start { IfOk result (λ chip. chip.1 ≡ start_of inputs.now) }
@@ -34,14 +36,55 @@ pub fn chip_of(inputs: &Inputs<'_>) -> Result<(Meaning, Start), BuildFault>
     Ok((meaning, start))
 }
 
-/// The chip's meaning, under the profile that is asked for.
+/// The chip's meaning, with the page that was said, under the profile that is asked for.
 fn meaning_of(inputs: &Inputs<'_>) -> Result<Meaning, BuildFault>
     ensures says { IfOk result (λ m. ChipSays inputs.now m) }
     ensures refused { IfErr result (RefusesChip inputs.now) }
     ensures accepted { (m : Parameters) → ChipSays inputs.now m → IsOk result }
 {
-    let meaning = own_meaning(inputs)?;
-    Ok(profiled(meaning, inputs.erased_only))
+    let own = own_meaning(inputs)?;
+    match paged(own, inputs.page) {
+        Some(meaning) => Ok(profiled(meaning, inputs.erased_only)),
+        None => Err(BuildFault::Contradiction(6)),
+    }
+}
+
+/// The meaning with the page that was said; None where no chip of it has that.
+fn paged(meaning: Meaning, page: Option<u32>) -> Option<Meaning>
+    ensures { result ≡ paged page meaning }
+{
+    let Some(page) = page else {
+        return Some(meaning);
+    };
+    if !fits(&meaning, page) {
+        return None;
+    }
+    Some(Meaning {
+        page,
+        open_page: false,
+        ..meaning
+    })
+}
+
+/// Whether a chip of this meaning may have a page of so many bytes, and no erase of fewer.
+fn fits(meaning: &Meaning, page: u32) -> bool
+    ensures { result ≡ fits meaning.now page }
+{
+    meaning.may_page(page) && !has_below(&meaning.erases, page)
+}
+
+/// Whether an erase kind has fewer bytes than a page.
+fn has_below(kinds: &[Option<Erase>], page: u32) -> bool
+    ensures { result ≡ list_any (is_below page) kinds.now }
+{
+    kinds.iter().any(|kind| is_below(page, *kind))
+}
+
+/// Whether an erase kind, where it is there, has fewer bytes than a page.
+fn is_below(page: u32, kind: Option<Erase>) -> bool
+    ensures { result ≡ is_below page kind }
+{
+    kind.is_some_and(|erase| erase.size < page)
 }
 
 /// The chip's meaning, by its SFDP bytes, its size or its sheet.

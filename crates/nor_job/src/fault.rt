@@ -21,7 +21,8 @@ use thiserror::Error;
 pub enum BuildFault {
     /// The inputs contradict one another: 1 regions are named without a layout; 2 a status with
     /// part Generic; 3 a status together with `mode4` or `quad`; 4 a chip that isn't said
-    /// by its SFDP, of part W25q256jv. The first of these is reported.
+    /// by its SFDP, of part W25q256jv. The first of these is reported. After `Sheet` 6: no chip of
+    /// this meaning has the page that was said.
     #[error("the inputs contradict one another ({0})")]
     Contradiction(u8),
     /// The image is refused.

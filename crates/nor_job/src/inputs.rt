@@ -50,6 +50,8 @@ pub struct Inputs<'a> {
     pub verify: bool,
     /// Bytes are programmed only where they are FFh.
     pub erased_only: bool,
+    /// Bytes of the chip's page, where its meaning only says the least that they may be.
+    pub page: Option<u32>,
 }
 
 impl<'a> Model for Inputs<'a> {

@@ -48,7 +48,7 @@ module _ (m : Parameters) (n : ℕ) (mode4 : Bool) (line text : List ℕ) (is : 
       none x listed (ap (drop 1) (append_cancel_left (decimal n) (codes " " ++ text) (codes " " ++ words m mode4 x) (sym is ∙ told)))
 
   pub with_number : {E : Type 0} (r : Result (Option Read) E) → IfOk r (λ found. MatchOption found (SaysNone m mode4 text) (λ read. Says m mode4 text read.step read.after))
-      → IfOk r (λ found. MatchOption found (SaysNoLine m n mode4 line) (λ read. SaysLine m n mode4 line read.step read.after))
+      → IfOk r (λ found. MatchOption found (SaysNoLine m n mode4 line) (SaysLine m n mode4 line))
   with_number (Ok None) none = no_line none
-  with_number (Ok (Some read)) says = says_line m n mode4 line text is read.step read.after says
+  with_number (Ok (Some read)) says = says_line m n mode4 line text is read says
   with_number (Err e) any = tt

@@ -13,6 +13,7 @@ use Rattle.nor_listing.specs.Law.{IsListable, AreListable}
 use Rattle.nor_listing.specs.Listing.{words, mode_past, line, lines_from, chip_line, unended_listing, listing}
 use Rattle.nor_listing.specs.Read.{mode_through, IsListingOf, Refuses}
 use Rattle.nor_listing.specs.declared.fault.ListFault.TheVariants.{BadLine}
+use Rattle.nor_listing.specs.declared.reader.Read.{Read}
 use Rattle.nor_listing.specs.Told.{Says, SaysLine, AreRead, BeginsNone, numbered}
 
 from_none : (n : ℕ) → n ≡ 0 + n
@@ -46,20 +47,20 @@ module _ (m : Parameters) where
     unfolding lines_from
     none_read none same = rw none (record { each = tt; whole = sym same })
 
-    pub one_read : (x : Step) (mode4 after : Bool) (words more : List ℕ) → AreRead m first text steps rest → mode4 ≡ mode_through m first steps
-        → rest ≡ closed words ++ more → SaysLine m (length steps) mode4 words x after → AreRead m first text (steps ++ x ∷ []) more
-    one_read x mode4 after words more read mode cut says = record {
-      each = all_append IsListable steps (x ∷ []) read.each (says.listed, tt);
-      whole = read.whole ∙ ap (λ l. lines_from m 0 first steps ++ l) (cut ∙ ap (λ l. l ++ more) (line_is (length steps) mode4 x words says.told))
-          ∙ sym (append_assoc (lines_from m 0 first steps) (line m (length steps) mode4 x) more)
-          ∙ ap (λ k. (lines_from m 0 first steps ++ line m (length steps) k x) ++ more) mode
-          ∙ ap (λ k. (lines_from m 0 first steps ++ line m k (mode_through m first steps) x) ++ more) (from_none (length steps))
-          ∙ ap (λ l. l ++ more) (sym (lines_more 0 first steps x));
+    pub one_read : (one : Read) (mode4 : Bool) (words more : List ℕ) → AreRead m first text steps rest → mode4 ≡ mode_through m first steps
+        → rest ≡ closed words ++ more → SaysLine m (length steps) mode4 words one → AreRead m first text (steps ++ one.step ∷ []) more
+    one_read one mode4 words more read mode cut says = record {
+      each = all_append IsListable steps (one.step ∷ []) read.each (says.listed, tt);
+      whole = read.whole ∙ ap (λ l. lines_from m 0 first steps ++ l) (cut ∙ ap (λ l. l ++ more) (line_is (length steps) mode4 one.step words says.told))
+          ∙ sym (append_assoc (lines_from m 0 first steps) (line m (length steps) mode4 one.step) more)
+          ∙ ap (λ k. (lines_from m 0 first steps ++ line m (length steps) k one.step) ++ more) mode
+          ∙ ap (λ k. (lines_from m 0 first steps ++ line m k (mode_through m first steps) one.step) ++ more) (from_none (length steps))
+          ∙ ap (λ l. l ++ more) (sym (lines_more 0 first steps one.step));
     }
 
-    pub mode_read : (x : Step) (mode4 after : Bool) (words : List ℕ) → mode4 ≡ mode_through m first steps
-        → SaysLine m (length steps) mode4 words x after → after ≡ mode_through m first (steps ++ x ∷ [])
-    mode_read x mode4 after words mode says = says.mode ∙ ap (λ k. mode_past m k x) mode ∙ sym (mode_more first steps x)
+    pub mode_read : (one : Read) (mode4 : Bool) (words : List ℕ) → mode4 ≡ mode_through m first steps
+        → SaysLine m (length steps) mode4 words one → one.after ≡ mode_through m first (steps ++ one.step ∷ [])
+    mode_read one mode4 words mode says = says.mode ∙ ap (λ k. mode_past m k one.step) mode ∙ sym (mode_more first steps one.step)
 
 -- what is of a type of bytes are bytes
 pub all_bytes : (xs : List ℕ) → ((i : ℕ) → Fits w8 (get_or xs i 0)) → are_bytes xs ≡ true
@@ -119,8 +120,8 @@ other_chip m first mode4 text same none = inl (refl, λ rest is. none rest (is �
 
 -- the line of what the words say
 module _ (m : Parameters) (n : ℕ) (mode4 : Bool) (line words : List ℕ) (is : line ≡ numbered n words) where
-  pub says_line : (x : Step) (after : Bool) → Says m mode4 words x after → SaysLine m n mode4 line x after
-  says_line x after says = record { listed = says.listed; told = is ∙ ap (numbered n) says.told; mode = says.mode }
+  pub says_line : (read : Read) → Says m mode4 words read.step read.after → SaysLine m n mode4 line read
+  says_line read says = record { listed = says.listed; told = is ∙ ap (numbered n) says.told; mode = says.mode }
 
 -- a line that doesn't begin with the number has no words behind it
 pub no_number : (n : ℕ) (text digits : List ℕ) → digits ≡ decimal n → ((rest : List ℕ) → text ≡ digits ++ rest → ⊥) → (words : List ℕ) → text ≡ numbered n words → ⊥

@@ -11,7 +11,7 @@ use Rattle.nor_base.specs.Step.{IsStep}
 use Rattle.nor_base.proofs.DeviceLaws.{Appends-append, Cuts-then}
 use Rattle.nor_listing.specs.Listing.{chip_line, line, lines_from, mode_past, unended_listing, listing}
 use Rattle.nor_script.specs.declared.fault.ScriptFault.{ScriptFault}
-use Rattle.nor_script.specs.declared.fault.ScriptFault.TheVariants.{Header, BadLine, BadSymbol, BadCount, NoEnd, AfterEnd, Memory}
+use Rattle.nor_script.specs.declared.fault.ScriptFault.TheVariants.{Header, Memory}
 use Rattle.nor_script.specs.declared.fault.ReadFault.{ReadFault}
 use Rattle.nor_script.specs.declared.fault.ReadFault.TheVariants as read
 use Rattle.nor_script.specs.Faults.{Refuses, AreAbove}
@@ -114,20 +114,10 @@ module _ (m : Parameters) (first : Bool) (before : Ahead) where
 
   faulted : (text : List ℕ) (above : List Step) (fault : ScriptFault) (a w : Option (List ℕ)) → Refuses text fault → AreAbove text above fault → AreFirst text above
       → Appends a w (unended_listing m first above) → ListsOf m first text a w (Err (Script (read.Script fault)))
-  faulted text above (Header n) a w refuses at are put =
-      record { bytes = unended_listing m first above; are = record { fault = refuses; steps = above; above = at; lines = refl }; put = put }
-  faulted text above (BadLine n) a w refuses at are put =
-      record { bytes = unended_listing m first above; are = record { fault = refuses; steps = above; above = at; lines = refl }; put = put }
-  faulted text above (BadSymbol n) a w refuses at are put =
-      record { bytes = unended_listing m first above; are = record { fault = refuses; steps = above; above = at; lines = refl }; put = put }
-  faulted text above (BadCount n) a w refuses at are put =
-      record { bytes = unended_listing m first above; are = record { fault = refuses; steps = above; above = at; lines = refl }; put = put }
-  faulted text above (NoEnd n) a w refuses at are put =
-      record { bytes = unended_listing m first above; are = record { fault = refuses; steps = above; above = at; lines = refl }; put = put }
-  faulted text above (AfterEnd n) a w refuses at are put =
-      record { bytes = unended_listing m first above; are = record { fault = refuses; steps = above; above = at; lines = refl }; put = put }
   faulted text above Memory a w refuses at are put =
       record { bytes = unended_listing m first above; are = record { steps = above; are = are; lines = refl }; put = put }
+  faulted text above fault a w refuses at are put =
+      record { bytes = unended_listing m first above; are = record { fault = refuses; steps = above; above = at; lines = refl }; put = put }
 
   -- the header couldn't be read
   pub lists_header : (after : Ahead) (a w : Option (List ℕ)) (fault : ReadFault) → Begins before after (Err fault) → Appends a w (chip_line m first)
@@ -141,11 +131,7 @@ module _ (m : Parameters) (first : Bool) (before : Ahead) where
   lists_header after a w (read.Script (Header n)) p put =
       let refused = refused_header before after p.0 n p.1 p.2 in
       (refused.0, refused.1, faulted refused.0 [] (Header n) a w refused.2 refl (inl refl) (subst (Appends a w) (unended_none m first) put))
-  lists_header after a w (read.Script (BadLine n)) p put = absurd p.2
-  lists_header after a w (read.Script (BadSymbol n)) p put = absurd p.2
-  lists_header after a w (read.Script (BadCount n)) p put = absurd p.2
-  lists_header after a w (read.Script (NoEnd n)) p put = absurd p.2
-  lists_header after a w (read.Script (AfterEnd n)) p put = absurd p.2
+  lists_header after a w (read.Script other) p put = absurd p.2
 
   -- the next step couldn't be read
   pub lists_fault : (b c : Reading) (above : List Step) (steps : ℕ) (step : Step) (a w : Option (List ℕ)) (fault : ReadFault) → HasRead (reading before []) b above

@@ -6,6 +6,7 @@ use Rattle.nor_base.specs.Decoding.{opcode}
 use Rattle.nor_base.specs.Instructions.{Row, row_of}
 use Rattle.nor_base.specs.Parameters.{Parameters}
 use Rattle.nor_base.specs.Step.{step_clocks}
+use Rattle.nor_listing.specs.declared.reader.Read.{Read}
 use Rattle.nor_listing.specs.Law.{IsListable}
 use Rattle.nor_listing.specs.Listing.{words, mode_past, line, lines_from}
 
@@ -31,10 +32,10 @@ abbrev pub SaysNone : Parameters → Bool → List ℕ → Type 0
 SaysNone m mode4 text = (x : Step) → IsListable x → text ≡ words m mode4 x → ⊥
 
 -- the same of a line with its number, without its LF
-pub record SaysLine (m : Parameters) (n : ℕ) (mode4 : Bool) (text : List ℕ) (step : Step) (after : Bool) : Type 0 where
-  pub listed : IsListable step
-  pub told : text ≡ numbered n (words m mode4 step)
-  pub mode : after ≡ mode_past m mode4 step
+pub record SaysLine (m : Parameters) (n : ℕ) (mode4 : Bool) (text : List ℕ) (read : Read) : Type 0 where
+  pub listed : IsListable read.step
+  pub told : text ≡ numbered n (words m mode4 read.step)
+  pub mode : read.after ≡ mode_past m mode4 read.step
 
 -- the line is that of no step
 abbrev pub SaysNoLine : Parameters → ℕ → Bool → List ℕ → Type 0

@@ -92,7 +92,7 @@ fn read_line(
     line: &[u8],
 ) -> Result<Option<Read>, AllocError>
     ensures { IfOk result (λ found. MatchOption found (SaysNoLine meaning.now number mode4 line.now)
-        (λ read. SaysLine meaning.now number mode4 line.now read.step read.after)) }
+        (SaysLine meaning.now number mode4 line.now)) }
 {
     match words_on(number, line) {
         Some(words) => read_words(alloc, meaning, mode4, words),

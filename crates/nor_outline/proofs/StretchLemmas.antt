@@ -13,13 +13,13 @@ use Rattle.nor_geometry.specs.declared.fault.PlanFault.{PlanFault}
 use Rattle.nor_geometry.specs.declared.fault.PlanFault.TheVariants as plan
 use Rattle.nor_geometry.specs.Plan.{HasPart, Refuses, plan_unit}
 use Rattle.nor_outline.specs.Outline.{unit_plan, IsStretchPlan, RefusesLines}
-use Rattle.nor_outline.specs.Parts.{AreUnitLines, IsPlanned, IsWindowPlan}
+use Rattle.nor_outline.specs.Parts.{AreUnitLines, IsPlanned}
 use Rattle.nor_pages.specs.Runs.{IsUnit, unit_start}
 use Rattle.nor_outline.specs.declared.line.PlanLine.{PlanLine}
-use Rattle.nor_steps.specs.Stretch.{stretch}
+use Rattle.nor_steps.specs.Stretch.{stretch, extent}
 use Rattle.nor_steps.specs.Faults.{lifted_plan}
-use Rattle.nor_steps.specs.Units.{unit_size, work_unit, HasBytes}
-use Rattle.nor_steps.specs.Work.{stretch_units}
+use Rattle.nor_steps.specs.Units.{unit_size, work_unit, HasBytes, unit_bytes}
+use Rattle.nor_steps.specs.Work.{stretch_units, IsWindowPlan}
 use Rattle.nor_steps.proofs.OpLemmas.{take_one, all_at}
 use Rattle.nor_steps.proofs.Placed.{IsPlaced, level_of, length-level, units_placed, window_stretch}
 use Rattle.nor_steps.proofs.WindowLemmas.{get_or_map, some_unit, part_of_part, has_bytes, lies_at}
@@ -58,11 +58,11 @@ part_from m at bytes x = slice_range bytes (unit_start x - at) (unit_start x - a
 
 here_at : (m : Parameters) (by : Strategy) (at : ℕ) (have want : List ℕ) (units : List PlanUnit) (k : ℕ) (d : PlanUnit) (content target : List ℕ)
     → IsWindowPlan m by (stretch at have want) units → k < length units → HasPart content have at → HasPart target want at
-    → (k < length (stretch_units m by at (length have) content target))
+    → (k < length (stretch_units m by (extent at (length have) content target)))
     × IsHere m (level_of m by content target) content target (part_from m at have (get_or units k d)) (part_from m at want (get_or units k d)) (get_or units k d)
-    (get_or (stretch_units m by at (length have) content target) k some_unit)
+    (get_or (stretch_units m by (extent at (length have) content target)) k some_unit)
 here_at m by at have want units k d content target p inside have_part want_part =
-    let us = stretch_units m by at (length have) content target in
+    let us = stretch_units m by (extent at (length have) content target) in
     let is = p.plan content target have_part want_part in
     let count : length units ≡ length us = ap length is.units ∙ length-map us plan_unit in
     let there : k < length us = omega (arith, count, inside) in
@@ -85,7 +85,7 @@ here_at m by at have want units k d content target p inside have_part want_part 
 -- these are the lines of the units before one
 pub record AreSofar (m : Parameters) (by : Strategy) (at : ℕ) (have want : List ℕ) (k : ℕ) (lines : List PlanLine) : Type 0 where
   pub are : (content target : List ℕ) → HasPart content have at → HasPart target want at
-      → flat_map (unit_plan m by (is_due m content target)) (take k (stretch_units m by at (length have) content target)) ≡ lines
+      → flat_map (unit_plan m by (is_due m content target)) (take k (stretch_units m by (extent at (length have) content target))) ≡ lines
 
 pub sofar_none : (m : Parameters) (by : Strategy) (at : ℕ) (have want : List ℕ) → AreSofar m by at have want 0 []
 sofar_none m by at have want = record { are = λ content target first second. refl }
@@ -93,11 +93,11 @@ sofar_none m by at have want = record { are = λ content target first second. re
 -- one unit more
 sofar_next : (m : Parameters) (by : Strategy) (at : ℕ) (have want : List ℕ) (units : List PlanUnit) (k : ℕ) (d : PlanUnit) (lines more : List PlanLine)
     → IsWindowPlan m by (stretch at have want) units → AreSofar m by at have want k lines → k < length units
-    → AreUnitLines m by (get_or units k d) (part_from m at have (get_or units k d)) (part_from m at want (get_or units k d)) more
+    → AreUnitLines m by (unit_bytes (get_or units k d) (part_from m at have (get_or units k d)) (part_from m at want (get_or units k d))) more
     → AreSofar m by at have want (k + 1) (lines ++ more)
 sofar_next m by at have want units k d lines more p s inside are = record {
   are = λ content target have_part want_part.
-      let us = stretch_units m by at (length have) content target in
+      let us = stretch_units m by (extent at (length have) content target) in
       let here = here_at m by at have want units k d content target p inside have_part want_part in
       let f = unit_plan m by (is_due m content target) in
       let next : k + 1 ≡ suc k = omega arith in
@@ -108,20 +108,20 @@ sofar_next m by at have want units k d lines more p s inside are = record {
 
 pub next_here : (m : Parameters) (by : Strategy) (at : ℕ) (have want : List ℕ) (units : List PlanUnit) (k : ℕ) (x : PlanUnit) (low high : ℕ) (lines more new : List PlanLine)
     → IsWindowPlan m by (stretch at have want) units → AreSofar m by at have want k lines → x ≡ get_or units k x → k < length units → low ≡ unit_start x - at
-    → high ≡ unit_start x - at + unit_size m.page x → AreUnitLines m by x (slice_range have low high) (slice_range want low high) more → new ≡ lines ++ more
+    → high ≡ unit_start x - at + unit_size m.page x → AreUnitLines m by (unit_bytes x (slice_range have low high) (slice_range want low high)) more → new ≡ lines ++ more
     → AreSofar m by at have want (k + 1) new
 next_here m by at have want units k x low high lines more new p s there inside low_is high_is are put =
     subst (AreSofar m by at have want (k + 1)) (sym put)
     (sofar_next m by at have want units k x lines more p s inside
-    (subst (λ q. AreUnitLines m by q (part_from m at have q) (part_from m at want q) more) there
-    (subst (λ h. AreUnitLines m by x (slice_range have (unit_start x - at) h) (slice_range want (unit_start x - at) h) more) high_is
-    (subst (λ l. AreUnitLines m by x (slice_range have l high) (slice_range want l high) more) low_is are))))
+    (subst (λ q. AreUnitLines m by (unit_bytes q (part_from m at have q) (part_from m at want q)) more) there
+    (subst (λ h. AreUnitLines m by (unit_bytes x (slice_range have (unit_start x - at) h) (slice_range want (unit_start x - at) h)) more) high_is
+    (subst (λ l. AreUnitLines m by (unit_bytes x (slice_range have l high) (slice_range want l high)) more) low_is are))))
 
 -- the lines of all units
 pub all_lines : (m : Parameters) (by : Strategy) (at : ℕ) (have want : List ℕ) (units : List PlanUnit) (k : ℕ) (lines : List PlanLine)
     → IsWindowPlan m by (stretch at have want) units → AreSofar m by at have want k lines → length units ≤ k → IsStretchPlan m by (stretch at have want) lines
 all_lines m by at have want units k lines p s past content target have_part want_part =
-    let us = stretch_units m by at (length have) content target in
+    let us = stretch_units m by (extent at (length have) content target) in
     let is = p.plan content target have_part want_part in
     let long : length units ≡ length us = ap length is.units ∙ length-map us plan_unit in
     record {

@@ -21,6 +21,7 @@ use Rattle.nor_outline.specs.Outline.{program_line, because, reason, reason_at, 
 use Rattle.nor_outline.specs.declared.line.PlanLine.TheVariants.{Erase, Program}
 use Rattle.nor_outline.specs.Parts.{due_in, run_line, part_lines, AreUnitLines, IsPlanned}
 use Rattle.nor_outline.proofs.RangeLemmas.{find_same, flat_same}
+use Rattle.nor_steps.specs.Units.{unit_bytes}
 
 due_by : (m : Parameters) (old old' new new' : ℕ) → old ≡ old' → new ≡ new'
     → (not (old == new) && not (may_program m old new)) ≡ (not (old' == new') && not (may_program m old' new'))
@@ -75,7 +76,7 @@ runs_told target low high (r ∷ runs) fits each =
 
 pub part_told : (m : Parameters) (by : Strategy) (planned : PlanUnit) (runs : List Run) (have want : List ℕ) → IsAccepted m → length have ≡ length want
     → IsPlanned m by planned (length want) → AreBetween (unit_start planned) (unit_start planned + length want) (length want) runs
-    → IsSplit m planned have want runs → AreUnitLines m by planned have want (part_lines m by planned runs have want)
+    → IsSplit m planned have want runs → AreUnitLines m by (unit_bytes planned have want) (part_lines m by (due_in m have want (unit_start planned)) planned runs)
 part_told m by (unit.Block b) runs have want accepted lengths is between split content level target part has =
     let due = is_due m content target in
     let its_reasons = reasons_same m b (due_in m have want b.start) due accepted is.1.legal

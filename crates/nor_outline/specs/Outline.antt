@@ -12,11 +12,11 @@ use Rattle.nor_base.specs.Planned.{planned_units}
 use Rattle.nor_base.specs.Programs.{Program}
 use Rattle.nor_base.specs.Strategies.{strategy}
 use Rattle.nor_base.specs.Units.{WorkUnit}
-use Rattle.nor_geometry.specs.Plan.{HasPart, IsFault}
+use Rattle.nor_geometry.specs.Plan.{IsFault}
 use Rattle.nor_outline.specs.declared.line.PlanLine.{PlanLine}
 use Rattle.nor_outline.specs.declared.line.PlanLine.TheVariants as line
 use Rattle.nor_outline.specs.Lines.{lines_text}
-use Rattle.nor_steps.specs.Stretch.{Stretch}
+use Rattle.nor_steps.specs.Stretch.{Stretch, Extent, OnEveryChip}
 use Rattle.nor_steps.specs.declared.fault.StepsFault.{StepsFault}
 use Rattle.nor_steps.specs.declared.fault.StepsFault.TheVariants as fault
 use Rattle.nor_steps.specs.Work.{stretch_units}
@@ -59,22 +59,21 @@ plan_of m start have want = flat_map (unit_plan m (strategy m start) (is_due m h
 abbrev pub unit_lines : Parameters → Strategy → List ℕ → List ℕ → WorkUnit → List ℕ
 unit_lines m by content target u = lines_text (unit_plan m by (is_due m content target) u)
 
--- the lines of the units that start in a stretch of so many bytes from an address on
-abbrev pub stretch_plan : Parameters → Strategy → ℕ → ℕ → List ℕ → List ℕ → List PlanLine
-stretch_plan m by at count content target = flat_map (unit_plan m by (is_due m content target)) (stretch_units m by at count content target)
+-- the lines of the units that start in an extent
+abbrev pub stretch_plan : Parameters → Strategy → Extent → List PlanLine
+stretch_plan m by e = flat_map (unit_plan m by (is_due m e.content e.target)) (stretch_units m by e)
 
--- no address of a stretch is at fault
-abbrev pub IsFaultless : Parameters → Strategy → ℕ → ℕ → List ℕ → List ℕ → Type 0
-IsFaultless m by at count content target = (x : ℕ) → at ≤ x → x < at + count → is_at_fault m by content target x ≡ false
+-- no address of an extent is at fault
+abbrev pub IsFaultless : Parameters → Strategy → Extent → Type 0
+IsFaultless m by e = (x : ℕ) → e.at ≤ x → x < e.at + e.count → is_at_fault m by e.content e.target x ≡ false
 
--- these are the lines of a stretch, and no address of it is at fault
-pub record IsStretchPlanOf (m : Parameters) (by : Strategy) (at count : ℕ) (content target : List ℕ) (lines : List PlanLine) : Type 0 where
-  pub are : stretch_plan m by at count content target ≡ lines
-  pub sound : IsFaultless m by at count content target
+-- these are the lines of an extent, and no address of it is at fault
+pub record IsStretchPlanOf (m : Parameters) (by : Strategy) (e : Extent) (lines : List PlanLine) : Type 0 where
+  pub are : stretch_plan m by e ≡ lines
+  pub sound : IsFaultless m by e
 
--- so it is whatever the rest of the chip holds and must hold
 abbrev pub IsStretchPlan : Parameters → Strategy → Stretch → List PlanLine → Type 0
-IsStretchPlan m by p lines = (content target : List ℕ) → HasPart content p.have p.at → HasPart target p.want p.at → IsStretchPlanOf m by p.at (length p.have) content target lines
+IsStretchPlan m by p lines = OnEveryChip p (λ e. IsStretchPlanOf m by e lines)
 
 -- why there are none: an address is at fault, the lowest is named; or a growth was refused
 abbrev pub RefusesLines : Parameters → Strategy → Stretch → StepsFault → Type 0

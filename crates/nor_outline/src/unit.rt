@@ -1,7 +1,9 @@
 //! The lines of a unit.
 
 ghost use Rattle.std.specs.Prelude.{◌≡◌, ◌++◌, length, map, IfOk};
-ghost use Rattle.nor_outline.specs.Parts.{IsPlanned, MayErase, run_line, block_lines, part_lines};
+ghost use Rattle.nor_outline.specs.Parts.{IsPlanned, MayErase, due_in, run_line, block_lines};
+ghost use Rattle.nor_outline.specs.Parts.{part_lines};
+ghost use Rattle.nor_pages.specs.Runs.{unit_start};
 
 use crate::line::PlanLine;
 use crate::opcode::erase_opcode;
@@ -26,7 +28,8 @@ pub(crate) fn push_unit(
     requires lengths { length have.now ≡ length want.now }
     requires planned { IsPlanned meaning.now strategy unit.now (length want.now) }
     ensures { IfOk result (λ _. lines.new.items ≡ lines.old.items
-        ++ part_lines meaning.now strategy unit.now runs.now have.now want.now) }
+        ++ part_lines meaning.now strategy
+        (due_in meaning.now have.now want.now (unit_start unit.now)) unit.now runs.now) }
 {
     match unit {
         PlanUnit::Block(block) => push_block(meaning, strategy, *block, runs, have, want, lines),
@@ -48,7 +51,8 @@ fn push_block(
     requires count { length want.now ≡ block.size }
     requires block { MayErase meaning.now strategy block }
     ensures { IfOk result (λ _. lines.new.items ≡ lines.old.items
-        ++ block_lines meaning.now strategy block runs.now have.now want.now) }
+        ++ block_lines meaning.now strategy (due_in meaning.now have.now want.now block.start)
+        block runs.now) }
 {
     lines.push(PlanLine::Erase {
         start: block.start,

@@ -5,9 +5,11 @@ ghost use Rattle.nor_geometry.specs.Plan.{IsWindow};
 ghost use Rattle.nor_pages.specs.Runs.{IsUnit};
 ghost use Rattle.nor_outline.specs.declared.line.PlanLine.{PlanLine as Line};
 ghost use Rattle.nor_outline.specs.Outline.{IsStretchPlan, RefusesLines};
-ghost use Rattle.nor_outline.specs.Parts.{IsPlanned, IsWindowPlan, AreUnitLines};
+ghost use Rattle.nor_outline.specs.Parts.{IsPlanned, AreUnitLines};
+ghost use Rattle.nor_steps.specs.Work.{IsWindowPlan};
 ghost use Rattle.nor_steps.specs.Stretch.{stretch};
 ghost use Rattle.nor_steps.specs.declared.fault.StepsFault.TheVariants.{Memory};
+ghost use Rattle.nor_steps.specs.Units.{unit_bytes};
 
 use crate::line::PlanLine;
 use crate::unit::push_unit;
@@ -90,7 +92,7 @@ fn push_lines(
         × IsUnit meaning.now unit.now (length want.now) }
     requires planned { IsPlanned meaning.now strategy unit.now (length want.now) }
     ensures lines { IfOk result (λ _. (more : List Line)
-        × AreUnitLines meaning.now strategy unit.now have.now want.now more
+        × AreUnitLines meaning.now strategy (unit_bytes unit.now have.now want.now) more
         × (lines.new.items ≡ lines.old.items ++ more)) }
     ensures why { IfErr result (λ why. why ≡ Memory) }
 {

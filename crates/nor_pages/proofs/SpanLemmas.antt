@@ -60,40 +60,40 @@ module _ (blank : Bool) (have want : List ℕ) where
 
   -- from the first byte on
   pub none_here : (i old : ℕ) (result : Bool) → i < length want → old ≡ old_over blank (slice_index have i) → result ≡ not (old == slice_index want i) → result ≡ false
-      → ((at : ℕ) → page_runs blank false have want at ≡ open_runs blank have want at None (at + i) (length want - i))
-      → (at : ℕ) → page_runs blank false have want at ≡ open_runs blank have want at None (at + (i + 1)) (length want - (i + 1))
+      → ((at : ℕ) → page_runs blank false have want at ≡ open_runs (differs_at blank have want at) None (at + i) (length want - i))
+      → (at : ℕ) → page_runs blank false have want at ≡ open_runs (differs_at blank have want at) None (at + (i + 1)) (length want - (i + 1))
   none_here i old result inside is says told so at =
       so at ∙ step (differs_at blank have want at) None at i (length want) inside
-      ∙ ap (λ b. open_runs blank have want at (onward false b None (at + i)) (at + (i + 1)) (length want - (i + 1))) (looked at i old result false is says told)
+      ∙ ap (λ b. open_runs (differs_at blank have want at) (onward false b None (at + i)) (at + (i + 1)) (length want - (i + 1))) (looked at i old result false is says told)
 
   pub begins_here : (i old : ℕ) (result : Bool) → i < length want → old ≡ old_over blank (slice_index have i) → result ≡ not (old == slice_index want i) → result ≡ true
-      → ((at : ℕ) → page_runs blank false have want at ≡ open_runs blank have want at None (at + i) (length want - i))
+      → ((at : ℕ) → page_runs blank false have want at ≡ open_runs (differs_at blank have want at) None (at + i) (length want - i))
       → BeginsRun blank have want i
   begins_here i old result inside is says told so = record {
     inside = inside;
     runs = λ at. so at ∙ step (differs_at blank have want at) None at i (length want) inside
-        ∙ ap (λ b. open_runs blank have want at (onward false b None (at + i)) (at + (i + 1)) (length want - (i + 1))) (looked at i old result true is says told);
+        ∙ ap (λ b. open_runs (differs_at blank have want at) (onward false b None (at + i)) (at + (i + 1)) (length want - (i + 1))) (looked at i old result true is says told);
   }
 
   -- from the last byte back
   pub not_this_one : (first last old : ℕ) (result : Bool) → first < last → old ≡ old_over blank (slice_index have last) → result ≡ not (old == slice_index want last) → result ≡ false
-      → ((at : ℕ) → page_runs blank false have want at ≡ open_runs blank have want at (Some (record { at = at + first; len = 1 })) (at + (first + 1)) (last - first))
-      → (at : ℕ) → page_runs blank false have want at ≡ open_runs blank have want at (Some (record { at = at + first; len = 1 })) (at + (first + 1)) (last - 1 - first)
+      → ((at : ℕ) → page_runs blank false have want at ≡ open_runs (differs_at blank have want at) (Some (record { at = at + first; len = 1 })) (at + (first + 1)) (last - first))
+      → (at : ℕ) → page_runs blank false have want at ≡ open_runs (differs_at blank have want at) (Some (record { at = at + first; len = 1 })) (at + (first + 1)) (last - 1 - first)
   not_this_one first last old result past is says told so at =
       let run : Run = record { at = at + first; len = 1 } in
       let count : last - first ≡ suc (last - 1 - first) = omega (arith, past) in
       let place : at + last ≡ at + (first + 1) + (last - 1 - first) = omega (arith, past) in
-      so at ∙ ap (λ n. open_runs blank have want at (Some run) (at + (first + 1)) n) count
+      so at ∙ ap (λ n. open_runs (differs_at blank have want at) (Some run) (at + (first + 1)) n) count
       ∙ same_before (differs_at blank have want at) (last - 1 - first) (at + (first + 1)) (at + last) run place (looked at last old result false is says told)
 
   pub this_one : (first last old : ℕ) (result : Bool) → first < last → old ≡ old_over blank (slice_index have last) → result ≡ not (old == slice_index want last) → result ≡ true
-      → ((at : ℕ) → page_runs blank false have want at ≡ open_runs blank have want at (Some (record { at = at + first; len = 1 })) (at + (first + 1)) (last - first))
+      → ((at : ℕ) → page_runs blank false have want at ≡ open_runs (differs_at blank have want at) (Some (record { at = at + first; len = 1 })) (at + (first + 1)) (last - first))
       → IsRun blank have want first last
   this_one first last old result past is says told so at =
       let run : Run = record { at = at + first; len = 1 } in
       let count : last - first ≡ suc (last - 1 - first) = omega (arith, past) in
       let place : at + last ≡ at + (first + 1) + (last - 1 - first) = omega (arith, past) in
       let long : at + last - (at + first) ≡ last - first = omega arith in
-      so at ∙ ap (λ n. open_runs blank have want at (Some run) (at + (first + 1)) n) count
+      so at ∙ ap (λ n. open_runs (differs_at blank have want at) (Some run) (at + (first + 1)) n) count
       ∙ ends_there (differs_at blank have want at) (last - 1 - first) (at + (first + 1)) (at + last) run place (looked at last old result true is says told)
       ∙ ap (λ (n : ℕ). some_run (Some (record { at = at + first; len = n + 1 }))) long

@@ -15,7 +15,7 @@ use Rattle.nor_geometry.specs.declared.unit.PlanUnit.TheVariants as unit
 use Rattle.nor_geometry.specs.Plan.{HasPart}
 use Rattle.std.proofs.Math.Pow.{pow_pos}
 use Rattle.nor_pages.specs.declared.run.Run.{Run}
-use Rattle.nor_pages.specs.Runs.{IsUnit, IsSplit, IsBlank, run_program, extended, some_run, reaches_back, ended, onward, runs_on, old_over, closed_at, differs_at, page_runs, pages_runs}
+use Rattle.nor_pages.specs.Runs.{IsUnit, IsSplit, IsBlank, run_program, extended, some_run, reaches_back, ended, onward, runs_on, old_over, closed_at, differs_at, page_runs, change, pages_runs}
 
 -- the programs of a part of a page
 abbrev of_part : (ℕ → Bool) → List ℕ → List ℕ → List Program
@@ -150,7 +150,7 @@ record IsPartOf (blank : Bool) (have want level target : List ℕ) (start : ℕ)
 
 pages_programmed : (m : Parameters) (blank : Bool) (have want level target : List ℕ) (start n : ℕ) → IsPartOf blank have want level target start
     → n * m.page ≤ length want
-    → map (run_program target) (pages_runs blank m.erased_only m.page have want start n) ≡ flat_map (page_programs m level target) (pages m.page start n)
+    → map (run_program target) (pages_runs m.erased_only m.page (change blank have want) start n) ≡ flat_map (page_programs m level target) (pages m.page start n)
 pages_programmed m blank have want level target start zero is inside = refl
 pages_programmed m blank have want level target start (suc n) is inside =
     let low = n * m.page in
@@ -164,7 +164,7 @@ pages_programmed m blank have want level target start (suc n) is inside =
       new = λ i small. let place : start + low + i ≡ start + (low + i) = omega arith in
           ap (slice_index target) place ∙ is.new (low + i) (omega (arith, small, fits)) ∙ sym (part_at want low m.page i small);
     } in
-    map-append (run_program target) (pages_runs blank m.erased_only m.page have want start n) last
+    map-append (run_program target) (pages_runs m.erased_only m.page (change blank have want) start n) last
     ∙ ap (λ ps. ps ++ map (run_program target) last) (pages_programmed m blank have want level target start n is (omega (arith, more, inside)))
     ∙ ap (λ ps. flat_map (page_programs m level target) (pages m.page start n) ++ ps)
     (page_programmed m blank (slice_range have low (low + m.page)) (slice_range want low (low + m.page)) level target (start + low) page)
@@ -172,7 +172,7 @@ pages_programmed m blank have want level target start (suc n) is inside =
 
 -- of a block, whatever it held, and of a page
 pub block_programmed : (m : Parameters) (have want level target : List ℕ) (start size : ℕ) → length want ≡ size → size % m.page ≡ 0 → IsBlank level start size → HasPart target want start
-    → map (run_program target) (pages_runs true m.erased_only m.page have want start (length want / m.page)) ≡ flat_map (page_programs m level target) (pages m.page start (size / m.page))
+    → map (run_program target) (pages_runs m.erased_only m.page (change true have want) start (length want / m.page)) ≡ flat_map (page_programs m level target) (pages m.page start (size / m.page))
 block_programmed m have want level target start size long whole blank part =
     let all : length want / m.page * m.page + length want % m.page ≡ length want = div-add-mod' (length want) m.page in
     pages_programmed m true have want level target start (length want / m.page)
@@ -180,17 +180,17 @@ block_programmed m have want level target start size long whole blank part =
     ∙ ap (λ n. flat_map (page_programs m level target) (pages m.page start (n / m.page))) long
 
 pub one_page_programmed : (m : Parameters) (have want level target : List ℕ) (start : ℕ) → length want ≡ m.page → length have ≡ length want → 0 < m.page → HasPart level have start
-    → HasPart target want start → map (run_program target) (pages_runs false m.erased_only m.page have want start (length want / m.page)) ≡ page_programs m level target start
+    → HasPart target want start → map (run_program target) (pages_runs m.erased_only m.page (change false have want) start (length want / m.page)) ≡ page_programs m level target start
 one_page_programmed m have want level target start long lengths some first part =
     let one : length want / m.page ≡ 1 = ap (λ n. n / m.page) long ∙ div_self some in
-    ap (λ n. map (run_program target) (pages_runs false m.erased_only m.page have want start n)) one
+    ap (λ n. map (run_program target) (pages_runs m.erased_only m.page (change false have want) start n)) one
     ∙ pages_programmed m false have want level target start 1
     (record { old = λ i small. first.same i (omega (arith, lengths, small)); new = λ i small. part.same i small }) (omega (arith, long))
     ∙ append-nil (page_programs m level target start)
 
 -- so is what a unit's runs promise
 pub block_split : (m : Parameters) (u : PlanUnit) (b : Block) (have want : List ℕ) (runs : List Run) → u ≡ unit.Block b → IsUnit m u (length want)
-    → runs ≡ pages_runs true m.erased_only m.page have want b.start (length want / m.page) → IsSplit m u have want runs
+    → runs ≡ pages_runs m.erased_only m.page (change true have want) b.start (length want / m.page) → IsSplit m u have want runs
 block_split m u b have want runs is req are =
     let its : IsUnit m (unit.Block b) (length want) = subst (λ v. IsUnit m v (length want)) is req in
     let whole : b.size % m.page ≡ 0 = ap (λ n. n % m.page) (sym its.0) ∙ its.1.0 in
@@ -198,7 +198,7 @@ block_split m u b have want runs is req are =
     (λ level target blank part. ap (map (run_program target)) are ∙ block_programmed m have want level target b.start b.size its.0 whole blank part)
 
 pub page_split : (m : Parameters) (u : PlanUnit) (start : ℕ) (have want : List ℕ) (runs : List Run) → 0 < m.page → length have ≡ length want → u ≡ unit.Page start
-    → IsUnit m u (length want) → runs ≡ pages_runs false m.erased_only m.page have want start (length want / m.page) → IsSplit m u have want runs
+    → IsUnit m u (length want) → runs ≡ pages_runs m.erased_only m.page (change false have want) start (length want / m.page) → IsSplit m u have want runs
 page_split m u start have want runs some lengths is req are =
     let its : IsUnit m (unit.Page start) (length want) = subst (λ v. IsUnit m v (length want)) is req in
     subst (λ v. IsSplit m v have want runs) (sym is)

@@ -4,7 +4,7 @@ use Rattle.std.specs.List.{range_with_len, slice_range, AllByRecursion}
 use Rattle.std.proofs.Math.Nat.{div-add-mod'}
 use Rattle.nor_geometry.specs.declared.unit.PlanUnit.{PlanUnit}
 use Rattle.nor_pages.specs.declared.run.Run.{Run}
-use Rattle.nor_pages.specs.Runs.{LiesBetween, AreBetween, unit_start, some_run, ended, onward, extended, runs_on, closed_at, differs_at, page_runs, pages_runs}
+use Rattle.nor_pages.specs.Runs.{LiesBetween, AreBetween, unit_start, some_run, ended, onward, extended, runs_on, closed_at, differs_at, page_runs, change, pages_runs}
 use Rattle.nor_pages.proofs.UnitRuns.{part_length}
 
 -- a run so far begins past one address, and ends by another
@@ -78,7 +78,7 @@ page_between blank erased_only have want at =
     (runs_between (closed_at blank erased_only have at) (differs_at blank have want at) at (at + length want) (length want) at None (omega arith) (omega arith) tt)
 
 pages_between : (blank erased_only : Bool) (page : ℕ) (have want : List ℕ) (start n : ℕ) → n * page ≤ length want
-    → AreBetween start (start + n * page) (n * page) (pages_runs blank erased_only page have want start n)
+    → AreBetween start (start + n * page) (n * page) (pages_runs erased_only page (change blank have want) start n)
 pages_between blank erased_only page have want start zero inside = record { each = tt; few = omega arith }
 pages_between blank erased_only page have want start (suc n) inside =
     let more : suc n * page ≡ n * page + page = omega arith in
@@ -86,7 +86,7 @@ pages_between blank erased_only page have want start (suc n) inside =
     let long : length (slice_range want low (low + page)) ≡ page = part_length want low page (omega (arith, more, inside)) in
     let before = pages_between blank erased_only page have want start n (omega (arith, more, inside)) in
     let here = page_between blank erased_only (slice_range have low (low + page)) (slice_range want low (low + page)) (start + low) in
-    let first : AreBetween start (start + suc n * page) low (pages_runs blank erased_only page have want start n) = record {
+    let first : AreBetween start (start + suc n * page) low (pages_runs erased_only page (change blank have want) start n) = record {
       each = all_wider start (start + low) start (start + suc n * page) (omega arith) (omega (arith, more)) _ before.each;
       few = before.few;
     } in
@@ -99,14 +99,14 @@ pages_between blank erased_only page have want start (suc n) inside =
 
 -- so do those of a unit
 pub unit_between : (blank erased_only : Bool) (page : ℕ) (have want : List ℕ) (start : ℕ) (u : PlanUnit) (runs : List Run) → unit_start u ≡ start
-    → runs ≡ pages_runs blank erased_only page have want start (length want / page)
+    → runs ≡ pages_runs erased_only page (change blank have want) start (length want / page)
     → AreBetween (unit_start u) (unit_start u + length want) (length want) runs
 unit_between blank erased_only page have want start u runs from are =
     let all : length want / page * page + length want % page ≡ length want = div-add-mod' (length want) page in
     let fits : length want / page * page ≤ length want = omega (arith, all) in
     let is = pages_between blank erased_only page have want start (length want / page) fits in
     subst (λ rs. AreBetween (unit_start u) (unit_start u + length want) (length want) rs) (sym are)
-    (subst (λ a. AreBetween a (a + length want) (length want) (pages_runs blank erased_only page have want start (length want / page))) (sym from)
+    (subst (λ a. AreBetween a (a + length want) (length want) (pages_runs erased_only page (change blank have want) start (length want / page))) (sym from)
     (record {
       each = all_wider start (start + length want / page * page) start (start + length want) (omega arith) (omega (arith, fits)) _ is.each;
       few = omega (arith, is.few, fits);

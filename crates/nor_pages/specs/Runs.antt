@@ -90,9 +90,9 @@ abbrev pub page_runs : Bool → Bool → List ℕ → List ℕ → ℕ → List 
 page_runs blank erased_only have want at =
     runs_on (closed_at blank erased_only have at) (differs_at blank have want at) None (range_with_len at (length want))
 
--- where each byte may be programmed: the runs of the addresses left, of which a run so far may go on
-abbrev pub open_runs : Bool → List ℕ → List ℕ → ℕ → Option Run → ℕ → ℕ → List Run
-open_runs blank have want at run a n = runs_on (closed_at blank false have at) (differs_at blank have want at) run (range_with_len a n)
+-- where each byte may be programmed: the runs of so many addresses from one on, of which a run so far may go on
+abbrev pub open_runs : (ℕ → Bool) → Option Run → ℕ → ℕ → List Run
+open_runs differs run a n = runs_on (λ a. false) differs run (range_with_len a n)
 
 -- such a page has no run, wherever it begins
 abbrev pub LacksRun : Bool → List ℕ → List ℕ → Type 0
@@ -101,15 +101,24 @@ LacksRun blank have want = (at : ℕ) → page_runs blank false have want at ≡
 -- its run begins at this place: all runs are those that go on from there
 pub record BeginsRun (blank : Bool) (have want : List ℕ) (first : ℕ) : Type 0 where
   pub inside : first < length want
-  pub runs : (at : ℕ) → page_runs blank false have want at ≡ open_runs blank have want at (Some (record { at = at + first; len = 1 })) (at + (first + 1)) (length want - (first + 1))
+  pub runs : (at : ℕ) → page_runs blank false have want at ≡ open_runs (differs_at blank have want at) (Some (record { at = at + first; len = 1 })) (at + (first + 1)) (length want - (first + 1))
 
 -- its run goes from one place to another
 abbrev pub IsRun : Bool → List ℕ → List ℕ → ℕ → ℕ → Type 0
 IsRun blank have want first last = (at : ℕ) → page_runs blank false have want at ≡ record { at = at + first; len = last - first + 1 } ∷ []
 
+-- the bytes of some pages: whether they are erased first, what they were and what they are to be
+pub record Change : Type 0 where
+  pub blank : Bool
+  pub have : List ℕ
+  pub want : List ℕ
+
+abbrev pub change : Bool → List ℕ → List ℕ → Change
+change blank have want = record { blank = blank; have = have; want = want }
+
 -- the runs of so many pages, the last of them last
-abbrev pub pages_runs : Bool → Bool → ℕ → List ℕ → List ℕ → ℕ → ℕ → List Run
-pages_runs blank erased_only page have want start zero = []
-pages_runs blank erased_only page have want start (suc n) =
-    pages_runs blank erased_only page have want start n
-    ++ page_runs blank erased_only (slice_range have (n * page) (n * page + page)) (slice_range want (n * page) (n * page + page)) (start + n * page)
+abbrev pub pages_runs : Bool → ℕ → Change → ℕ → ℕ → List Run
+pages_runs erased_only page c start zero = []
+pages_runs erased_only page c start (suc n) =
+    pages_runs erased_only page c start n
+    ++ page_runs c.blank erased_only (slice_range c.have (n * page) (n * page + page)) (slice_range c.want (n * page) (n * page + page)) (start + n * page)

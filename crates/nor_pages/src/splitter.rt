@@ -4,7 +4,7 @@ ghost use Rattle.std.specs.Prelude.{◌≡◌, ◌≤◌, ◌<◌, ◌+◌, ◌/
 ghost use Rattle.std.specs.Prelude.{false, IfOk, MatchOption};
 ghost use Rattle.nor_pages.specs.Runs.{IsUnit, IsSplit, AreBetween, unit_start, page_runs};
 ghost use Rattle.nor_pages.specs.Runs.{old_over, extended, reaches_back, some_run, ended, onward};
-ghost use Rattle.nor_pages.specs.Runs.{pages_runs, LacksRun, BeginsRun, IsRun};
+ghost use Rattle.nor_pages.specs.Runs.{change, pages_runs, LacksRun, BeginsRun, IsRun};
 
 use crate::fault::PagesFault;
 use crate::run::Run;
@@ -51,7 +51,7 @@ fn split_pages<A: Allocator>(
     requires lengths { length have.now ≡ length want.now }
     requires inside { start + length want.now ≤ 2 ^ 28 }
     ensures { IfOk result (λ runs. runs.items
-        ≡ pages_runs blank meaning.now.erased_only meaning.now.page have.now want.now start
+        ≡ pages_runs meaning.now.erased_only meaning.now.page (change blank have.now want.now) start
         (length want.now / meaning.now.page)) }
 {
     meaning.acceptance();

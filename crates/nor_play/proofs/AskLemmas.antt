@@ -19,7 +19,9 @@ use Rattle.nor_play.specs.declared.fault.Halt.TheVariants as halt
 use Rattle.nor_play.specs.declared.fault.PlayFault.{PlayFault}
 use Rattle.nor_play.specs.declared.fault.PlayFault.TheVariants as fault
 use Rattle.nor_play.specs.Halt.{halt_of}
+use Rattle.nor_play.specs.Fed.{Player}
 use Rattle.nor_play.specs.Numbered.{PlaysNumbered}
+use Rattle.nor_play.specs.Turns.{StopsStep}
 use Rattle.nor_play.specs.Asks.{turns_on, turns_for, asks_of, asks_after, asks, AsksPart, AsksOnce, AsksStep, AsksNumbered, AsksPlay}
 use Rattle.nor_play.proofs.PollLemmas.{IsPolling}
 use Rattle.nor_play.proofs.PlayLemmas.{HasPlayed, at_one}
@@ -34,12 +36,12 @@ pub as_many : (P Q : ℕ → Type 0) (m n : ℕ) → m ≡ n → AsksMore P Q m 
 as_many P Q m n same = subst (AsksMore P Q) same
 
 -- one transaction that failed, the first of some
-one_failed : (P Q : ℕ → Type 0) (all : ℕ) → all ≡ 1 → AsksMore P Q 1 → AsksPart P Q 0 all
+one_failed : (P Q : ℕ → Type 0) (all : ℕ) → all ≡ 1 → AsksMore P Q 1 → AsksPart (AsksMore P Q) 0 all
 one_failed P Q all one asked = (0, omega (arith, one), as_many P Q 1 (0 + 0 + 1) refl asked)
 
 -- a step of one transaction
 pub of_one : (A : Type 0) (before : Shown) (P Q : ℕ → Type 0) (limit : ℕ) (x : Step) (h : Stopped) → asks_of before.setting limit before.chip x ≡ 1
-    → AsksOnce {A = A} P Q (Err h) → AsksStep before P Q limit x (Err h)
+    → AsksOnce {A = A} (AsksMore P Q) (Err h) → AsksStep before (AsksMore P Q) limit x (Err h)
 of_one A before P Q limit x (halt.Wrong why) one asked = as_many P Q 1 _ (sym one) asked
 of_one A before P Q limit x halt.Failed one asked = one_failed P Q _ one asked
 of_one A before P Q limit x halt.Memory one asked = asked
@@ -129,14 +131,14 @@ module _ (before now after : Shown) (P Q R : ℕ → Type 0) (limit turn : ℕ) 
       pub asks_on : says_busy out ≡ true → IsAsking before after P R limit (turn + 1)
       asks_on busy = let all = turned true busy in record { asked = further one; turns = omega (arith, all) }
 
-      pub asks_enough : (clocks : List ℕ) → bytes_eq clocks poll_clocks ≡ true → says_busy out ≡ false → AsksStep before P R limit (Poll clocks) (Ok (turn + 1))
+      pub asks_enough : (clocks : List ℕ) → bytes_eq clocks poll_clocks ≡ true → says_busy out ≡ false → AsksStep before (AsksMore P R) limit (Poll clocks) (Ok (turn + 1))
       asks_enough clocks is idle =
           let all = turned false idle in
           let whole = poll_all before limit clocks is in
           (omega (arith, all, whole), further one)
 
     pub asks_halts : (clocks out : List ℕ) (why : PortFault) → bytes_eq clocks poll_clocks ≡ true → Transacts now after (Err why) poll_clocks out → AsksMore Q R 1
-        → AsksStep before P R limit (Poll clocks) (Err (halt_of why))
+        → AsksStep before (AsksMore P R) limit (Poll clocks) (Err (halt_of why))
     asks_halts clocks out (port.Wrong why) is told one =
         let all = next (Err why) told.0 in
         let whole = poll_all before limit clocks is in
@@ -201,7 +203,7 @@ module _ (before now : Shown) (P Q R : ℕ → Type 0) (limit : ℕ) (steps : Li
   in_setting : asks_of now.setting limit now.chip x ≡ asks_of before.setting limit now.chip x
   in_setting = ap (λ (s : Setting). asks_of s limit now.chip x) has.setting
 
-  pub one_more_asked : (turns : ℕ) → AsksNumbered now Q R limit x (Ok turns) → HasAsked before P R limit (steps ++ x ∷ []) (count + turns)
+  pub one_more_asked : (turns : ℕ) → AsksNumbered now (AsksMore Q R) limit x (Ok turns) → HasAsked before P R limit (steps ++ x ∷ []) (count + turns)
   one_more_asked turns told =
       let first = told.0 in
       let sum = asked.sum in
@@ -210,19 +212,19 @@ module _ (before now : Shown) (P Q R : ℕ → Type 0) (limit : ℕ) (steps : Li
       let here = in_setting in
       record { asked = more_asked P Q R count turns asked.asked told.1; sum = omega (arith, first, sum, all, last, here) }
 
-  pub wrong_asked : (at number : ℕ) (after : Shown) (why : Wrong) (rest : List Step) → PlaysNumbered now after limit number x (Err (fault.Wrong at why))
-      → AsksNumbered now Q R limit x (Err (fault.Wrong at why)) → AsksMore P R (asks before.setting limit before.chip (steps ++ x ∷ rest))
-  wrong_asked at number after why rest played told =
+  pub wrong_asked : (at : ℕ) (after : Shown) (why : Wrong) (rest : List Step) → StopsStep now after limit x why
+      → AsksNumbered now (AsksMore Q R) limit x (Err (fault.Wrong at why)) → AsksMore P R (asks before.setting limit before.chip (steps ++ x ∷ rest))
+  wrong_asked at after why rest stops told =
       let stop : step_for before.setting limit now.chip x ≡ Err (record { why = why; chip = after.chip }) =
-      ap (λ (s : Setting). step_for s limit now.chip x) (sym has.setting) ∙ played.1.stops in
+      ap (λ (s : Setting). step_for s limit now.chip x) (sym has.setting) ∙ stops.stops in
       let sum = asked.sum in
       let all = asks_then before.setting limit before.chip now.chip steps (x ∷ rest) has.bounded in
       let last = stop_asks before.setting limit now.chip x rest _ stop in
       let here = in_setting in
       as_many P R (count + asks_of now.setting limit now.chip x) _ (omega (arith, sum, all, last, here)) (more_asked P Q R count _ asked.asked told)
 
-  pub failed_asked : AsksPart Q R 0 (asks_of now.setting limit now.chip x)
-      → AsksPart P R (asks before.setting limit before.chip steps) (asks_of before.setting limit now.chip x)
+  pub failed_asked : AsksPart (AsksMore Q R) 0 (asks_of now.setting limit now.chip x)
+      → AsksPart (AsksMore P R) (asks before.setting limit before.chip steps) (asks_of before.setting limit now.chip x)
   failed_asked told =
       let turns = told.0 in
       let within = told.1 in
@@ -234,14 +236,22 @@ module _ (before now : Shown) (P Q R : ℕ → Type 0) (limit : ℕ) (steps : Li
   left_asked told = let sum = asked.sum in as_many P R (count + 0) _ (omega (arith, sum)) (more_asked P Q R count 0 asked.asked told)
 
 -- a step's halt ends the play
-pub halt_asks : (before now after : Shown) (P Q R : ℕ → Type 0) (limit number : ℕ) (steps : List Step) (x : Step) (count : ℕ) (f : PlayFault)
-    → HasPlayed before now limit (take number steps) count → HasAsked before P Q limit (take number steps) count → number < length steps → x ≡ get_or steps number x
-    → PlaysNumbered now after limit number x (Err f) → AsksNumbered now Q R limit x (Err f) → AsksPlay before P R limit steps (Err f)
-halt_asks before now after P Q R limit number steps x count (fault.Wrong at why) has asked within is played told =
-    subst (λ (l : List Step). AsksMore P R (asks before.setting limit before.chip l)) (at_one steps number x within is)
-    (wrong_asked before now P Q R limit (take number steps) x count has asked at number after why (drop (number + 1) steps) played told)
-halt_asks before now after P Q R limit number steps x count (fault.PortFailed at) has asked within is played told =
-    subst (λ n. AsksPlay before P R limit steps (Err (fault.PortFailed n))) (sym played)
-    (record { within = within; chip = now.chip; reached = has.bounded; failed = x; is = is; asked = failed_asked before now P Q R limit (take number steps) x count has asked told })
-halt_asks before now after P Q R limit number steps x count fault.Memory has asked within is played told =
-    record { at = number; within = within; asked = left_asked before now P Q R limit (take number steps) x count has asked told }
+pub halt_asks : (before now after : Shown) (P Q R : ℕ → Type 0) (player : Player) (steps : List Step) (x : Step) (count : ℕ) (f : PlayFault)
+    → HasPlayed before now player.limit (take player.number steps) count → HasAsked before P Q player.limit (take player.number steps) count
+    → player.number < length steps → x ≡ get_or steps player.number x → PlaysNumbered now after player x (Err f) → AsksNumbered now (AsksMore Q R) player.limit x (Err f)
+    → AsksPlay before (AsksMore P R) player.limit steps (Err f)
+halt_asks before now after P Q R player steps x count (fault.Wrong at why) has asked within is played told =
+    subst (λ (l : List Step). AsksMore P R (asks before.setting player.limit before.chip l)) (at_one steps player.number x within is)
+    (wrong_asked before now P Q R player.limit (take player.number steps) x count has asked at after why (drop (player.number + 1) steps) played.1 told)
+halt_asks before now after P Q R player steps x count (fault.PortFailed at) has asked within is played told =
+    subst (λ n. AsksPlay before (AsksMore P R) player.limit steps (Err (fault.PortFailed n))) (sym played)
+    (record {
+      within = within;
+      chip = now.chip;
+      reached = has.bounded;
+      failed = x;
+      is = is;
+      asks_so = failed_asked before now P Q R player.limit (take player.number steps) x count has asked told;
+    })
+halt_asks before now after P Q R player steps x count fault.Memory has asked within is played told =
+    record { at = player.number; within = within; asks_so = left_asked before now P Q R player.limit (take player.number steps) x count has asked told }

@@ -1,7 +1,6 @@
 -- Steps played one after another.
 use Rattle.std.proofs.Common.{◌≡◌, ℕ, suc, ◌+◌, ◌*◌, ◌<◌, ◌≤◌, true, false, if◌then◌else◌, List, [], ◌∷◌, ◌++◌, length, take, drop, Result, Ok, Err, refl, sym, ◌∙◌, ap, subst, arith, append_assoc, append-nil, length-append, get_or}
 use Rattle.std.proofs.lemmas.List.{drop_more, take-append-drop, length-take-le}
-use Rattle.std.specs.Prelude.{MatchResult}
 use Rattle.nor_base.specs.declared.step.Step.{Step}
 use Rattle.nor_base.specs.declared.wrong.Wrong.{Wrong}
 use Rattle.nor_base.specs.declared.wrong.Wrong.TheVariants as wrong
@@ -9,14 +8,12 @@ use Rattle.nor_base.specs.Chip.{Setting, Chip, is_settled}
 use Rattle.nor_base.specs.Port.{Shown}
 use Rattle.nor_base.specs.Run.{Stop, Halt, one_later, play_on, played, go_on, run, step, step_for, step_trail, trail_after, trail}
 use Rattle.nor_base.proofs.OutcomeLaws.{later_ok}
-use Rattle.nor_play.specs.declared.fault.Halt.{Halt as Stopped}
-use Rattle.nor_play.specs.declared.fault.Halt.TheVariants as halt
 use Rattle.nor_play.specs.declared.fault.PlayFault.{PlayFault}
 use Rattle.nor_play.specs.declared.fault.PlayFault.TheVariants as fault
-use Rattle.nor_play.specs.Halt.{play_fault}
-use Rattle.nor_play.specs.Turns.{EndsStep, StopsStep, PlaysStep, CountsHalt}
+use Rattle.nor_play.specs.Turns.{EndsStep, StopsStep}
+use Rattle.nor_play.specs.Fed.{Player}
 use Rattle.nor_play.specs.Numbered.{PlaysNumbered}
-use Rattle.nor_play.specs.Play.{at_end, EndsPlay, StopsPlay, FailsPlay, LeavesPlay, Plays, CountsPlay}
+use Rattle.nor_play.specs.Play.{at_end, EndsPlay, FailsPlay, LeavesPlay, Plays}
 
 -- a stop counted from so many steps earlier
 abbrev later : ℕ → Result Chip Stop → Result Chip Stop
@@ -109,7 +106,8 @@ module _ (before now after : Shown) (limit : ℕ) (steps : List Step) (x : Step)
       }
 
   -- a step that goes wrong, with any that follow
-  pub stops_at : (why : Wrong) (rest : List Step) → StopsStep now after limit x why → StopsPlay before after limit (steps ++ x ∷ rest) (length steps) why
+  pub stops_at : (why : Wrong) (rest : List Step) → StopsStep now after limit x why
+      → Plays before after limit (steps ++ x ∷ rest) (Err (fault.Wrong (length steps) why))
   unfolding played
   stops_at why rest stop =
       let here : step_for before.setting limit now.chip x ≡ Err (record { why = why; chip = after.chip }) =
@@ -119,10 +117,7 @@ module _ (before now after : Shown) (limit : ℕ) (steps : List Step) (x : Step)
       played_then before.setting limit before.chip now.chip steps (x ∷ rest) has.bounded
       ∙ ap (λ r. later (length steps) (play_on r (λ d. played before.setting limit d rest))) here
       ∙ ap (λ n. Err (record { at = n; why = why; chip = after.chip })) number in
-      record {
-        setting = stop.setting ∙ has.setting;
-        stops = ap (at_end before.setting (length (steps ++ x ∷ rest))) stopped;
-      }
+      (stop.setting ∙ has.setting, ap (at_end before.setting (length (steps ++ x ∷ rest))) stopped)
 
 -- the end
 pub play_ends : (before now : Shown) (limit : ℕ) (steps : List Step) (count : ℕ) → HasPlayed before now limit steps count → is_settled now.setting now.chip ≡ true
@@ -136,28 +131,13 @@ play_ends before now limit steps count has settled = record {
 }
 
 pub play_unsettled : (before now : Shown) (limit : ℕ) (steps : List Step) (count : ℕ) → HasPlayed before now limit steps count → is_settled now.setting now.chip ≡ false
-    → StopsPlay before now limit steps (length steps) wrong.NotIdleAtEnd
-play_unsettled before now limit steps count has settled = record {
-  setting = has.setting;
-  stops = ap (at_end before.setting (length steps)) has.bounded
+    → Plays before now limit steps (Err (fault.Wrong (length steps) wrong.NotIdleAtEnd))
+play_unsettled before now limit steps count has settled = (
+  has.setting,
+  ap (at_end before.setting (length steps)) has.bounded
       ∙ ap (λ b. if b then Ok now.chip else Err (record { at = length steps; why = wrong.NotIdleAtEnd; chip = now.chip }))
-      (ap (λ (s : Setting). is_settled s now.chip) (sym has.setting) ∙ settled);
-}
-
--- a step's answer with its number
-pub numbered : (before after : Shown) (limit number : ℕ) (x : Step) (r : Result ℕ Stopped) (t : Result ℕ PlayFault) → PlaysStep before after limit x r
-    → MatchResult r (λ n. t ≡ Ok n) (λ e. t ≡ Err (play_fault e number)) → PlaysNumbered before after limit number x t
-numbered before after limit number x (Ok n) t plays told = subst (PlaysNumbered before after limit number x) (sym told) plays
-numbered before after limit number x (Err (halt.Wrong why)) t plays told = subst (PlaysNumbered before after limit number x) (sym told) (refl, plays)
-numbered before after limit number x (Err halt.Failed) t plays told = subst (PlaysNumbered before after limit number x) (sym told) refl
-numbered before after limit number x (Err halt.Memory) t plays told = subst (PlaysNumbered before after limit number x) (sym told) plays
-
-pub counts : (before after number : ℕ) (r : Result ℕ Stopped) (t : Result ℕ PlayFault) → CountsHalt before after r
-    → MatchResult r (λ n. t ≡ Ok n) (λ e. t ≡ Err (play_fault e number)) → CountsPlay before after t
-counts before after number (Ok n) t plays told = subst (CountsPlay before after) (sym told) plays
-counts before after number (Err (halt.Wrong why)) t plays told = subst (CountsPlay before after) (sym told) plays
-counts before after number (Err halt.Failed) t plays told = subst (CountsPlay before after) (sym told) plays
-counts before after number (Err halt.Memory) t plays told = subst (CountsPlay before after) (sym told) plays
+      (ap (λ (s : Setting). is_settled s now.chip) (sym has.setting) ∙ settled),
+)
 
 -- all steps by one of them
 pub at_one : (steps : List Step) (at : ℕ) (x : Step) → at < length steps → x ≡ get_or steps at x → take at steps ++ x ∷ drop (at + 1) steps ≡ steps
@@ -165,14 +145,16 @@ at_one steps at x within is =
     ap (λ (y : Step). take at steps ++ y ∷ drop (at + 1) steps) is ∙ sym (ap (λ l. take at steps ++ l) (drop_more steps at x within)) ∙ take-append-drop at steps
 
 -- a step's halt ends the play
-pub halts_at : (before now after : Shown) (limit number : ℕ) (steps : List Step) (x : Step) (count : ℕ) (f : PlayFault) → HasPlayed before now limit (take number steps) count
-    → number < length steps → x ≡ get_or steps number x → PlaysNumbered now after limit number x (Err f) → Plays before after limit steps (Err f)
-halts_at before now after limit number steps x count (fault.Wrong at why) has within is told =
-    let long : length (take number steps) ≡ number = length-take-le number steps (omega arith) in
-    let stops = stops_at before now after limit (take number steps) x count has why (drop (number + 1) steps) told.1 in
-    subst (λ (l : List Step). StopsPlay before after limit l at why) (at_one steps number x within is)
-    (subst (λ n. StopsPlay before after limit (take number steps ++ x ∷ drop (number + 1) steps) n why) (long ∙ sym told.0) stops)
-halts_at before now after limit number steps x count (fault.PortFailed at) has within is told =
-    subst (FailsPlay before limit steps) (sym told) (record { within = within; chip = now.chip; reached = has.bounded })
-halts_at before now after limit number steps x count fault.Memory has within is told =
-    subst (λ (shown : Shown). LeavesPlay before shown limit steps) (sym told) (record { at = number; within = within; setting = has.setting; reached = has.bounded })
+pub halts_at : (before now after : Shown) (player : Player) (steps : List Step) (x : Step) (count : ℕ) (f : PlayFault)
+    → HasPlayed before now player.limit (take player.number steps) count → player.number < length steps → x ≡ get_or steps player.number x
+    → PlaysNumbered now after player x (Err f) → Plays before after player.limit steps (Err f)
+halts_at before now after player steps x count (fault.Wrong at why) has within is told =
+    let long : length (take player.number steps) ≡ player.number = length-take-le player.number steps (omega arith) in
+    let stops = stops_at before now after player.limit (take player.number steps) x count has why (drop (player.number + 1) steps) told.1 in
+    subst (λ (l : List Step). Plays before after player.limit l (Err (fault.Wrong at why))) (at_one steps player.number x within is)
+    (subst (λ n. Plays before after player.limit (take player.number steps ++ x ∷ drop (player.number + 1) steps) (Err (fault.Wrong n why))) (long ∙ sym told.0) stops)
+halts_at before now after player steps x count (fault.PortFailed at) has within is told =
+    subst (FailsPlay before player.limit steps) (sym told) (record { within = within; chip = now.chip; reached = has.bounded })
+halts_at before now after player steps x count fault.Memory has within is told =
+    subst (λ (shown : Shown). LeavesPlay before shown player.limit steps) (sym told)
+    (record { at = player.number; within = within; setting = has.setting; reached = has.bounded })

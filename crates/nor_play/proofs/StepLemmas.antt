@@ -12,7 +12,7 @@ use Rattle.nor_base.specs.Run.{poll_clocks, is_verify, done, matched, step, halt
 use Rattle.nor_laws.specs.Spelling.{VerifyKeeps}
 use Rattle.nor_play.specs.declared.fault.Halt.TheVariants as halt
 use Rattle.nor_play.specs.declared.fault.Halt.{Halt as Stopped}
-use Rattle.nor_play.specs.Turns.{Gives, EndsStep, StopsStep, PlaysStep}
+use Rattle.nor_play.specs.Turns.{Halts, EndsStep, StopsStep, PlaysStep}
 
 -- clocks sent once
 pub send_ends : (before after : Shown) (limit : ℕ) (clocks bytes : List ℕ) → 0 < limit → after.setting ≡ before.setting
@@ -26,15 +26,15 @@ send_ends before after limit clocks bytes some same e = record {
   few = some;
 }
 
-pub send_halts : {A : Type 0} (items : A → List ℕ) (before after : Shown) (limit : ℕ) (clocks : List ℕ) (h : Stopped) → Gives items before after clocks (Err h)
+pub send_halts : (before after : Shown) (limit : ℕ) (clocks : List ℕ) (h : Stopped) → Halts before after clocks h
     → PlaysStep before after limit (Send clocks) (Err h)
 unfolding step_for
-send_halts items before after limit clocks (halt.Wrong why) given = record {
+send_halts before after limit clocks (halt.Wrong why) given = record {
   setting = ap (λ (shown : Shown). shown.setting) given.0;
   stops = ap (λ r. halt_on before.chip (done r)) given.1 ∙ ap (λ (shown : Shown). Err (record { why = why; chip = shown.chip })) (sym given.0);
 }
-send_halts items before after limit clocks halt.Failed given = tt
-send_halts items before after limit clocks halt.Memory given = given
+send_halts before after limit clocks halt.Failed given = tt
+send_halts before after limit clocks halt.Memory given = given
 
 -- a verify by its clocks and its transaction
 verify_by : (s : Setting) (limit : ℕ) (c : Chip) (clocks expect : List ℕ) (r : Result (Chip × List ℕ) Wrong) → is_verify clocks ≡ true → effect s c clocks ≡ r
@@ -82,14 +82,14 @@ verify_unknown before limit clocks expect is = record {
   stops = ap (λ b. halt_on before.chip (if b then matched expect (effect before.setting before.chip clocks) else Err wrong.Unknown)) is;
 }
 
-pub verify_halts : {A : Type 0} (items : A → List ℕ) (before after : Shown) (limit : ℕ) (clocks expect : List ℕ) (h : Stopped) → is_verify clocks ≡ true
-    → Gives items before after clocks (Err h) → PlaysStep before after limit (Verify clocks expect) (Err h)
-verify_halts items before after limit clocks expect (halt.Wrong why) is given = record {
+pub verify_halts : (before after : Shown) (limit : ℕ) (clocks expect : List ℕ) (h : Stopped) → is_verify clocks ≡ true
+    → Halts before after clocks h → PlaysStep before after limit (Verify clocks expect) (Err h)
+verify_halts before after limit clocks expect (halt.Wrong why) is given = record {
   setting = ap (λ (shown : Shown). shown.setting) given.0;
   stops = verify_by before.setting limit before.chip clocks expect _ is given.1 ∙ ap (λ (shown : Shown). Err (record { why = why; chip = shown.chip })) (sym given.0);
 }
-verify_halts items before after limit clocks expect halt.Failed is given = tt
-verify_halts items before after limit clocks expect halt.Memory is given = given
+verify_halts before after limit clocks expect halt.Failed is given = tt
+verify_halts before after limit clocks expect halt.Memory is given = given
 
 -- a poll of other clocks
 pub poll_unknown : (before : Shown) (limit : ℕ) (clocks : List ℕ) → bytes_eq clocks poll_clocks ≡ false → StopsStep before before limit (Poll clocks) wrong.Unknown

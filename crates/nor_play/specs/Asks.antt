@@ -1,4 +1,4 @@
--- How often a play asks its port for a transaction.
+-- How often a play asks its port for a transaction: asked n says that it was asked n times more.
 use Rattle.std.specs.Prelude.{◌≡◌, ℕ, zero, suc, ◌+◌, ◌<◌, if◌then◌else◌, List, [], ◌∷◌, take, get_or, Result, Ok, Err, length}
 use Rattle.std.specs.Str.{bytes_eq}
 use Rattle.nor_base.specs.declared.step.Step.{Step}
@@ -8,7 +8,6 @@ use Rattle.nor_base.specs.Chip.{Setting, Chip}
 use Rattle.nor_base.specs.Effect.{effect}
 use Rattle.nor_base.specs.Port.{Shown}
 use Rattle.nor_base.specs.Run.{Halt, poll_clocks, says_busy, is_verify, step_for, played}
-use Rattle.nor_chip.specs.Asked.{AsksMore}
 use Rattle.nor_play.specs.declared.fault.Halt.{Halt as Stopped}
 use Rattle.nor_play.specs.declared.fault.Halt.TheVariants as halt
 use Rattle.nor_play.specs.declared.fault.PlayFault.{PlayFault}
@@ -40,46 +39,46 @@ asks s limit c [] = 0
 asks s limit c (x ∷ xs) = asks_of s limit c x + asks_after (step_for s limit c x) (λ d. asks s limit d xs)
 
 -- so many turns were done, and the next one of those that there were to be was asked for as well
-abbrev pub AsksPart : (ℕ → Type 0) → (ℕ → Type 0) → ℕ → ℕ → Type 0
-AsksPart before after done all = (turns : ℕ) × (turns < all) × AsksMore before after (done + turns + 1)
+abbrev pub AsksPart : (ℕ → Type 0) → ℕ → ℕ → Type 0
+AsksPart asked done all = (turns : ℕ) × (turns < all) × asked (done + turns + 1)
 
 -- one transaction was asked for, unless memory was wanted first
-abbrev pub AsksOnce : {A : Type 0} → (ℕ → Type 0) → (ℕ → Type 0) → Result A Stopped → Type 0
-AsksOnce before after (Err halt.Memory) = AsksMore before after 0
-AsksOnce before after answer = AsksMore before after 1
+abbrev pub AsksOnce : {A : Type 0} → (ℕ → Type 0) → Result A Stopped → Type 0
+AsksOnce asked (Err halt.Memory) = asked 0
+AsksOnce asked answer = asked 1
 
 -- what a step asked, by its answer
-abbrev pub AsksStep : Shown → (ℕ → Type 0) → (ℕ → Type 0) → ℕ → Step → Result ℕ Stopped → Type 0
-AsksStep shown before after limit x (Ok count) = (count ≡ asks_of shown.setting limit shown.chip x) × AsksMore before after count
-AsksStep shown before after limit x (Err (halt.Wrong why)) = AsksMore before after (asks_of shown.setting limit shown.chip x)
-AsksStep shown before after limit x (Err halt.Failed) = AsksPart before after 0 (asks_of shown.setting limit shown.chip x)
-AsksStep shown before after limit x (Err halt.Memory) = AsksMore before after 0
+abbrev pub AsksStep : Shown → (ℕ → Type 0) → ℕ → Step → Result ℕ Stopped → Type 0
+AsksStep shown asked limit x (Ok count) = (count ≡ asks_of shown.setting limit shown.chip x) × asked count
+AsksStep shown asked limit x (Err (halt.Wrong why)) = asked (asks_of shown.setting limit shown.chip x)
+AsksStep shown asked limit x (Err halt.Failed) = AsksPart asked 0 (asks_of shown.setting limit shown.chip x)
+AsksStep shown asked limit x (Err halt.Memory) = asked 0
 
 -- the same by the answer that has the step's number
-abbrev pub AsksNumbered : Shown → (ℕ → Type 0) → (ℕ → Type 0) → ℕ → Step → Result ℕ PlayFault → Type 0
-AsksNumbered shown before after limit x (Ok count) = (count ≡ asks_of shown.setting limit shown.chip x) × AsksMore before after count
-AsksNumbered shown before after limit x (Err (fault.Wrong at why)) = AsksMore before after (asks_of shown.setting limit shown.chip x)
-AsksNumbered shown before after limit x (Err (fault.PortFailed at)) = AsksPart before after 0 (asks_of shown.setting limit shown.chip x)
-AsksNumbered shown before after limit x (Err fault.Memory) = AsksMore before after 0
+abbrev pub AsksNumbered : Shown → (ℕ → Type 0) → ℕ → Step → Result ℕ PlayFault → Type 0
+AsksNumbered shown asked limit x (Ok count) = (count ≡ asks_of shown.setting limit shown.chip x) × asked count
+AsksNumbered shown asked limit x (Err (fault.Wrong at why)) = asked (asks_of shown.setting limit shown.chip x)
+AsksNumbered shown asked limit x (Err (fault.PortFailed at)) = AsksPart asked 0 (asks_of shown.setting limit shown.chip x)
+AsksNumbered shown asked limit x (Err fault.Memory) = asked 0
 
 -- a transaction of this step failed: those of the steps before it were asked for, some turns of its own, and that one
-pub record FailsAsking (shown : Shown) (before after : ℕ → Type 0) (limit : ℕ) (steps : List Step) (at : ℕ) : Type 0 where
+pub record FailsAsking (shown : Shown) (asked : ℕ → Type 0) (limit : ℕ) (steps : List Step) (at : ℕ) : Type 0 where
   pub within : at < length steps
   pub chip : Chip
   pub reached : played shown.setting limit shown.chip (take at steps) ≡ Ok chip
   pub failed : Step
   pub is : failed ≡ get_or steps at failed
-  pub asked : AsksPart before after (asks shown.setting limit shown.chip (take at steps)) (asks_of shown.setting limit chip failed)
+  pub asks_so : AsksPart asked (asks shown.setting limit shown.chip (take at steps)) (asks_of shown.setting limit chip failed)
 
 -- no transaction of this step was asked for, all of those before it were
-pub record LeavesAsking (shown : Shown) (before after : ℕ → Type 0) (limit : ℕ) (steps : List Step) : Type 0 where
+pub record LeavesAsking (shown : Shown) (asked : ℕ → Type 0) (limit : ℕ) (steps : List Step) : Type 0 where
   pub at : ℕ
   pub within : at < length steps
-  pub asked : AsksMore before after (asks shown.setting limit shown.chip (take at steps))
+  pub asks_so : asked (asks shown.setting limit shown.chip (take at steps))
 
 -- what a play asked, by its answer
-abbrev pub AsksPlay : Shown → (ℕ → Type 0) → (ℕ → Type 0) → ℕ → List Step → Result ℕ PlayFault → Type 0
-AsksPlay shown before after limit steps (Ok count) = (count ≡ asks shown.setting limit shown.chip steps) × AsksMore before after count
-AsksPlay shown before after limit steps (Err (fault.Wrong at why)) = AsksMore before after (asks shown.setting limit shown.chip steps)
-AsksPlay shown before after limit steps (Err (fault.PortFailed at)) = FailsAsking shown before after limit steps at
-AsksPlay shown before after limit steps (Err fault.Memory) = LeavesAsking shown before after limit steps
+abbrev pub AsksPlay : Shown → (ℕ → Type 0) → ℕ → List Step → Result ℕ PlayFault → Type 0
+AsksPlay shown asked limit steps (Ok count) = (count ≡ asks shown.setting limit shown.chip steps) × asked count
+AsksPlay shown asked limit steps (Err (fault.Wrong at why)) = asked (asks shown.setting limit shown.chip steps)
+AsksPlay shown asked limit steps (Err (fault.PortFailed at)) = FailsAsking shown asked limit steps at
+AsksPlay shown asked limit steps (Err fault.Memory) = LeavesAsking shown asked limit steps

@@ -1,8 +1,7 @@
 -- What a player does to what a port shows.
-use Rattle.std.specs.Prelude.{◌≡◌, ℕ, ◌+◌, ◌<◌, if◌then◌else◌, List, length, take, Result, Ok, Err}
+use Rattle.std.specs.Prelude.{◌≡◌, ℕ, ◌<◌, if◌then◌else◌, List, length, take, Result, Ok, Err}
 use Rattle.nor_base.specs.Device.{one_more}
 use Rattle.nor_base.specs.declared.step.Step.{Step}
-use Rattle.nor_base.specs.declared.wrong.Wrong.{Wrong}
 use Rattle.nor_base.specs.declared.wrong.Wrong.TheVariants as wrong
 use Rattle.nor_base.specs.Chip.{Setting, Chip, is_settled}
 use Rattle.nor_base.specs.Port.{Shown}
@@ -25,11 +24,6 @@ pub record EndsPlay (before after : Shown) (limit : ℕ) (steps : List Step) (co
   pub ends : play before.setting limit before.chip steps ≡ Ok after.chip
   pub counted : count ≡ length (trail before.setting before.chip steps)
 
--- it goes wrong so, and leaves this chip
-pub record StopsPlay (before after : Shown) (limit : ℕ) (steps : List Step) (at : ℕ) (why : Wrong) : Type 0 where
-  pub setting : after.setting ≡ before.setting
-  pub stops : play before.setting limit before.chip steps ≡ Err (record { at = at; why = why; chip = after.chip })
-
 -- the steps before this one were played; then a transaction of this one failed
 pub record FailsPlay (before : Shown) (limit : ℕ) (steps : List Step) (at : ℕ) : Type 0 where
   pub within : at < length steps
@@ -46,7 +40,8 @@ pub record LeavesPlay (before after : Shown) (limit : ℕ) (steps : List Step) :
 -- what an answer of the player says of what the port showed before and after
 abbrev pub Plays : Shown → Shown → ℕ → List Step → Result ℕ PlayFault → Type 0
 Plays before after limit steps (Ok count) = EndsPlay before after limit steps count
-Plays before after limit steps (Err (fault.Wrong at why)) = StopsPlay before after limit steps at why
+Plays before after limit steps (Err (fault.Wrong at why)) =
+    (after.setting ≡ before.setting) × (play before.setting limit before.chip steps ≡ Err (record { at = at; why = why; chip = after.chip }))
 Plays before after limit steps (Err (fault.PortFailed at)) = FailsPlay before limit steps at
 Plays before after limit steps (Err fault.Memory) = LeavesPlay before after limit steps
 

@@ -1,5 +1,5 @@
 -- What the transactions of one step do to what a port shows.
-use Rattle.std.specs.Prelude.{◌≡◌, ℕ, ◌+◌, ◌≤◌, ⊤, List, length, Result, Ok, Err}
+use Rattle.std.specs.Prelude.{◌≡◌, ℕ, ◌≤◌, ⊤, List, length, Result, Ok, Err}
 use Rattle.nor_base.specs.Device.{one_more}
 use Rattle.nor_base.specs.declared.step.Step.{Step}
 use Rattle.nor_base.specs.declared.wrong.Wrong.{Wrong}
@@ -9,12 +9,15 @@ use Rattle.nor_base.specs.Run.{step, step_for, step_trail}
 use Rattle.nor_play.specs.declared.fault.Halt.{Halt}
 use Rattle.nor_play.specs.declared.fault.Halt.TheVariants as halt
 
--- one transaction of these clocks, and the bytes that it gave
-abbrev pub Gives : {A : Type 0} → (A → List ℕ) → Shown → Shown → List ℕ → Result A Halt → Type 0
-Gives items before after clocks (Ok given) = (after.setting ≡ before.setting) × (effect before.setting before.chip clocks ≡ Ok (after.chip, items given))
-Gives items before after clocks (Err (halt.Wrong why)) = (after ≡ before) × (effect before.setting before.chip clocks ≡ Err why)
-Gives items before after clocks (Err halt.Failed) = ⊤
-Gives items before after clocks (Err halt.Memory) = after ≡ before
+-- one transaction of these clocks gave these bytes
+abbrev pub Gives : Shown → Shown → List ℕ → List ℕ → Type 0
+Gives before after clocks given = (after.setting ≡ before.setting) × (effect before.setting before.chip clocks ≡ Ok (after.chip, given))
+
+-- or it halted so
+abbrev pub Halts : Shown → Shown → List ℕ → Halt → Type 0
+Halts before after clocks (halt.Wrong why) = (after ≡ before) × (effect before.setting before.chip clocks ≡ Err why)
+Halts before after clocks halt.Failed = ⊤
+Halts before after clocks halt.Memory = after ≡ before
 
 -- a step was played, by this many transactions
 pub record EndsStep (before after : Shown) (limit : ℕ) (step_played : Step) (count : ℕ) : Type 0 where

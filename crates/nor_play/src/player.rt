@@ -2,6 +2,7 @@
 
 ghost use Rattle.std.specs.Prelude.{◌≡◌, ◌<◌, ◌≤◌, ◌-◌, ◌^◌, Ok, Err, IfOk, MatchResult};
 ghost use Rattle.nor_base.specs.declared.step.Step.TheVariants.{Send, Poll, Verify};
+ghost use Rattle.nor_chip.specs.Asked.{AsksMore};
 ghost use Rattle.nor_play.specs.Halt.{play_fault};
 ghost use Rattle.nor_play.specs.Play.{Plays, CountsPlay};
 ghost use Rattle.nor_play.specs.Numbered.{PlaysNumbered};
@@ -29,8 +30,8 @@ pub fn play<P: Port>(
     requires limit { 0 < limit }
     ensures played { Plays (P.shown port.old) (P.shown port.new) limit steps.now result }
     ensures count { CountsPlay (P.count port.old) (P.count port.new) result }
-    ensures asked { AsksPlay (P.shown port.old) (P.asked port.old) (P.asked port.new) limit
-        steps.now result }
+    ensures asked { AsksPlay (P.shown port.old)
+        (AsksMore (P.asked port.old) (P.asked port.new)) limit steps.now result }
 {
     let mut player = StepPlayer::new(limit);
     for step in steps {
@@ -90,11 +91,12 @@ impl StepPlayer {
     ) -> Result<u64, PlayFault>
         requires number { self.old.number < 2 ^ 64 - 1 }
         ensures player { self.new ≡ past self.old result }
-        ensures played { PlaysNumbered (P.shown port.old) (P.shown port.new) self.old.limit
-            self.old.number (Send clocks.now) result }
+        ensures played { PlaysNumbered (P.shown port.old) (P.shown port.new) self.old
+            (Send clocks.now) result }
         ensures count { CountsPlay (P.count port.old) (P.count port.new) result }
-        ensures asked { AsksNumbered (P.shown port.old) (P.asked port.old) (P.asked port.new)
-            self.old.limit (Send clocks.now) result }
+        ensures asked { AsksNumbered (P.shown port.old)
+            (AsksMore (P.asked port.old) (P.asked port.new)) self.old.limit
+            (Send clocks.now) result }
     {
         let answer = send(alloc, clocks, port, self.limit);
         self.count(answer)
@@ -108,11 +110,12 @@ impl StepPlayer {
     pub fn poll<P: Port>(&mut self, clocks: &[u8], port: &mut P) -> Result<u64, PlayFault>
         requires number { self.old.number < 2 ^ 64 - 1 }
         ensures player { self.new ≡ past self.old result }
-        ensures played { PlaysNumbered (P.shown port.old) (P.shown port.new) self.old.limit
-            self.old.number (Poll clocks.now) result }
+        ensures played { PlaysNumbered (P.shown port.old) (P.shown port.new) self.old
+            (Poll clocks.now) result }
         ensures count { CountsPlay (P.count port.old) (P.count port.new) result }
-        ensures asked { AsksNumbered (P.shown port.old) (P.asked port.old) (P.asked port.new)
-            self.old.limit (Poll clocks.now) result }
+        ensures asked { AsksNumbered (P.shown port.old)
+            (AsksMore (P.asked port.old) (P.asked port.new)) self.old.limit
+            (Poll clocks.now) result }
     {
         let answer = poll(clocks, port, self.limit);
         self.count(answer)
@@ -132,12 +135,11 @@ impl StepPlayer {
     ) -> Result<u64, PlayFault>
         requires number { self.old.number < 2 ^ 64 - 1 }
         ensures player { self.new ≡ past self.old result }
-        ensures played { PlaysNumbered (P.shown port.old) (P.shown port.new) self.old.limit
-            self.old.number
+        ensures played { PlaysNumbered (P.shown port.old) (P.shown port.new) self.old
             (Verify clocks.now expect.now) result }
         ensures count { CountsPlay (P.count port.old) (P.count port.new) result }
-        ensures asked { AsksNumbered (P.shown port.old) (P.asked port.old) (P.asked port.new)
-            self.old.limit
+        ensures asked { AsksNumbered (P.shown port.old)
+            (AsksMore (P.asked port.old) (P.asked port.new)) self.old.limit
             (Verify clocks.now expect.now) result }
     {
         let answer = verify(alloc, clocks, expect, port, self.limit);
@@ -165,11 +167,12 @@ impl StepPlayer {
     fn step<P: Port>(&mut self, alloc: Global, step: &Step, port: &mut P) -> Result<u64, PlayFault>
         requires number { self.old.number < 2 ^ 64 - 1 }
         ensures player { self.new ≡ past self.old result }
-        ensures played { PlaysNumbered (P.shown port.old) (P.shown port.new) self.old.limit
-            self.old.number step.now result }
+        ensures played { PlaysNumbered (P.shown port.old) (P.shown port.new) self.old
+            step.now result }
         ensures count { CountsPlay (P.count port.old) (P.count port.new) result }
-        ensures asked { AsksNumbered (P.shown port.old) (P.asked port.old) (P.asked port.new)
-            self.old.limit step.now result }
+        ensures asked { AsksNumbered (P.shown port.old)
+            (AsksMore (P.asked port.old) (P.asked port.new)) self.old.limit
+            step.now result }
     {
         match step {
             Step::Send { clocks } => self.send(alloc, clocks.as_slice(), port),

@@ -1,9 +1,10 @@
 //! One step, on a port.
 
-ghost use Rattle.std.specs.Prelude.{◌≡◌, ◌<◌};
+ghost use Rattle.std.specs.Prelude.{◌≡◌, ◌<◌, MatchResult};
 ghost use Rattle.nor_base.specs.declared.step.Step.TheVariants.{Send, Poll, Verify};
 ghost use Rattle.nor_base.specs.Sample.{sampled_count};
-ghost use Rattle.nor_play.specs.Turns.{Gives, PlaysStep, CountsHalt};
+ghost use Rattle.nor_chip.specs.Asked.{AsksMore};
+ghost use Rattle.nor_play.specs.Turns.{Gives, Halts, PlaysStep, CountsHalt};
 ghost use Rattle.nor_play.specs.Asks.{AsksStep, AsksOnce};
 
 use crate::fault::Halt;
@@ -25,8 +26,8 @@ pub(crate) fn send<P: Port>(
     ensures played { PlaysStep (P.shown port.old) (P.shown port.new) limit (Send clocks.now)
         result }
     ensures count { CountsHalt (P.count port.old) (P.count port.new) result }
-    ensures asked { AsksStep (P.shown port.old) (P.asked port.old) (P.asked port.new) limit
-        (Send clocks.now) result }
+    ensures asked { AsksStep (P.shown port.old)
+        (AsksMore (P.asked port.old) (P.asked port.new)) limit (Send clocks.now) result }
 {
     let _bytes = transact(alloc, clocks, port)?;
     Ok(1)
@@ -44,7 +45,8 @@ pub(crate) fn verify<P: Port>(
     ensures played { PlaysStep (P.shown port.old) (P.shown port.new) limit
         (Verify clocks.now expect.now) result }
     ensures count { CountsHalt (P.count port.old) (P.count port.new) result }
-    ensures asked { AsksStep (P.shown port.old) (P.asked port.old) (P.asked port.new) limit
+    ensures asked { AsksStep (P.shown port.old)
+        (AsksMore (P.asked port.old) (P.asked port.new)) limit
         (Verify clocks.now expect.now) result }
 {
     // so a chip whose bytes differ is as it was
@@ -65,8 +67,8 @@ pub(crate) fn poll<P: Port>(clocks: &[u8], port: &mut P, limit: u64) -> Result<u
     ensures played { PlaysStep (P.shown port.old) (P.shown port.new) limit (Poll clocks.now)
         result }
     ensures count { CountsHalt (P.count port.old) (P.count port.new) result }
-    ensures asked { AsksStep (P.shown port.old) (P.asked port.old) (P.asked port.new) limit
-        (Poll clocks.now) result }
+    ensures asked { AsksStep (P.shown port.old)
+        (AsksMore (P.asked port.old) (P.asked port.new)) limit (Poll clocks.now) result }
 {
     if clocks != POLL.as_slice() {
         return Err(Halt::Wrong(Wrong::Unknown));
@@ -84,9 +86,11 @@ pub(crate) fn poll<P: Port>(clocks: &[u8], port: &mut P, limit: u64) -> Result<u
 
 /// One transaction, and the bytes that its clocks sample.
 fn transact<P: Port>(alloc: Global, clocks: &[u8], port: &mut P) -> Result<Vec<u8>, Halt>
-    ensures given { Gives (λ v. v.items) (P.shown port.old) (P.shown port.new) clocks.now result }
+    ensures given { MatchResult result
+        (λ bytes. Gives (P.shown port.old) (P.shown port.new) clocks.now bytes.items)
+        (λ halt. Halts (P.shown port.old) (P.shown port.new) clocks.now halt) }
     ensures count { CountsHalt (P.count port.old) (P.count port.new) result }
-    ensures asked { AsksOnce (P.asked port.old) (P.asked port.new) result }
+    ensures asked { AsksOnce (AsksMore (P.asked port.old) (P.asked port.new)) result }
 {
     let mut out = vec![in alloc; 0u8; count_sampled(clocks)]?;
     port.transact(clocks, out.as_mut_slice())?;

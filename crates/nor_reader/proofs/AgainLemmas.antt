@@ -8,8 +8,7 @@ use Rattle.nor_base.specs.Wire.{wire}
 use Rattle.nor_reader.specs.declared.difference.Mismatch.{Mismatch}
 use Rattle.nor_reader.specs.declared.difference.Mismatch.TheVariants.{Exchange, Differs}
 use Rattle.nor_loop.specs.Log.{HasLogged}
-use Rattle.nor_reader.specs.declared.by.ReadBy.{ReadBy}
-use Rattle.nor_reader.specs.Reads.{read_op, HasReadOn}
+use Rattle.nor_reader.specs.Reads.{chunk, read_op, reads, Chunk, HasReadOn, Reads}
 use Rattle.nor_reader.specs.Again.{MissesPiece, MissesOn}
 use Rattle.nor_reader.proofs.PassLemmas.{piece_more, stops_within}
 
@@ -25,21 +24,21 @@ take_on bytes done len =
     take-add done len bytes ∙ ap (λ n. take done bytes ++ take n (drop done bytes)) (sym count)
 
 -- one piece more came again
-pub again_more : (most : ℕ) (h i j : Option (List ℕ)) (a b c : Ahead) (by : ReadBy) (bytes : List ℕ) (done len : ℕ) → done + len ≤ length bytes
-    → 0 < len → len ≤ most → HasReadOn most (wire h a) (wire i b) by [] (take done bytes)
-    → HasLogged (wire i b) (wire j c) (read_op by done (slice_range bytes done (done + len)) ∷ [])
-    → HasReadOn most (wire h a) (wire j c) by [] (take (done + len) bytes)
-again_more most h i j a b c by bytes done len within some few read more =
+pub again_more : (r : Reads) (h i j : Option (List ℕ)) (a b c : Ahead) (bytes : List ℕ) (done len : ℕ) → done + len ≤ length bytes
+    → 0 < len → len ≤ r.most → HasReadOn r (wire h a) (wire i b) [] (take done bytes)
+    → HasLogged (wire i b) (wire j c) (read_op r.by done (slice_range bytes done (done + len)) ∷ [])
+    → HasReadOn r (wire h a) (wire j c) [] (take (done + len) bytes)
+again_more r h i j a b c bytes done len within some few read more =
     let long = slice_long bytes done len within in
-    subst (λ n. HasReadOn most (wire h a) (wire j c) by [] (take (done + n) bytes)) long
-    (piece_more most h i j a b c by [] bytes bytes (slice_range bytes done (done + len)) done (omega arith) (omega (arith, long, some))
+    subst (λ n. HasReadOn r (wire h a) (wire j c) [] (take (done + n) bytes)) long
+    (piece_more r h i j a b c [] bytes bytes (slice_range bytes done (done + len)) done (omega arith) (omega (arith, long, some))
     (omega (arith, long, few)) (ap (λ n. take (done + n) bytes) long ∙ take_on bytes done len) read more)
 
 -- a read of so many bytes, which are no more than the most, ended so
-pub misses_within : (len most : ℕ) (h i : Option (List ℕ)) (a b : Ahead) (by : ReadBy) (at : ℕ) (want : List ℕ) (why : Mismatch) → len ≤ most
-    → MissesPiece len (wire h a) (wire i b) by at want why → MissesPiece most (wire h a) (wire i b) by at want why
-misses_within len most h i a b by at want (Exchange why) few miss = (miss.0, miss.1, stops_within len most h i a b by at miss.0 why few miss.2)
-misses_within len most h i a b by at want (Differs d) few miss = record {
+pub misses_within : (r : Reads) (len : ℕ) (h i : Option (List ℕ)) (a b : Ahead) (want : Chunk) (why : Mismatch) → len ≤ r.most
+    → MissesPiece (reads len r.by) (wire h a) (wire i b) want why → MissesPiece r (wire h a) (wire i b) want why
+misses_within r len h i a b want (Exchange why) few miss = (miss.0, miss.1, stops_within r len h i a b (chunk want.at miss.0) why few miss.2)
+misses_within r len h i a b want (Differs d) few miss = record {
   short = miss.short;
   few = omega (arith, few, miss.few);
   out = miss.out;
@@ -50,11 +49,11 @@ misses_within len most h i a b by at want (Differs d) few miss = record {
 }
 
 -- or it didn't
-pub again_not : (most : ℕ) (h i j : Option (List ℕ)) (a b c : Ahead) (by : ReadBy) (bytes : List ℕ) (done len : ℕ) (why : Mismatch)
-    → done + len ≤ length bytes → 0 < len → len ≤ most → HasReadOn most (wire h a) (wire i b) by [] (take done bytes)
-    → MissesPiece (length (slice_range bytes done (done + len))) (wire i b) (wire j c) by done (slice_range bytes done (done + len)) why
-    → MissesOn most (wire h a) (wire j c) by bytes why
-again_not most h i j a b c by bytes done len why within some few read stop =
+pub again_not : (r : Reads) (h i j : Option (List ℕ)) (a b c : Ahead) (bytes : List ℕ) (done len : ℕ) (why : Mismatch)
+    → done + len ≤ length bytes → 0 < len → len ≤ r.most → HasReadOn r (wire h a) (wire i b) [] (take done bytes)
+    → MissesPiece (reads (length (slice_range bytes done (done + len))) r.by) (wire i b) (wire j c) (chunk done (slice_range bytes done (done + len))) why
+    → MissesOn r (wire h a) (wire j c) bytes why
+again_not r h i j a b c bytes done len why within some few read stop =
     let piece = slice_range bytes done (done + len) in
     let long : length piece ≡ len = slice_long bytes done len within in
     record {
@@ -65,5 +64,5 @@ again_not most h i j a b c by bytes done len why within some few read stop =
       held = i;
       ahead = b;
       alike = read;
-      stop = misses_within (length piece) most i j b c by done piece why (omega (arith, long, few)) stop;
+      stop = misses_within r (length piece) i j b c (chunk done piece) why (omega (arith, long, few)) stop;
     }

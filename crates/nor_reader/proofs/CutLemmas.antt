@@ -11,7 +11,8 @@ use Rattle.nor_reader.specs.declared.by.ReadBy.{ReadBy}
 use Rattle.nor_reader.specs.declared.difference.Mismatch.{Mismatch}
 use Rattle.nor_reader.specs.Cut.{shift, AreCut, HasReadCut, HasReadWholeCut, ReadsCut, ReadApart}
 use Rattle.nor_reader.specs.Switched.{enter_ops, leave_ops}
-use Rattle.nor_reader.specs.Reads.{read_op, ops_from}
+use Rattle.nor_reader.specs.Reads.{chunk, read_op, reads, ops_from, Reads}
+use Rattle.nor_reader.specs.Twice.{Twice}
 use Rattle.nor_reader.proofs.AgainLemmas.{slice_long, take_on}
 use Rattle.nor_reader.proofs.PassLemmas.{ops_append, concat_append}
 
@@ -53,7 +54,7 @@ cut_more first most next h i j a b c by at so_far piece some long cut more = rec
 -- the last piece
 pub cut_last : (first most next : ℕ) (h i j : Option (List ℕ)) (a b c : Ahead) (by : ReadBy) (at : ℕ) (so_far piece : List ℕ) → 0 < length piece
     → length piece ≤ next → IsCutSoFar first most next h i a b by at so_far → HasLogged (wire i b) (wire j c) (read_op by (at + length so_far) piece ∷ [])
-    → HasReadCut first most (wire h a) (wire j c) by at (so_far ++ piece)
+    → HasReadCut first (reads most by) (wire h a) (wire j c) (chunk at (so_far ++ piece))
 cut_last first most next h i j a b c by at so_far piece some few cut more = record {
   pieces = cut.pieces ++ piece ∷ [];
   cut = cut.goes_on piece (piece ∷ []) (some, sym (take_all next piece few), nil_from_length (drop next piece) (omega (arith, length-drop next piece, few)));
@@ -65,7 +66,7 @@ pub record IsCutTo (first most next size done : ℕ) (h i : Option (List ℕ)) (
   pub some : 0 < next
   pub few : next ≤ most
   pub goes_on : done < size → IsCutSoFar first most next h i a b by at so_far
-  pub ends : size ≤ done → HasReadCut first most (wire h a) (wire i b) by at so_far
+  pub ends : size ≤ done → HasReadCut first (reads most by) (wire h a) (wire i b) (chunk at so_far)
 
 pub cut_begins : (first most size : ℕ) (h : Option (List ℕ)) (a : Ahead) (by : ReadBy) (at start : ℕ) (so_far : List ℕ) → 0 < first → first ≤ most
     → so_far ≡ [] → IsCutTo first most first size start h h a a by at so_far
@@ -73,7 +74,7 @@ cut_begins first most size h a by at start so_far some few is = record {
   some = some;
   few = few;
   goes_on = λ more. subst (IsCutSoFar first most first h h a a by at) (sym is) (none_cut first most h a by at);
-  ends = λ all. subst (HasReadCut first most (wire h a) (wire h a) by at) (sym is) (record { pieces = []; cut = refl; wire = logged_none h a });
+  ends = λ all. subst (λ (l : List ℕ). HasReadCut first (reads most by) (wire h a) (wire h a) (chunk at l)) (sym is) (record { pieces = []; cut = refl; wire = logged_none h a });
 }
 
 pub cut_on : (first most next size done len : ℕ) (h i j : Option (List ℕ)) (a b c : Ahead) (by : ReadBy) (at : ℕ) (so_far piece : List ℕ) → done < size
@@ -118,26 +119,28 @@ pub nothing_cut : (start : ℕ) (bytes : List ℕ) → drop start (take start by
 nothing_cut start bytes = nil_from_length (drop start (take start bytes)) (omega (arith, length-drop start (take start bytes), length-take start bytes))
 
 -- a reading by such pieces is a log
-whole_logged : (first most : ℕ) (h i : Option (List ℕ)) (a b : Ahead) (by : ReadBy) (bytes : List ℕ) → (read : HasReadWholeCut first most (wire h a) (wire i b) by bytes)
-    → HasLogged (wire h a) (wire i b) (enter_ops by ++ (ops_from by 0 read.rest.first.pieces ++ leave_ops by))
-whole_logged first most h i a b by bytes read =
+whole_logged : (first : ℕ) (r : Reads) (h i : Option (List ℕ)) (a b : Ahead) (bytes : List ℕ) → (read : HasReadWholeCut first r (wire h a) (wire i b) bytes)
+    → HasLogged (wire h a) (wire i b) (enter_ops r.by ++ (ops_from r.by 0 read.rest.first.pieces ++ leave_ops r.by))
+whole_logged first r h i a b bytes read =
     let rest = read.rest in
-    logged_both h read.held i a read.ahead b (enter_ops by) (ops_from by 0 rest.first.pieces ++ leave_ops by) read.entered
-    (logged_both read.held rest.held i read.ahead rest.ahead b (ops_from by 0 rest.first.pieces) (leave_ops by) rest.first.wire rest.rest)
+    logged_both h read.held i a read.ahead b (enter_ops r.by) (ops_from r.by 0 rest.first.pieces ++ leave_ops r.by) read.entered
+    (logged_both read.held rest.held i read.ahead rest.ahead b (ops_from r.by 0 rest.first.pieces) (leave_ops r.by) rest.first.wire rest.rest)
 
-whole_cut : (first most : ℕ) (h i : Option (List ℕ)) (a b : Ahead) (by : ReadBy) (bytes : List ℕ) → (read : HasReadWholeCut first most (wire h a) (wire i b) by bytes)
-    → ReadsCut first most by bytes (enter_ops by ++ (ops_from by 0 read.rest.first.pieces ++ leave_ops by))
-whole_cut first most h i a b by bytes read = record { pieces = read.rest.first.pieces; cut = read.rest.first.cut; those = refl }
+whole_cut : (first : ℕ) (r : Reads) (h i : Option (List ℕ)) (a b : Ahead) (bytes : List ℕ) → (read : HasReadWholeCut first r (wire h a) (wire i b) bytes)
+    → ReadsCut first r bytes (enter_ops r.by ++ (ops_from r.by 0 read.rest.first.pieces ++ leave_ops r.by))
+whole_cut first r h i a b bytes read = record { pieces = read.rest.first.pieces; cut = read.rest.first.cut; those = refl }
 
 -- and two are two
-pub apart_by : (most : ℕ) (h i j : Option (List ℕ)) (a b c : Ahead) (by again : ReadBy) (bytes : List ℕ) (r : Result (Unit {0}) Mismatch)
-    → HasReadWholeCut most most (wire h a) (wire i b) by bytes → IfOk r (λ u. HasReadWholeCut (min shift most) most (wire i b) (wire j c) again bytes)
-    → IfOk r (λ u. ReadApart most (wire h a) (wire j c) by again bytes)
-apart_by most h i j a b c by again bytes (Ok u) one two = record {
-  first = enter_ops by ++ (ops_from by 0 one.rest.first.pieces ++ leave_ops by);
-  second = enter_ops again ++ (ops_from again 0 two.rest.first.pieces ++ leave_ops again);
-  reads = whole_cut most most h i a b by bytes one;
-  rereads = whole_cut (min shift most) most i j b c again bytes two;
-  wire = logged_both h i j a b c _ _ (whole_logged most most h i a b by bytes one) (whole_logged (min shift most) most i j b c again bytes two);
+pub apart_by : (t : Twice) (h i j : Option (List ℕ)) (a b c : Ahead) (bytes : List ℕ) (r : Result (Unit {0}) Mismatch)
+    → HasReadWholeCut t.first.most t.first (wire h a) (wire i b) bytes
+    → IfOk r (λ u. HasReadWholeCut (min shift t.again.most) t.again (wire i b) (wire j c) bytes)
+    → IfOk r (λ u. ReadApart t (wire h a) (wire j c) bytes)
+apart_by t h i j a b c bytes (Ok u) one two = record {
+  first = enter_ops t.first.by ++ (ops_from t.first.by 0 one.rest.first.pieces ++ leave_ops t.first.by);
+  second = enter_ops t.again.by ++ (ops_from t.again.by 0 two.rest.first.pieces ++ leave_ops t.again.by);
+  reads = whole_cut t.first.most t.first h i a b bytes one;
+  rereads = whole_cut (min shift t.again.most) t.again i j b c bytes two;
+  wire = logged_both h i j a b c _ _ (whole_logged t.first.most t.first h i a b bytes one)
+      (whole_logged (min shift t.again.most) t.again i j b c bytes two);
 }
-apart_by most h i j a b c by again bytes (Err why) one two = tt
+apart_by t h i j a b c bytes (Err why) one two = tt

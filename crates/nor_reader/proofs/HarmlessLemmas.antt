@@ -35,10 +35,10 @@ use Rattle.nor_reader.specs.Again.{MissesOn, MissesPiece}
 use Rattle.nor_reader.specs.Harmless.{is_harmless, requests, HasSentHarmless, IsHarmless, SendsHarmless}
 use Rattle.nor_reader.specs.Id.{Identifies}
 use Rattle.nor_reader.specs.Past.{ReadsPast, with_past}
-use Rattle.nor_reader.specs.Reads.{sent_by, read_op, ops_from, HasReadOn, ReadsBy, StopsOn, StopsPiece}
+use Rattle.nor_reader.specs.Reads.{chunk, sent_by, read_op, ops_from, Chunk, HasReadOn, Reads, ReadsBy, StopsOn, StopsPiece}
 use Rattle.nor_reader.specs.Switched.{enter_of, enter_ops, leave_of, leave_ops, StopsAmong}
-use Rattle.nor_reader.specs.Tables.{HasReadTables, StopsTables}
-use Rattle.nor_reader.specs.Twice.{HasReadWhole, MissesWhole, ReadTwice, StopsFirst, StopsTwice}
+use Rattle.nor_reader.specs.Tables.{table_reads, HasReadTables, StopsTables}
+use Rattle.nor_reader.specs.Twice.{twice, HasReadWhole, MissesWhole, ReadTwice, StopsFirst, StopsTwice, Twice}
 
 -- nothing; one part after the other; a whole one is a part
 pub none_sent : (h : Option (List ℕ)) → HasSentHarmless h h
@@ -119,52 +119,47 @@ ops_harmless : (by : ReadBy) (at : ℕ) (pieces : List (List ℕ)) → AllByRecu
 ops_harmless by at [] = tt
 ops_harmless by at (piece ∷ pieces) = (read_harmless by at (length piece), ops_harmless by (at + length piece) pieces)
 
-read_sent : (most : ℕ) (h i : Option (List ℕ)) (a b : Ahead) (by : ReadBy) (front bytes : List ℕ) → HasReadOn most (wire h a) (wire i b) by front bytes
+read_sent : (r : Reads) (h i : Option (List ℕ)) (a b : Ahead) (front bytes : List ℕ) → HasReadOn r (wire h a) (wire i b) front bytes
     → HasSentHarmless h i
-read_sent most h i a b by front bytes read =
-    logged_sent h i a b (ops_from by (length front) read.pieces) read.wire (ops_harmless by (length front) read.pieces)
+read_sent r h i a b front bytes read =
+    logged_sent h i a b (ops_from r.by (length front) read.pieces) read.wire (ops_harmless r.by (length front) read.pieces)
 
-piece_stops : (most : ℕ) (h i : Option (List ℕ)) (a b : Ahead) (by : ReadBy) (at : ℕ) (got : List ℕ) (why : Fault)
-    → StopsPiece most (wire h a) (wire i b) by at got why → SendsHarmless h i
-piece_stops most h i a b by at got why stop =
-    one_stops h i a b (read_op by at got) why (Answers a b (Err why) got)
-    (record { short = (sent_short by at (length got), stop.0); begins = read_harmless by at (length got) }) stop.2
-
-stops_sends : (most : ℕ) (h i : Option (List ℕ)) (a b : Ahead) (by : ReadBy) (front : List ℕ) (why : Fault) → StopsOn most (wire h a) (wire i b) by front why
+piece_stops : (r : Reads) (h i : Option (List ℕ)) (a b : Ahead) (got : Chunk) (why : Fault) → StopsPiece r (wire h a) (wire i b) got why
     → SendsHarmless h i
-stops_sends most h i a b by front why p =
-    then_sends h p.held i (read_sent most h p.held a p.ahead by front p.so_far p.read)
-    (piece_stops most p.held i p.ahead b by (length p.so_far) p.got why p.stop)
+piece_stops r h i a b got why stop =
+    one_stops h i a b (read_op r.by got.at got.bytes) why (Answers a b (Err why) got.bytes)
+    (record { short = (sent_short r.by got.at (length got.bytes), stop.0); begins = read_harmless r.by got.at (length got.bytes) }) stop.2
 
-piece_misses : (most : ℕ) (h i : Option (List ℕ)) (a b : Ahead) (by : ReadBy) (at : ℕ) (want : List ℕ) (why : Mismatch)
-    → MissesPiece most (wire h a) (wire i b) by at want why → SendsHarmless h i
-piece_misses most h i a b by at want (Exchange why) p = piece_stops most h i a b by at p.0 why p.2
-piece_misses most h i a b by at want (Differs d) p = record {
-  ops = read_op by at want ∷ [];
-  each = (record { short = (sent_short by at (length want), p.short); begins = read_harmless by at (length want) }, tt);
-  out = inl (subst (Appends h i) (sym (append-nil (request (sent_by by at (length want)) (length want)))) p.out);
+stops_sends : (r : Reads) (h i : Option (List ℕ)) (a b : Ahead) (front : List ℕ) (why : Fault) → StopsOn r (wire h a) (wire i b) front why
+    → SendsHarmless h i
+stops_sends r h i a b front why p =
+    then_sends h p.held i (read_sent r h p.held a p.ahead front p.so_far p.read)
+    (piece_stops r p.held i p.ahead b (chunk (length p.so_far) p.got) why p.stop)
+
+piece_other : (r : Reads) (h i : Option (List ℕ)) (a b : Ahead) (want : Chunk) (d : Difference) → MissesPiece r (wire h a) (wire i b) want (Differs d)
+    → HasSentHarmless h i
+piece_other r h i a b want d p = record {
+  ops = read_op r.by want.at want.bytes ∷ [];
+  each = (record { short = (sent_short r.by want.at (length want.bytes), p.short); begins = read_harmless r.by want.at (length want.bytes) }, tt);
+  out = subst (Appends h i) (sym (append-nil (request (sent_by r.by want.at (length want.bytes)) (length want.bytes)))) p.out;
 }
 
-piece_other : (most : ℕ) (h i : Option (List ℕ)) (a b : Ahead) (by : ReadBy) (at : ℕ) (want : List ℕ) (d : Difference)
-    → MissesPiece most (wire h a) (wire i b) by at want (Differs d)
-    → HasSentHarmless h i
-piece_other most h i a b by at want d p = record {
-  ops = read_op by at want ∷ [];
-  each = (record { short = (sent_short by at (length want), p.short); begins = read_harmless by at (length want) }, tt);
-  out = subst (Appends h i) (sym (append-nil (request (sent_by by at (length want)) (length want)))) p.out;
-}
-
-misses_sends : (most : ℕ) (h i : Option (List ℕ)) (a b : Ahead) (by : ReadBy) (bytes : List ℕ) (why : Mismatch) → MissesOn most (wire h a) (wire i b) by bytes why
+piece_misses : (r : Reads) (h i : Option (List ℕ)) (a b : Ahead) (want : Chunk) (why : Mismatch) → MissesPiece r (wire h a) (wire i b) want why
     → SendsHarmless h i
-misses_sends most h i a b by bytes why p =
-    then_sends h p.held i (read_sent most h p.held a p.ahead by [] (take p.at bytes) p.alike)
-    (piece_misses most p.held i p.ahead b by p.at (slice_range bytes p.at (p.at + p.len)) why p.stop)
+piece_misses r h i a b want (Exchange why) p = piece_stops r h i a b (chunk want.at p.0) why p.2
+piece_misses r h i a b want (Differs d) p = whole_sent h i (piece_other r h i a b want d p)
 
-other_sent : (most : ℕ) (h i : Option (List ℕ)) (a b : Ahead) (by : ReadBy) (bytes : List ℕ) (d : Difference)
-    → MissesOn most (wire h a) (wire i b) by bytes (Differs d) → HasSentHarmless h i
-other_sent most h i a b by bytes d p =
-    both_sent h p.held i (read_sent most h p.held a p.ahead by [] (take p.at bytes) p.alike)
-    (piece_other most p.held i p.ahead b by p.at (slice_range bytes p.at (p.at + p.len)) d p.stop)
+misses_sends : (r : Reads) (h i : Option (List ℕ)) (a b : Ahead) (bytes : List ℕ) (why : Mismatch) → MissesOn r (wire h a) (wire i b) bytes why
+    → SendsHarmless h i
+misses_sends r h i a b bytes why p =
+    then_sends h p.held i (read_sent r h p.held a p.ahead [] (take p.at bytes) p.alike)
+    (piece_misses r p.held i p.ahead b (chunk p.at (slice_range bytes p.at (p.at + p.len))) why p.stop)
+
+other_sent : (r : Reads) (h i : Option (List ℕ)) (a b : Ahead) (bytes : List ℕ) (d : Difference)
+    → MissesOn r (wire h a) (wire i b) bytes (Differs d) → HasSentHarmless h i
+other_sent r h i a b bytes d p =
+    both_sent h p.held i (read_sent r h p.held a p.ahead [] (take p.at bytes) p.alike)
+    (piece_other r p.held i p.ahead b (chunk p.at (slice_range bytes p.at (p.at + p.len))) d p.stop)
 
 -- the mode is switched
 switch_harmless : (w : Switch) (op : ℕ) → is_harmless (op ∷ []) ≡ true → AllByRecursion IsHarmless (switch_ops w op)
@@ -212,96 +207,94 @@ leaves : (by : ReadBy) → AllByRecursion IsHarmless (leave_ops by)
 leaves by = switch_harmless (leave_of by) 0xE9 refl
 
 -- a reading
-whole_read : (most : ℕ) (h i : Option (List ℕ)) (a b : Ahead) (by : ReadBy) (bytes : List ℕ) → HasReadWhole most (wire h a) (wire i b) by bytes
+whole_read : (r : Reads) (h i : Option (List ℕ)) (a b : Ahead) (bytes : List ℕ) → HasReadWhole r (wire h a) (wire i b) bytes
     → HasSentHarmless h i
-whole_read most h i a b by bytes p =
+whole_read r h i a b bytes p =
     let rest = p.rest in
-    both_sent h p.held i (done_sent h p.held a p.ahead (enter_ops by) (enters by) p.entered)
-    (both_sent p.held rest.held i (read_sent most p.held rest.held p.ahead rest.ahead by [] bytes rest.first)
-    (done_sent rest.held i rest.ahead b (leave_ops by) (leaves by) rest.rest))
+    both_sent h p.held i (done_sent h p.held a p.ahead (enter_ops r.by) (enters r.by) p.entered)
+    (both_sent p.held rest.held i (read_sent r p.held rest.held p.ahead rest.ahead [] bytes rest.first)
+    (done_sent rest.held i rest.ahead b (leave_ops r.by) (leaves r.by) rest.rest))
 
-first_sends : (most : ℕ) (h i : Option (List ℕ)) (a b : Ahead) (by : ReadBy) (bytes : List ℕ) (why : Fault) → StopsFirst most (wire h a) (wire i b) by bytes why
+first_sends : (r : Reads) (h i : Option (List ℕ)) (a b : Ahead) (bytes : List ℕ) (why : Fault) → StopsFirst r (wire h a) (wire i b) bytes why
     → SendsHarmless h i
-first_sends most h i a b by bytes why (inl p) = among_sends h i a b (enter_ops by) why (enters by) p
-first_sends most h i a b by bytes why (inr (inl p)) =
-    then_sends h p.held i (done_sent h p.held a p.ahead (enter_ops by) (enters by) p.entered) (stops_sends most p.held i p.ahead b by [] why p.rest)
-first_sends most h i a b by bytes why (inr (inr p)) =
+first_sends r h i a b bytes why (inl p) = among_sends h i a b (enter_ops r.by) why (enters r.by) p
+first_sends r h i a b bytes why (inr (inl p)) =
+    then_sends h p.held i (done_sent h p.held a p.ahead (enter_ops r.by) (enters r.by) p.entered) (stops_sends r p.held i p.ahead b [] why p.rest)
+first_sends r h i a b bytes why (inr (inr p)) =
     let rest = p.rest in
-    then_sends h p.held i (done_sent h p.held a p.ahead (enter_ops by) (enters by) p.entered)
-    (then_sends p.held rest.held i (read_sent most p.held rest.held p.ahead rest.ahead by [] bytes rest.first)
-    (among_sends rest.held i rest.ahead b (leave_ops by) why (leaves by) rest.rest))
+    then_sends h p.held i (done_sent h p.held a p.ahead (enter_ops r.by) (enters r.by) p.entered)
+    (then_sends p.held rest.held i (read_sent r p.held rest.held p.ahead rest.ahead [] bytes rest.first)
+    (among_sends rest.held i rest.ahead b (leave_ops r.by) why (leaves r.by) rest.rest))
 
-missed_sends : (most : ℕ) (h i : Option (List ℕ)) (a b : Ahead) (by : ReadBy) (bytes : List ℕ) (why : Mismatch)
-    → MissesWhole most (wire h a) (wire i b) by bytes why → SendsHarmless h i
-missed_sends most h i a b by bytes (Exchange why) (inl p) = among_sends h i a b (enter_ops by) why (enters by) p
-missed_sends most h i a b by bytes (Exchange why) (inr (inl p)) =
-    then_sends h p.held i (done_sent h p.held a p.ahead (enter_ops by) (enters by) p.entered)
-    (misses_sends most p.held i p.ahead b by bytes (Exchange why) p.rest)
-missed_sends most h i a b by bytes (Exchange why) (inr (inr (inl p))) =
+missed_sends : (r : Reads) (h i : Option (List ℕ)) (a b : Ahead) (bytes : List ℕ) (why : Mismatch)
+    → MissesWhole r (wire h a) (wire i b) bytes why → SendsHarmless h i
+missed_sends r h i a b bytes (Exchange why) (inl p) = among_sends h i a b (enter_ops r.by) why (enters r.by) p
+missed_sends r h i a b bytes (Exchange why) (inr (inl p)) =
+    then_sends h p.held i (done_sent h p.held a p.ahead (enter_ops r.by) (enters r.by) p.entered)
+    (misses_sends r p.held i p.ahead b bytes (Exchange why) p.rest)
+missed_sends r h i a b bytes (Exchange why) (inr (inr (inl p))) =
     let rest = p.rest in
-    then_sends h p.held i (done_sent h p.held a p.ahead (enter_ops by) (enters by) p.entered)
-    (then_sends p.held rest.held i (read_sent most p.held rest.held p.ahead rest.ahead by [] bytes rest.first)
-    (among_sends rest.held i rest.ahead b (leave_ops by) why (leaves by) rest.rest))
-missed_sends most h i a b by bytes (Exchange why) (inr (inr (inr (d, p)))) =
+    then_sends h p.held i (done_sent h p.held a p.ahead (enter_ops r.by) (enters r.by) p.entered)
+    (then_sends p.held rest.held i (read_sent r p.held rest.held p.ahead rest.ahead [] bytes rest.first)
+    (among_sends rest.held i rest.ahead b (leave_ops r.by) why (leaves r.by) rest.rest))
+missed_sends r h i a b bytes (Exchange why) (inr (inr (inr (d, p)))) =
     let rest = p.rest in
-    then_sends h p.held i (done_sent h p.held a p.ahead (enter_ops by) (enters by) p.entered)
-    (then_sends p.held rest.held i (other_sent most p.held rest.held p.ahead rest.ahead by bytes d rest.first)
-    (among_sends rest.held i rest.ahead b (leave_ops by) why (leaves by) rest.rest))
-missed_sends most h i a b by bytes (Differs d) p =
+    then_sends h p.held i (done_sent h p.held a p.ahead (enter_ops r.by) (enters r.by) p.entered)
+    (then_sends p.held rest.held i (other_sent r p.held rest.held p.ahead rest.ahead bytes d rest.first)
+    (among_sends rest.held i rest.ahead b (leave_ops r.by) why (leaves r.by) rest.rest))
+missed_sends r h i a b bytes (Differs d) p =
     let rest = p.rest in
-    whole_sent h i (both_sent h p.held i (done_sent h p.held a p.ahead (enter_ops by) (enters by) p.entered)
-    (both_sent p.held rest.held i (other_sent most p.held rest.held p.ahead rest.ahead by bytes d rest.first)
-    (done_sent rest.held i rest.ahead b (leave_ops by) (leaves by) rest.rest)))
+    whole_sent h i (both_sent h p.held i (done_sent h p.held a p.ahead (enter_ops r.by) (enters r.by) p.entered)
+    (both_sent p.held rest.held i (other_sent r p.held rest.held p.ahead rest.ahead bytes d rest.first)
+    (done_sent rest.held i rest.ahead b (leave_ops r.by) (leaves r.by) rest.rest)))
 
 reads_begin : (by : ReadBy) (pieces : List (List ℕ)) → AllByRecursion (λ o. is_harmless o.sent ≡ true) (enter_ops by ++ (ops_from by 0 pieces ++ leave_ops by))
 reads_begin by pieces =
     all_append (λ (o : Operation). is_harmless o.sent ≡ true) (enter_ops by) (ops_from by 0 pieces ++ leave_ops by) (begins_of (enter_ops by) (enters by))
     (all_append (λ (o : Operation). is_harmless o.sent ≡ true) (ops_from by 0 pieces) (leave_ops by) (ops_harmless by 0 pieces) (begins_of (leave_ops by) (leaves by)))
 
-reading_begins : (most : ℕ) (by : ReadBy) (bytes : List ℕ) (log : List Operation) → ReadsBy most by bytes log
+reading_begins : (r : Reads) (bytes : List ℕ) (log : List Operation) → ReadsBy r bytes log
     → AllByRecursion (λ o. is_harmless o.sent ≡ true) log
-reading_begins most by bytes log reads =
-    subst (λ (l : List Operation). AllByRecursion (λ o. is_harmless o.sent ≡ true) l) (sym reads.those) (reads_begin by reads.pieces)
+reading_begins r bytes log reads =
+    subst (λ (l : List Operation). AllByRecursion (λ o. is_harmless o.sent ≡ true) l) (sym reads.those) (reads_begin r.by reads.pieces)
 
 -- bytes that came twice alike, or didn't
-pub twice_sent : (most : ℕ) (h i : Option (List ℕ)) (a b : Ahead) (by again : ReadBy) (bytes : List ℕ) → ReadTwice most (wire h a) (wire i b) by again bytes
-    → HasSentHarmless h i
-twice_sent most h i a b by again bytes p =
+pub twice_sent : (t : Twice) (h i : Option (List ℕ)) (a b : Ahead) (bytes : List ℕ) → ReadTwice t (wire h a) (wire i b) bytes → HasSentHarmless h i
+twice_sent t h i a b bytes p =
     logged_sent h i a b (p.first ++ p.second) p.wire
-    (all_append (λ (o : Operation). is_harmless o.sent ≡ true) p.first p.second (reading_begins most by bytes p.first p.reads)
-    (reading_begins most again bytes p.second p.rereads))
+    (all_append (λ (o : Operation). is_harmless o.sent ≡ true) p.first p.second (reading_begins t.first bytes p.first p.reads)
+    (reading_begins t.again bytes p.second p.rereads))
 
-pub twice_sends : (most : ℕ) (h i : Option (List ℕ)) (a b : Ahead) (by again : ReadBy) (bytes : List ℕ) (why : Mismatch)
-    → StopsTwice most (wire h a) (wire i b) by again bytes why → SendsHarmless h i
-twice_sends most h i a b by again bytes (Exchange why) (inl p) = first_sends most h i a b by bytes why p
-twice_sends most h i a b by again bytes (Exchange why) (inr p) =
-    then_sends h p.held i (whole_read most h p.held a p.ahead by bytes p.read)
-    (missed_sends most p.held i p.ahead b again bytes (Exchange why) p.missed)
-twice_sends most h i a b by again bytes (Differs d) p =
-    then_sends h p.held i (whole_read most h p.held a p.ahead by bytes p.read) (missed_sends most p.held i p.ahead b again bytes (Differs d) p.missed)
+pub twice_sends : (t : Twice) (h i : Option (List ℕ)) (a b : Ahead) (bytes : List ℕ) (why : Mismatch) → StopsTwice t (wire h a) (wire i b) bytes why
+    → SendsHarmless h i
+twice_sends t h i a b bytes (Exchange why) (inl p) = first_sends t.first h i a b bytes why p
+twice_sends t h i a b bytes (Exchange why) (inr p) =
+    then_sends h p.held i (whole_read t.first h p.held a p.ahead bytes p.read) (missed_sends t.again p.held i p.ahead b bytes (Exchange why) p.missed)
+twice_sends t h i a b bytes (Differs d) p =
+    then_sends h p.held i (whole_read t.first h p.held a p.ahead bytes p.read) (missed_sends t.again p.held i p.ahead b bytes (Differs d) p.missed)
 
 -- bytes past the end
-pub past_sent : (most : ℕ) (h i : Option (List ℕ)) (a b : Ahead) (by : ReadBy) (content : List ℕ) → ReadsPast most (wire h a) (wire i b) (Ok tt) by content
+pub past_sent : (r : Reads) (h i : Option (List ℕ)) (a b : Ahead) (content : List ℕ) → ReadsPast r (wire h a) (wire i b) (Ok tt) content
     → HasSentHarmless h i
-past_sent most h i a b by content p = read_sent most h i a b by content (with_past by content) p
+past_sent r h i a b content p = read_sent r h i a b content (with_past r.by content) p
 
-pub past_sends : (most : ℕ) (h i : Option (List ℕ)) (a b : Ahead) (by : ReadBy) (content : List ℕ) (why : Mismatch)
-    → ReadsPast most (wire h a) (wire i b) (Err why) by content → SendsHarmless h i
-past_sends most h i a b by content why p =
-    then_sends h p.held i (read_sent most h p.held a p.ahead by content (content ++ take p.at content) p.alike)
-    (piece_misses most p.held i p.ahead b by (length content + p.at) (slice_range content p.at (p.at + p.len)) why p.stop)
+pub past_sends : (r : Reads) (h i : Option (List ℕ)) (a b : Ahead) (content : List ℕ) (why : Mismatch)
+    → ReadsPast r (wire h a) (wire i b) (Err why) content → SendsHarmless h i
+past_sends r h i a b content why p =
+    then_sends h p.held i (read_sent r h p.held a p.ahead content (content ++ take p.at content) p.alike)
+    (piece_misses r p.held i p.ahead b (chunk (length content + p.at) (slice_range content p.at (p.at + p.len))) why p.stop)
 
 -- tables
 pub tables_sent : (most : ℕ) (h i : Option (List ℕ)) (a b : Ahead) (bytes : List ℕ) → HasReadTables most (wire h a) (wire i b) bytes → HasSentHarmless h i
-tables_sent most h i a b bytes p = twice_sent most h i a b Tables Tables bytes p.twice
+tables_sent most h i a b bytes p = twice_sent (twice most Tables Tables) h i a b bytes p.twice
 
 pub tables_none : (most : ℕ) (h i : Option (List ℕ)) (a b : Ahead) → StopsTables most (wire h a) (wire i b) NoSignature → HasSentHarmless h i
-tables_none most h i a b p = read_sent most h i a b Tables [] p.0 p.3
+tables_none most h i a b p = read_sent (table_reads most) h i a b [] p.0 p.3
 
 pub tables_sends : (most : ℕ) (h i : Option (List ℕ)) (a b : Ahead) (why : TablesFault) → StopsTables most (wire h a) (wire i b) why → SendsHarmless h i
 tables_sends most h i a b NoSignature p = whole_sent h i (tables_none most h i a b p)
-tables_sends most h i a b (Unread why) p = twice_sends most h i a b Tables Tables p.0 why p.1
-tables_sends most h i a b Memory p = whole_sent h i (read_sent most h i a b Tables [] p.0 p.1)
+tables_sends most h i a b (Unread why) p = twice_sends (twice most Tables Tables) h i a b p.0 why p.1
+tables_sends most h i a b Memory p = whole_sent h i (read_sent (table_reads most) h i a b [] p.0 p.1)
 
 -- an identification
 pub id_sent : (h i : Option (List ℕ)) (a b : Ahead) (id : List ℕ) → Identifies (wire h a) (wire i b) (Ok id) → HasSentHarmless h i

@@ -11,7 +11,7 @@ use Rattle.nor_loop.specs.Reads.{reads_from, switch_ops, ReadsAll}
 use Rattle.nor_reader.specs.declared.by.ReadBy.{ReadBy}
 use Rattle.nor_reader.specs.declared.by.ReadBy.TheVariants.{Tables, Content, FourBytes, Entered}
 use Rattle.nor_reader.specs.Laws.{GivesBy, TwiceKnows}
-use Rattle.nor_reader.specs.Reads.{read_op, ops_from, IsPiece, ReadsBy}
+use Rattle.nor_reader.specs.Reads.{reads, read_op, ops_from, IsPiece, ReadsBy}
 
 as_reads : (mode4 : Bool) (at : ℕ) (pieces : List (List ℕ)) → ops_from (Content mode4) at pieces ≡ reads_from mode4 at pieces
 as_reads mode4 at [] = refl
@@ -32,7 +32,7 @@ some_each most [] all = tt
 some_each most (piece ∷ pieces) all = (all.0.0, some_each most pieces all.1)
 
 reading_by : ReadsRead → FourReadsRead → EnteredReadsRead → (most : ℕ) (m : Parameters) (start : Start) (by : ReadBy) (content : List ℕ)
-    (log : List Operation) → m.size ≤ 2 ^ 32 → length content ≡ m.size → GivesBy m start by → ReadsBy most by content log
+    (log : List Operation) → m.size ≤ 2 ^ 32 → length content ≡ m.size → GivesBy m start by → ReadsBy (reads most by) content log
     → IsReading m start content log
 reading_by read four entered most m start Tables content log fits whole gives reads = absurd gives
 reading_by read four entered most m start (Content mode4) content log fits whole gives reads =
@@ -62,10 +62,10 @@ reading_by read four entered most m start (Entered enter leave) content log fits
     })
 
 pub twice_knows : ReadsRead → FourReadsRead → EnteredReadsRead → TwiceKnows
-twice_knows read four entered most h i a b m start by again content fits whole gives gives_again twice = record {
+twice_knows read four entered t h i a b m start content fits whole gives gives_again twice = record {
   first = twice.first;
   again = twice.second;
-  reads = reading_by read four entered most m start by content twice.first fits whole gives twice.reads;
-  rereads = reading_by read four entered most m start again content twice.second fits whole gives_again twice.rereads;
+  reads = reading_by read four entered t.first.most m start t.first.by content twice.first fits whole gives twice.reads;
+  rereads = reading_by read four entered t.again.most m start t.again.by content twice.second fits whole gives_again twice.rereads;
   wire = twice.wire;
 }

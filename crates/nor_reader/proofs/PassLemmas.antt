@@ -11,7 +11,7 @@ use Rattle.nor_serprog.specs.declared.fault.Fault.{Fault}
 use Rattle.nor_loop.specs.Log.{HasLogged}
 use Rattle.nor_loop.proofs.DeviceLemmas.{logged_none, logged_both}
 use Rattle.nor_reader.specs.declared.by.ReadBy.{ReadBy}
-use Rattle.nor_reader.specs.Reads.{read_op, ops_from, HasReadOn, IsPiece, StopsPiece, StopsOn}
+use Rattle.nor_reader.specs.Reads.{chunk, read_op, reads, ops_from, Chunk, HasReadOn, IsPiece, Reads, StopsPiece, StopsOn}
 
 -- pieces that follow other pieces
 pub ops_append : (by : ReadBy) (at : ℕ) (xs ys : List (List ℕ)) → ops_from by at (xs ++ ys) ≡ ops_from by at xs ++ ops_from by (at + length (concat xs)) ys
@@ -26,51 +26,51 @@ concat_append [] ys = refl
 concat_append (x ∷ xs) ys = ap (λ rest. x ++ rest) (concat_append xs ys) ∙ sym (append_assoc x (concat xs) (concat ys))
 
 -- nothing was read yet
-pub nothing_read : (most : ℕ) (h : Option (List ℕ)) (a : Ahead) (by : ReadBy) (front : List ℕ) → HasReadOn most (wire h a) (wire h a) by front front
-nothing_read most h a by front = record { pieces = []; filled = tt; whole = append-nil front; wire = logged_none h a }
+pub nothing_read : (r : Reads) (h : Option (List ℕ)) (a : Ahead) (front : List ℕ) → HasReadOn r (wire h a) (wire h a) front front
+nothing_read r h a front = record { pieces = []; filled = tt; whole = append-nil front; wire = logged_none h a }
 
 -- bytes were read, and those that follow them
-pub read_both : (most : ℕ) (h i j : Option (List ℕ)) (a b c : Ahead) (by : ReadBy) (front mid bytes : List ℕ) → HasReadOn most (wire h a) (wire i b) by front mid
-    → HasReadOn most (wire i b) (wire j c) by mid bytes → HasReadOn most (wire h a) (wire j c) by front bytes
-read_both most h i j a b c by front mid bytes one two =
+pub read_both : (r : Reads) (h i j : Option (List ℕ)) (a b c : Ahead) (front mid bytes : List ℕ) → HasReadOn r (wire h a) (wire i b) front mid
+    → HasReadOn r (wire i b) (wire j c) mid bytes → HasReadOn r (wire h a) (wire j c) front bytes
+read_both r h i j a b c front mid bytes one two =
     let long : length mid ≡ length front + length (concat one.pieces) = ap length (sym one.whole) ∙ length-append front (concat one.pieces) in
     record {
       pieces = one.pieces ++ two.pieces;
-      filled = all_append (IsPiece most) one.pieces two.pieces one.filled two.filled;
+      filled = all_append (IsPiece r.most) one.pieces two.pieces one.filled two.filled;
       whole = ap (λ rest. front ++ rest) (concat_append one.pieces two.pieces) ∙ sym (append_assoc front (concat one.pieces) (concat two.pieces))
           ∙ ap (λ m. m ++ concat two.pieces) one.whole ∙ two.whole;
       wire = subst (HasLogged (wire h a) (wire j c))
-          (ap (λ n. ops_from by (length front) one.pieces ++ ops_from by n two.pieces) long ∙ sym (ops_append by (length front) one.pieces two.pieces))
+          (ap (λ n. ops_from r.by (length front) one.pieces ++ ops_from r.by n two.pieces) long ∙ sym (ops_append r.by (length front) one.pieces two.pieces))
           (logged_both h i j a b c _ _ one.wire two.wire);
     }
 
 -- one piece
-pub one_piece : (most : ℕ) (h i : Option (List ℕ)) (a b : Ahead) (by : ReadBy) (front piece : List ℕ) → 0 < length piece → length piece ≤ most
-    → HasLogged (wire h a) (wire i b) (read_op by (length front) piece ∷ []) → HasReadOn most (wire h a) (wire i b) by front (front ++ piece)
-one_piece most h i a b by front piece some few wire =
+pub one_piece : (r : Reads) (h i : Option (List ℕ)) (a b : Ahead) (front piece : List ℕ) → 0 < length piece → length piece ≤ r.most
+    → HasLogged (wire h a) (wire i b) (read_op r.by (length front) piece ∷ []) → HasReadOn r (wire h a) (wire i b) front (front ++ piece)
+one_piece r h i a b front piece some few wire =
     record { pieces = piece ∷ []; filled = ((some, few), tt); whole = ap (λ rest. front ++ rest) (append-nil piece); wire = wire }
 
 -- one piece more
-pub piece_more : (most : ℕ) (h i j : Option (List ℕ)) (a b c : Ahead) (by : ReadBy) (front old new piece : List ℕ) (done : ℕ) → done ≤ length old
-    → 0 < length piece → length piece ≤ most → take (done + length piece) new ≡ take done old ++ piece
-    → HasReadOn most (wire h a) (wire i b) by front (take done old) → HasLogged (wire i b) (wire j c) (read_op by done piece ∷ [])
-    → HasReadOn most (wire h a) (wire j c) by front (take (done + length piece) new)
-piece_more most h i j a b c by front old new piece done within some few put read more =
+pub piece_more : (r : Reads) (h i j : Option (List ℕ)) (a b c : Ahead) (front old new piece : List ℕ) (done : ℕ) → done ≤ length old
+    → 0 < length piece → length piece ≤ r.most → take (done + length piece) new ≡ take done old ++ piece
+    → HasReadOn r (wire h a) (wire i b) front (take done old) → HasLogged (wire i b) (wire j c) (read_op r.by done piece ∷ [])
+    → HasReadOn r (wire h a) (wire j c) front (take (done + length piece) new)
+piece_more r h i j a b c front old new piece done within some few put read more =
     let long : length (take done old) ≡ done = length-take-le done old within in
-    subst (λ bytes. HasReadOn most (wire h a) (wire j c) by front bytes) (sym put)
-    (read_both most h i j a b c by front (take done old) (take done old ++ piece) read
-    (one_piece most i j b c by (take done old) piece some few (subst (λ n. HasLogged (wire i b) (wire j c) (read_op by n piece ∷ [])) (sym long) more)))
+    subst (λ bytes. HasReadOn r (wire h a) (wire j c) front bytes) (sym put)
+    (read_both r h i j a b c front (take done old) (take done old ++ piece) read
+    (one_piece r i j b c (take done old) piece some few (subst (λ n. HasLogged (wire i b) (wire j c) (read_op r.by n piece ∷ [])) (sym long) more)))
 
 -- the exchange of a read of so many bytes, which are no more than the most, is one of a read of no more than the most
-pub stops_within : (len most : ℕ) (h i : Option (List ℕ)) (a b : Ahead) (by : ReadBy) (at : ℕ) (got : List ℕ) (why : Fault) → len ≤ most
-    → StopsPiece len (wire h a) (wire i b) by at got why → StopsPiece most (wire h a) (wire i b) by at got why
-stops_within len most h i a b by at got why few stop = (stop.0, omega (arith, few, stop.1), stop.2)
+pub stops_within : (r : Reads) (len : ℕ) (h i : Option (List ℕ)) (a b : Ahead) (got : Chunk) (why : Fault) → len ≤ r.most
+    → StopsPiece (reads len r.by) (wire h a) (wire i b) got why → StopsPiece r (wire h a) (wire i b) got why
+stops_within r len h i a b got why few stop = (stop.0, omega (arith, few, stop.1), stop.2)
 
 -- its exchange ended so
-pub piece_stops : (most : ℕ) (h i j : Option (List ℕ)) (a b c : Ahead) (by : ReadBy) (front old got : List ℕ) (done : ℕ) (why : Fault)
-    → done ≤ length old → length got ≤ most → HasReadOn most (wire h a) (wire i b) by front (take done old) → StopsPiece (length got) (wire i b) (wire j c) by done got why
-    → StopsOn most (wire h a) (wire j c) by front why
-piece_stops most h i j a b c by front old got done why within few read stop =
+pub piece_stops : (r : Reads) (h i j : Option (List ℕ)) (a b c : Ahead) (front old got : List ℕ) (done : ℕ) (why : Fault)
+    → done ≤ length old → length got ≤ r.most → HasReadOn r (wire h a) (wire i b) front (take done old) → StopsPiece (reads (length got) r.by) (wire i b) (wire j c) (chunk done got) why
+    → StopsOn r (wire h a) (wire j c) front why
+piece_stops r h i j a b c front old got done why within few read stop =
     let long : length (take done old) ≡ done = length-take-le done old within in
     record {
       so_far = take done old;
@@ -78,17 +78,17 @@ piece_stops most h i j a b c by front old got done why within few read stop =
       ahead = b;
       read = read;
       got = got;
-      stop = subst (λ n. StopsPiece most (wire i b) (wire j c) by n got why) (sym long) (stops_within (length got) most i j b c by done got why few stop);
+      stop = subst (λ n. StopsPiece r (wire i b) (wire j c) (chunk n got) why) (sym long) (stops_within r (length got) i j b c (chunk done got) why few stop);
     }
 
 -- what follows bytes that were read stopped
-pub stops_after : (most : ℕ) (h i j : Option (List ℕ)) (a b c : Ahead) (by : ReadBy) (front mid : List ℕ) (why : Fault)
-    → HasReadOn most (wire h a) (wire i b) by front mid → StopsOn most (wire i b) (wire j c) by mid why → StopsOn most (wire h a) (wire j c) by front why
-stops_after most h i j a b c by front mid why one two = record {
+pub stops_after : (r : Reads) (h i j : Option (List ℕ)) (a b c : Ahead) (front mid : List ℕ) (why : Fault)
+    → HasReadOn r (wire h a) (wire i b) front mid → StopsOn r (wire i b) (wire j c) mid why → StopsOn r (wire h a) (wire j c) front why
+stops_after r h i j a b c front mid why one two = record {
   so_far = two.so_far;
   held = two.held;
   ahead = two.ahead;
-  read = read_both most h i two.held a b two.ahead by front mid two.so_far one two.read;
+  read = read_both r h i two.held a b two.ahead front mid two.so_far one two.read;
   got = two.got;
   stop = two.stop;
 }
@@ -108,6 +108,6 @@ put_piece old piece done len fits long =
     }
 
 -- all is read
-pub all_read : (most : ℕ) (h i : Option (List ℕ)) (a b : Ahead) (by : ReadBy) (front bytes : List ℕ) (done : ℕ) → length bytes ≤ done
-    → HasReadOn most (wire h a) (wire i b) by front (take done bytes) → HasReadOn most (wire h a) (wire i b) by front bytes
-all_read most h i a b by front bytes done ends read = subst (λ all. HasReadOn most (wire h a) (wire i b) by front all) (take_all done bytes ends) read
+pub all_read : (r : Reads) (h i : Option (List ℕ)) (a b : Ahead) (front bytes : List ℕ) (done : ℕ) → length bytes ≤ done
+    → HasReadOn r (wire h a) (wire i b) front (take done bytes) → HasReadOn r (wire h a) (wire i b) front bytes
+all_read r h i a b front bytes done ends read = subst (λ all. HasReadOn r (wire h a) (wire i b) front all) (take_all done bytes ends) read

@@ -15,7 +15,7 @@ use Rattle.nor_loop.specs.Reads.{switch_ops}
 use Rattle.nor_reader.specs.declared.by.ReadBy.{ReadBy}
 use Rattle.nor_reader.specs.declared.by.ReadBy.TheVariants.{Tables, Content, FourBytes, Entered}
 use Rattle.nor_reader.specs.Modes.{address_of, MayGive}
-use Rattle.nor_reader.specs.Reads.{read_op, ops_from}
+use Rattle.nor_reader.specs.Reads.{read_op, reads, ops_from}
 use Rattle.nor_reader.specs.Cut.{shift, AreCut, ReadsCut}
 use Rattle.nor_reader.specs.Telling.{IsTelling, ShowsMode, is_near, mode_after, HasGiven, Holds, ModeIsShown, ApartKnows, SaidGives, SaidHolds, EnteredHolds, GivesSaid, SureKnows, SwitchMakes}
 use Rattle.nor_reader.proofs.ModeLemmas.{Overlaps, period_by, other_four, other_three}
@@ -307,9 +307,9 @@ said_holds first most said holds content log fits reads gave =
     (all_alone holds said (Content said) (content_steady said) 0 reads.pieces (subst (HasGiven holds said) (plain said log reads.pieces reads.those) gave))
 
 first_holds : (most : ℕ) (by : ReadBy) (said mode4 : Bool) (holds : ℕ → ℕ) (content : List ℕ) (log : List Operation) → length content ≤ 2 ^ 32
-    → GivesSaid by said → mode4 ≡ said → ReadsCut most most by content log → HasGiven holds mode4 log → Holds holds content
-first_holds most (Content said_) said mode4 holds content log fits way is reads gave =
-    said_holds most most said holds content log fits (subst (λ (m : Bool). ReadsCut most most (Content m) content log) way reads)
+    → GivesSaid by said → mode4 ≡ said → ReadsCut most (reads most by) content log → HasGiven holds mode4 log → Holds holds content
+first_holds most (Content said_) said mode4 holds content log fits way is cut gave =
+    said_holds most most said holds content log fits (subst (λ (m : Bool). ReadsCut most (reads most (Content m)) content log) way cut)
     (subst (λ (m : Bool). HasGiven holds m log) is gave)
 first_holds most (Entered enter leave) said mode4 holds content log fits way is reads gave =
     entered_holds most most enter leave mode4 holds content log fits way reads gave
@@ -317,13 +317,13 @@ first_holds most Tables said mode4 holds content log fits way is reads gave = ab
 first_holds most FourBytes said mode4 holds content log fits way is reads gave = absurd way
 
 pub sure_knows : SureKnows
-sure_knows most h i a b by again said content fits way apart_ = record {
+sure_knows t h i a b said content fits way apart_ = record {
   first = apart_.first;
   again = apart_.second;
   wire = apart_.wire;
   known = λ mode4 holds sure given. (
     sure refl,
-    first_holds most by said mode4 holds content apart_.first fits way (sure refl) apart_.reads
+    first_holds t.first.most t.first.by said mode4 holds content apart_.first fits way (sure refl) apart_.reads
         (first_given holds mode4 apart_.first apart_.second given),
   );
 }

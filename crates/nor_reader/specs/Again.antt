@@ -10,48 +10,41 @@ use Rattle.nor_reader.specs.declared.difference.Mismatch.TheVariants.{Exchange, 
 use Rattle.nor_serprog.specs.Exchange.{GivesOther}
 use Rattle.nor_serprog.specs.Protocol.{request}
 use Rattle.nor_loop.specs.Log.{HasLogged}
-use Rattle.nor_reader.specs.declared.by.ReadBy.{ReadBy}
-use Rattle.nor_reader.specs.Reads.{sent_by, read_op, HasReadOn, StopsPiece}
+use Rattle.nor_reader.specs.Reads.{chunk, sent_by, read_op, Chunk, HasReadOn, Reads, StopsPiece}
 
--- the answer of a read of no more than so many bytes, from an address on, came whole, and this is the first byte of it that is another
--- than the one that was wanted
-pub record FindsOther (most : ℕ) (before after : Wire) (by : ReadBy) (at : ℕ) (want : List ℕ) (d : Difference) : Type 0 where
-  pub short : length want < 2 ^ 24
-  pub few : length want ≤ most
-  pub out : Appends before.held after.held (request (sent_by by at (length want)) (length want))
+-- the answer of one read came whole, and this is the first byte of it that is another than the one that was wanted
+pub record FindsOther (r : Reads) (before after : Wire) (want : Chunk) (d : Difference) : Type 0 where
+  pub short : length want.bytes < 2 ^ 24
+  pub few : length want.bytes ≤ r.most
+  pub out : Appends before.held after.held (request (sent_by r.by want.at (length want.bytes)) (length want.bytes))
   pub place : ℕ
-  pub other : GivesOther before.ahead after.ahead want place d.chip
-  pub address : d.address ≡ at + place
-  pub wanted : d.want ≡ slice_index want place
+  pub other : GivesOther before.ahead after.ahead want.bytes place d.chip
+  pub address : d.address ≡ want.at + place
+  pub wanted : d.want ≡ slice_index want.bytes place
 
 -- such a read ended so
-abbrev pub MissesPiece : ℕ → Wire → Wire → ReadBy → ℕ → List ℕ → Mismatch → Type 0
-MissesPiece most before after by at want (Exchange why) =
-    (got : List ℕ) × (length got ≡ length want) × StopsPiece most before after by at got why
-MissesPiece most before after by at want (Differs d) =
-    FindsOther most before after by at want d
+abbrev pub MissesPiece : Reads → Wire → Wire → Chunk → Mismatch → Type 0
+MissesPiece r before after want (Exchange why) =
+    (got : List ℕ) × (length got ≡ length want.bytes) × StopsPiece r before after (chunk want.at got) why
+MissesPiece r before after want (Differs d) = FindsOther r before after want d
 
 -- what such a read says
-abbrev pub ReadsPiece : ℕ → Wire → Wire → Result (Unit {0}) Mismatch → ReadBy → ℕ → List ℕ → Type 0
-ReadsPiece most before after (Ok u) by at want =
-    HasLogged before after (read_op by at want ∷ [])
-ReadsPiece most before after (Err why) by at want =
-    MissesPiece most before after by at want why
+abbrev pub ReadsPiece : Reads → Wire → Wire → Result (Unit {0}) Mismatch → Chunk → Type 0
+ReadsPiece r before after (Ok u) want = HasLogged before after (read_op r.by want.at want.bytes ∷ [])
+ReadsPiece r before after (Err why) want = MissesPiece r before after want why
 
 -- the bytes before an address came again, and the next read ended so
-pub record MissesOn (most : ℕ) (before after : Wire) (by : ReadBy) (bytes : List ℕ) (why : Mismatch) : Type 0 where
+pub record MissesOn (r : Reads) (before after : Wire) (bytes : List ℕ) (why : Mismatch) : Type 0 where
   pub at : ℕ
   pub len : ℕ
   pub some : 0 < len
   pub within : at + len ≤ length bytes
   pub held : Option (List ℕ)
   pub ahead : Ahead
-  pub alike : HasReadOn most before (wire held ahead) by [] (take at bytes)
-  pub stop : MissesPiece most (wire held ahead) after by at (slice_range bytes at (at + len)) why
+  pub alike : HasReadOn r before (wire held ahead) [] (take at bytes)
+  pub stop : MissesPiece r (wire held ahead) after (chunk at (slice_range bytes at (at + len))) why
 
 -- what reading bytes again from address 0 on says
-abbrev pub ReadsAgain : ℕ → Wire → Wire → Result (Unit {0}) Mismatch → ReadBy → List ℕ → Type 0
-ReadsAgain most before after (Ok u) by bytes =
-    HasReadOn most before after by [] bytes
-ReadsAgain most before after (Err why) by bytes =
-    MissesOn most before after by bytes why
+abbrev pub ReadsAgain : Reads → Wire → Wire → Result (Unit {0}) Mismatch → List ℕ → Type 0
+ReadsAgain r before after (Ok u) bytes = HasReadOn r before after [] bytes
+ReadsAgain r before after (Err why) bytes = MissesOn r before after bytes why

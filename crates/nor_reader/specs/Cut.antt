@@ -1,13 +1,11 @@
 -- Readings by pieces that are cut at known addresses (W25Q256JV datasheet: Read Data 03h, Read Data with 4-Byte Address 13h; the exchanges
 -- are the Serial Flasher Protocol's).
-use Rattle.std.specs.Prelude.{◌≡◌, ◌<◌, ℕ, min, List, [], ◌∷◌, ◌++◌, length, take, drop, Option}
-use Rattle.nor_base.specs.Device.{Ahead}
-use Rattle.nor_base.specs.Wire.{Wire, wire}
+use Rattle.std.specs.Prelude.{◌≡◌, ◌<◌, ℕ, min, List, [], ◌∷◌, ◌++◌, length, take, drop}
+use Rattle.nor_base.specs.Wire.{Wire}
 use Rattle.nor_loop.specs.Log.{Operation, HasLogged}
-use Rattle.nor_reader.specs.declared.by.ReadBy.{ReadBy}
-use Rattle.nor_reader.specs.Reads.{ops_from}
+use Rattle.nor_reader.specs.Reads.{chunk, ops_from, Chunk, Reads}
 use Rattle.nor_reader.specs.Switched.{enter_ops, leave_ops}
-use Rattle.nor_reader.specs.Twice.{IsEntered, IsFollowed, IsLeft}
+use Rattle.nor_reader.specs.Twice.{IsEntered, IsFollowed, IsLeft, Twice}
 
 -- bytes are cut into pieces: the first has so many bytes, each other one as many as a read asks for at most; what is left is the last
 abbrev pub AreCut : ℕ → ℕ → List ℕ → List (List ℕ) → Type 0
@@ -15,21 +13,21 @@ AreCut first most bytes [] = bytes ≡ []
 AreCut first most bytes (piece ∷ pieces) = (0 < length piece) × (piece ≡ take first bytes) × AreCut most most (drop first bytes) pieces
 
 -- the log reads each address once, from 0 on, by pieces that are cut so, in four-byte mode where that is the way
-pub record ReadsCut (first most : ℕ) (by : ReadBy) (bytes : List ℕ) (log : List Operation) : Type 0 where
+pub record ReadsCut (first : ℕ) (r : Reads) (bytes : List ℕ) (log : List Operation) : Type 0 where
   pub pieces : List (List ℕ)
-  pub cut : AreCut first most bytes pieces
-  pub those : log ≡ enter_ops by ++ (ops_from by 0 pieces ++ leave_ops by)
+  pub cut : AreCut first r.most bytes pieces
+  pub those : log ≡ enter_ops r.by ++ (ops_from r.by 0 pieces ++ leave_ops r.by)
 
--- bytes were read from an address on, by pieces that are cut so
-pub record HasReadCut (first most : ℕ) (before after : Wire) (by : ReadBy) (at : ℕ) (bytes : List ℕ) : Type 0 where
+-- bytes were read by pieces that are cut so
+pub record HasReadCut (first : ℕ) (r : Reads) (before after : Wire) (c : Chunk) : Type 0 where
   pub pieces : List (List ℕ)
-  pub cut : AreCut first most bytes pieces
-  pub wire : HasLogged before after (ops_from by at pieces)
+  pub cut : AreCut first r.most c.bytes pieces
+  pub wire : HasLogged before after (ops_from r.by c.at pieces)
 
 -- and so they were read whole, in four-byte mode where that is the way
-abbrev pub HasReadWholeCut : ℕ → ℕ → Wire → Wire → ReadBy → List ℕ → Type 0
-HasReadWholeCut first most before after by bytes =
-    IsEntered by (IsFollowed (λ u v. HasReadCut first most u v by 0 bytes) (IsLeft by)) before after
+abbrev pub HasReadWholeCut : ℕ → Reads → Wire → Wire → List ℕ → Type 0
+HasReadWholeCut first r before after bytes =
+    IsEntered r.by (IsFollowed (λ u v. HasReadCut first r u v (chunk 0 bytes)) (IsLeft r.by)) before after
 
 -- by so many bytes further on a second reading is cut than the first
 abbrev pub shift : ℕ
@@ -37,9 +35,9 @@ shift = 2
 
 -- the exchanges were just two readings of the whole, and these bytes are what both gave. The pieces of the second begin two bytes further
 -- on, after the first two bytes
-pub record ReadApart (most : ℕ) (before after : Wire) (by again : ReadBy) (bytes : List ℕ) : Type 0 where
+pub record ReadApart (t : Twice) (before after : Wire) (bytes : List ℕ) : Type 0 where
   pub first : List Operation
   pub second : List Operation
-  pub reads : ReadsCut most most by bytes first
-  pub rereads : ReadsCut (min shift most) most again bytes second
+  pub reads : ReadsCut t.first.most t.first bytes first
+  pub rereads : ReadsCut (min shift t.again.most) t.again bytes second
   pub wire : HasLogged before after (first ++ second)

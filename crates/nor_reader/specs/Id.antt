@@ -1,6 +1,5 @@
 -- A chip's identification (JEDEC: Read Identification 9Fh, the manufacturer's byte and two of the device).
-use Rattle.std.specs.Prelude.{◌≡◌, ℕ, List, [], ◌∷◌, length, Option, Result, Ok, Err}
-use Rattle.nor_base.specs.Device.{Ahead}
+use Rattle.std.specs.Prelude.{◌≡◌, ℕ, List, [], ◌∷◌, length, Result, Ok, Err}
 use Rattle.nor_base.specs.Wire.{Wire}
 use Rattle.nor_serprog.specs.declared.fault.Fault.{Fault}
 use Rattle.nor_serprog.specs.Exchange.{Answers, Asks}

@@ -9,7 +9,7 @@ use Rattle.nor_loop.specs.Laws.{IsReadable, ReadTwice as KnowsTwice}
 use Rattle.nor_reader.specs.declared.by.ReadBy.{ReadBy}
 use Rattle.nor_reader.specs.declared.by.ReadBy.TheVariants.{Tables, Content, FourBytes, Entered}
 use Rattle.nor_base.specs.Instructions.{is_there}
-use Rattle.nor_reader.specs.Twice.{ReadTwice}
+use Rattle.nor_reader.specs.Twice.{ReadTwice, Twice}
 
 -- a chip of the meaning and the start gives its content by these reads
 abbrev pub GivesBy : Parameters → Start → ReadBy → Type 0
@@ -27,7 +27,7 @@ KnowsContent before after m start content =
 
 -- so it is where they came twice alike, however many bytes each read asked for
 abbrev pub TwiceKnows : Type 0
-TwiceKnows = (most : ℕ) (held_before held_after : Option (List ℕ)) (ahead_before ahead_after : Ahead) (m : Parameters) (start : Start)
-    (by again : ReadBy) (content : List ℕ) → m.size ≤ 2 ^ 32 → length content ≡ m.size → GivesBy m start by → GivesBy m start again
-    → ReadTwice most (wire held_before ahead_before) (wire held_after ahead_after) by again content
+TwiceKnows = (t : Twice) (held_before held_after : Option (List ℕ)) (ahead_before ahead_after : Ahead) (m : Parameters) (start : Start)
+    (content : List ℕ) → m.size ≤ 2 ^ 32 → length content ≡ m.size → GivesBy m start t.first.by → GivesBy m start t.again.by
+    → ReadTwice t (wire held_before ahead_before) (wire held_after ahead_after) content
     → KnowsContent (wire held_before ahead_before) (wire held_after ahead_after) m start content

@@ -8,7 +8,7 @@ use Rattle.nor_reader.specs.declared.difference.Mismatch.{Mismatch}
 use Rattle.nor_reader.specs.declared.by.ReadBy.{ReadBy}
 use Rattle.nor_reader.specs.declared.by.ReadBy.TheVariants.{Content, FourBytes, Entered}
 use Rattle.nor_reader.specs.Again.{MissesPiece}
-use Rattle.nor_reader.specs.Reads.{HasReadOn}
+use Rattle.nor_reader.specs.Reads.{chunk, HasReadOn, Reads}
 
 -- the addresses below this one are reached by the address bytes of a read: by four or by three; none in a mode that isn't entered for it
 abbrev pub reach : ReadBy → ℕ
@@ -30,20 +30,18 @@ past_end by size = min (telling_past size) (reach by - size)
 abbrev pub with_past : ReadBy → List ℕ → List ℕ
 with_past by content = content ++ take (past_end by (length content)) content
 
--- the bytes before an address past the end came, and the next read, of no more than so many bytes, ended so
-pub record MissesPast (most : ℕ) (before after : Wire) (by : ReadBy) (content : List ℕ) (why : Mismatch) : Type 0 where
+-- the bytes before an address past the end came, and the next read ended so
+pub record MissesPast (r : Reads) (before after : Wire) (content : List ℕ) (why : Mismatch) : Type 0 where
   pub at : ℕ
   pub len : ℕ
   pub some : 0 < len
-  pub within : at + len ≤ past_end by (length content)
+  pub within : at + len ≤ past_end r.by (length content)
   pub held : Option (List ℕ)
   pub ahead : Ahead
-  pub alike : HasReadOn most before (wire held ahead) by content (content ++ take at content)
-  pub stop : MissesPiece most (wire held ahead) after by (length content + at) (slice_range content at (at + len)) why
+  pub alike : HasReadOn r before (wire held ahead) content (content ++ take at content)
+  pub stop : MissesPiece r (wire held ahead) after (chunk (length content + at) (slice_range content at (at + len))) why
 
 -- what reading past the end says
-abbrev pub ReadsPast : ℕ → Wire → Wire → Result (Unit {0}) Mismatch → ReadBy → List ℕ → Type 0
-ReadsPast most before after (Ok u) by content =
-    HasReadOn most before after by content (with_past by content)
-ReadsPast most before after (Err why) by content =
-    MissesPast most before after by content why
+abbrev pub ReadsPast : Reads → Wire → Wire → Result (Unit {0}) Mismatch → List ℕ → Type 0
+ReadsPast r before after (Ok u) content = HasReadOn r before after content (with_past r.by content)
+ReadsPast r before after (Err why) content = MissesPast r before after content why

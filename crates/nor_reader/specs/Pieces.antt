@@ -1,7 +1,6 @@
 -- Bytes of a chip read piece by piece (the exchanges are the Serial Flasher Protocol's).
-use Rattle.std.specs.Prelude.{◌⊎◌, ℕ, ◌+◌, ◌<◌, ◌≤◌, List, [], ◌∷◌, flat_map, Option}
+use Rattle.std.specs.Prelude.{◌⊎◌, ℕ, ◌+◌, ◌<◌, ◌≤◌, List, [], ◌∷◌, flat_map}
 use Rattle.std.specs.List.{slice_range}
-use Rattle.nor_base.specs.Device.{Ahead}
 use Rattle.nor_base.specs.Wire.{Wire}
 use Rattle.nor_serprog.specs.Exchange.{Talked}
 use Rattle.nor_serprog.specs.Protocol.{answer}

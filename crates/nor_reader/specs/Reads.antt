@@ -15,6 +15,22 @@ use Rattle.nor_reader.specs.declared.by.ReadBy.{ReadBy}
 use Rattle.nor_reader.specs.declared.by.ReadBy.TheVariants.{Tables, Content, FourBytes, Entered}
 use Rattle.nor_reader.specs.Switched.{enter_ops, leave_ops}
 
+-- how a chip is read: by this instruction, no more than so many bytes in one read
+pub record Reads : Type 0 where
+  pub most : ℕ
+  pub by : ReadBy
+
+abbrev pub reads : ℕ → ReadBy → Reads
+reads most by = record { most = most; by = by }
+
+-- bytes from an address on
+pub record Chunk : Type 0 where
+  pub at : ℕ
+  pub bytes : List ℕ
+
+abbrev pub chunk : ℕ → List ℕ → Chunk
+chunk at bytes = record { at = at; bytes = bytes }
+
 -- the bytes that are sent for a read of so many bytes from an address on
 abbrev pub sent_by : ReadBy → ℕ → ℕ → List ℕ
 sent_by Tables at len = table_bytes at
@@ -35,34 +51,32 @@ ops_from by at (piece ∷ pieces) = read_op by at piece ∷ ops_from by (at + le
 abbrev pub IsPiece : ℕ → List ℕ → Type 0
 IsPiece most piece = (0 < length piece) × (length piece ≤ most)
 
--- the log reads each address once, from 0 on, in four-byte mode where that is the way, and this is what came back; no read asked for more
--- than so many bytes
-pub record ReadsBy (most : ℕ) (by : ReadBy) (bytes : List ℕ) (log : List Operation) : Type 0 where
+-- the log reads each address once, from 0 on, in four-byte mode where that is the way, and this is what came back
+pub record ReadsBy (r : Reads) (bytes : List ℕ) (log : List Operation) : Type 0 where
   pub pieces : List (List ℕ)
-  pub filled : AllByRecursion (IsPiece most) pieces
+  pub filled : AllByRecursion (IsPiece r.most) pieces
   pub whole : concat pieces ≡ bytes
-  pub those : log ≡ enter_ops by ++ (ops_from by 0 pieces ++ leave_ops by)
+  pub those : log ≡ enter_ops r.by ++ (ops_from r.by 0 pieces ++ leave_ops r.by)
 
--- bytes were read that follow those in front: just these reads went out, each of them for no more than so many bytes, and just these
--- bytes came
-pub record HasReadOn (most : ℕ) (before after : Wire) (by : ReadBy) (front bytes : List ℕ) : Type 0 where
+-- bytes were read that follow those in front: just these reads went out, and just these bytes came
+pub record HasReadOn (r : Reads) (before after : Wire) (front bytes : List ℕ) : Type 0 where
   pub pieces : List (List ℕ)
-  pub filled : AllByRecursion (IsPiece most) pieces
+  pub filled : AllByRecursion (IsPiece r.most) pieces
   pub whole : front ++ concat pieces ≡ bytes
-  pub wire : HasLogged before after (ops_from by (length front) pieces)
+  pub wire : HasLogged before after (ops_from r.by (length front) pieces)
 
--- the exchange of a read of no more than so many bytes, from an address on, ended so
-abbrev pub StopsPiece : ℕ → Wire → Wire → ReadBy → ℕ → List ℕ → Fault → Type 0
-StopsPiece most before after by at got why =
-    (length got < 2 ^ 24) × (length got ≤ most)
-    × Asks before after (Err why) (request (sent_by by at (length got)) (length got))
-    (Answers before.ahead after.ahead (Err why) got)
+-- the exchange of one read ended so
+abbrev pub StopsPiece : Reads → Wire → Wire → Chunk → Fault → Type 0
+StopsPiece r before after got why =
+    (length got.bytes < 2 ^ 24) × (length got.bytes ≤ r.most)
+    × Asks before after (Err why) (request (sent_by r.by got.at (length got.bytes)) (length got.bytes))
+    (Answers before.ahead after.ahead (Err why) got.bytes)
 
 -- some of the bytes that follow those in front were read, and the exchange of the next read ended so
-pub record StopsOn (most : ℕ) (before after : Wire) (by : ReadBy) (front : List ℕ) (why : Fault) : Type 0 where
+pub record StopsOn (r : Reads) (before after : Wire) (front : List ℕ) (why : Fault) : Type 0 where
   pub so_far : List ℕ
   pub held : Option (List ℕ)
   pub ahead : Ahead
-  pub read : HasReadOn most before (wire held ahead) by front so_far
+  pub read : HasReadOn r before (wire held ahead) front so_far
   pub got : List ℕ
-  pub stop : StopsPiece most (wire held ahead) after by (length so_far) got why
+  pub stop : StopsPiece r (wire held ahead) after (chunk (length so_far) got) why

@@ -1,6 +1,6 @@
 -- A chip's SFDP tables (JESD216B: the header with its signature, the parameter headers).
-use Rattle.std.specs.Prelude.{◌≡◌, ℕ, ◌+◌, ◌*◌, ◌^◌, min, take, List, [], length, codes, Option, Result, Ok, Err}
-use Rattle.nor_base.specs.Device.{Ahead, one_more}
+use Rattle.std.specs.Prelude.{◌≡◌, ℕ, ◌+◌, ◌*◌, ◌^◌, min, take, List, [], length, codes, Result, Ok, Err}
+use Rattle.nor_base.specs.Device.{one_more}
 use Rattle.nor_base.specs.Wire.{Wire}
 use Rattle.nor_reader.specs.Known.{header_count, greatest, ends}
 use Rattle.nor_reader.specs.declared.by.ReadBy.TheVariants.{Tables}
@@ -9,8 +9,8 @@ use Rattle.nor_reader.specs.declared.tables.TablesFault.TheVariants.{Memory, NoS
 use Rattle.nor_serprog.specs.declared.fault.Fault.{Fault}
 use Rattle.nor_serprog.specs.declared.fault.Fault.TheVariants as fault
 use Rattle.nor_reader.specs.declared.difference.Mismatch.TheVariants.{Exchange}
-use Rattle.nor_reader.specs.Reads.{HasReadOn, StopsOn}
-use Rattle.nor_reader.specs.Twice.{ReadTwice, StopsTwice}
+use Rattle.nor_reader.specs.Reads.{reads, HasReadOn, Reads, StopsOn}
+use Rattle.nor_reader.specs.Twice.{twice, ReadTwice, StopsTwice}
 
 -- the header begins with the signature
 abbrev pub HasSignature : List ℕ → Type 0
@@ -29,29 +29,30 @@ pub record AreTables (bytes : List ℕ) : Type 0 where
   pub signed : HasSignature bytes
   pub far : length bytes ≡ tables_size (take (headers_end bytes) bytes)
 
+-- they are read by 5Ah, no more than so many bytes in one read
+abbrev pub table_reads : ℕ → Reads
+table_reads most = reads most Tables
+
 -- they came twice alike, as far as their own headers reach
 pub record HasReadTables (most : ℕ) (before after : Wire) (bytes : List ℕ) : Type 0 where
   pub are : AreTables bytes
-  pub twice : ReadTwice most before after Tables Tables bytes
+  pub twice : ReadTwice (twice most Tables Tables) before after bytes
 
 -- why they aren't read: there is no signature in the header, which was read once; or they didn't come twice alike; or memory ran out
 -- after a part of them
 abbrev pub StopsTables : ℕ → Wire → Wire → TablesFault → Type 0
 StopsTables most before after NoSignature =
-    (bytes : List ℕ) × (length bytes ≡ 8) × (HasSignature bytes → ⊥) × HasReadOn most before after Tables [] bytes
+    (bytes : List ℕ) × (length bytes ≡ 8) × (HasSignature bytes → ⊥) × HasReadOn (table_reads most) before after [] bytes
 StopsTables most before after (Unread why) =
-    (bytes : List ℕ) × StopsTwice most before after Tables Tables bytes why
+    (bytes : List ℕ) × StopsTwice (twice most Tables Tables) before after bytes why
 StopsTables most before after Memory =
-    (bytes : List ℕ) × HasReadOn most before after Tables [] bytes
+    (bytes : List ℕ) × HasReadOn (table_reads most) before after [] bytes
 
--- what reading on says, until there are so many bytes
-abbrev pub Grows : ℕ → Wire → Wire → Result (Unit {0}) TablesFault → List ℕ → List ℕ → ℕ → Type 0
-Grows most before after (Ok u) old new end =
-    (length new ≡ end) × HasReadOn most before after Tables old new
-Grows most before after (Err Memory) old new end = (after.held ≡ before.held) × (after.ahead ≡ before.ahead)
-Grows most before after (Err (Unread (Exchange why))) old new end =
-    StopsOn most before after Tables old why
-Grows most before after (Err other) old new end = ⊥
+-- reading on after some bytes of them stopped: memory ran out, and nothing was sent; or the exchange of a read ended so
+abbrev pub StopsGrowth : ℕ → Wire → Wire → List ℕ → TablesFault → Type 0
+StopsGrowth most before after front Memory = (after.held ≡ before.held) × (after.ahead ≡ before.ahead)
+StopsGrowth most before after front (Unread (Exchange why)) = StopsOn (table_reads most) before after front why
+StopsGrowth most before after front other = ⊥
 
 -- the reader's count of failures rises by one exactly where the exchange ended in Read, the writer's where it ended in Write
 abbrev pub CountsTables : {T : Type 0} → Fault → ℕ → ℕ → Result T TablesFault → Type 0

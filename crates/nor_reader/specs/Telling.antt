@@ -10,6 +10,8 @@ use Rattle.nor_reader.specs.declared.by.ReadBy.{ReadBy}
 use Rattle.nor_reader.specs.declared.by.ReadBy.TheVariants.{Content, Entered}
 use Rattle.nor_reader.specs.Cut.{shift, ReadsCut, ReadApart}
 use Rattle.nor_reader.specs.Modes.{MayGive}
+use Rattle.nor_reader.specs.Reads.{reads}
+use Rattle.nor_reader.specs.Twice.{twice, Twice}
 
 -- each byte of these is the one that is so many further on
 abbrev pub HasPeriod : ℕ → List ℕ → Type 0
@@ -49,24 +51,25 @@ Holds holds bytes = (x : ℕ) → x < length bytes → holds x ≡ slice_index b
 -- has that content; unless the content doesn't show the mode
 abbrev pub ModeIsShown : Type 0
 ModeIsShown = (most : ℕ) (said mode4 : Bool) (holds : ℕ → ℕ) (content : List ℕ) (first again : List Operation) → length content ≤ 2 ^ 32
-    → ShowsMode said most content → ReadsCut most most (Content said) content first → ReadsCut (min shift most) most (Content said) content again
+    → ShowsMode said most content → ReadsCut most (reads most (Content said)) content first
+    → ReadsCut (min shift most) (reads most (Content said)) content again
     → HasGiven holds mode4 first → HasGiven holds mode4 again → (mode4 ≡ said) × Holds holds content
 
 -- and each chip that has a content gives it to reads by the address bytes of its mode, however it is cut
 abbrev pub SaidGives : Type 0
 SaidGives = (first most : ℕ) (said : Bool) (holds : ℕ → ℕ) (content : List ℕ) (log : List Operation) → length content ≤ 2 ^ 32
-    → ReadsCut first most (Content said) content log → Holds holds content → HasGiven holds said log
+    → ReadsCut first (reads most (Content said)) content log → Holds holds content → HasGiven holds said log
 
 -- and each chip in the mode that is said has what it gave to such reads
 abbrev pub SaidHolds : Type 0
 SaidHolds = (first most : ℕ) (said : Bool) (holds : ℕ → ℕ) (content : List ℕ) (log : List Operation) → length content ≤ 2 ^ 32
-    → ReadsCut first most (Content said) content log → HasGiven holds said log → Holds holds content
+    → ReadsCut first (reads most (Content said)) content log → HasGiven holds said log → Holds holds content
 
 -- so has every chip for which four-byte mode is entered and left, whichever its mode was
 abbrev pub EnteredHolds : Type 0
 EnteredHolds = (first most : ℕ) (enter leave : Switch) (mode4 : Bool) (holds : ℕ → ℕ) (content : List ℕ) (log : List Operation)
-    → length content ≤ 2 ^ 32 → is_there enter ≡ true → ReadsCut first most (Entered enter leave) content log → HasGiven holds mode4 log
-    → Holds holds content
+    → length content ≤ 2 ^ 32 → is_there enter ≡ true → ReadsCut first (reads most (Entered enter leave)) content log
+    → HasGiven holds mode4 log → Holds holds content
 
 -- one of two ways to read a content gives it to a chip in the mode that is said: by the address bytes of that mode, or in four-byte mode, which
 -- is entered
@@ -89,14 +92,14 @@ pub record KnowsMode (before after : Wire) (sure said : Bool) (content : List �
 abbrev pub ApartKnows : Type 0
 ApartKnows = (most : ℕ) (held_before held_after : Option (List ℕ)) (ahead_before ahead_after : Ahead) (said : Bool) (content : List ℕ)
     → length content ≤ 2 ^ 32 → ShowsMode said most content
-    → ReadApart most (wire held_before ahead_before) (wire held_after ahead_after) (Content said) (Content said) content
+    → ReadApart (twice most (Content said) (Content said)) (wire held_before ahead_before) (wire held_after ahead_after) content
     → KnowsMode (wire held_before ahead_before) (wire held_after ahead_after) false said content
 
 -- and where the mode is sure, and the first reading gives the content to a chip in it
 abbrev pub SureKnows : Type 0
-SureKnows = (most : ℕ) (held_before held_after : Option (List ℕ)) (ahead_before ahead_after : Ahead) (by again : ReadBy) (said : Bool)
-    (content : List ℕ) → length content ≤ 2 ^ 32 → GivesSaid by said
-    → ReadApart most (wire held_before ahead_before) (wire held_after ahead_after) by again content
+SureKnows = (t : Twice) (held_before held_after : Option (List ℕ)) (ahead_before ahead_after : Ahead) (said : Bool)
+    (content : List ℕ) → length content ≤ 2 ^ 32 → GivesSaid t.first.by said
+    → ReadApart t (wire held_before ahead_before) (wire held_after ahead_after) content
     → KnowsMode (wire held_before ahead_before) (wire held_after ahead_after) true said content
 
 -- the mode after operations

@@ -9,15 +9,23 @@ use Rattle.nor_serprog.specs.declared.fault.Fault.{Fault}
 use Rattle.nor_loop.specs.Log.{Operation, HasLogged}
 use Rattle.nor_reader.specs.declared.by.ReadBy.{ReadBy}
 use Rattle.nor_reader.specs.Switched.{enter_ops, leave_ops, StopsAmong}
-use Rattle.nor_reader.specs.Reads.{ReadsBy, HasReadOn, StopsOn}
+use Rattle.nor_reader.specs.Reads.{reads, ReadsBy, HasReadOn, Reads, StopsOn}
 use Rattle.nor_reader.specs.Again.{MissesOn}
 
--- the exchanges were just two readings of the whole, by reads of no more than so many bytes, and these bytes are what both gave
-pub record ReadTwice (most : ℕ) (before after : Wire) (by again : ReadBy) (bytes : List ℕ) : Type 0 where
+-- how bytes are read the first time, and again
+pub record Twice : Type 0 where
+  pub first : Reads
+  pub again : Reads
+
+abbrev pub twice : ℕ → ReadBy → ReadBy → Twice
+twice most by again = record { first = reads most by; again = reads most again }
+
+-- the exchanges were just two readings of the whole, and these bytes are what both gave
+pub record ReadTwice (t : Twice) (before after : Wire) (bytes : List ℕ) : Type 0 where
   pub first : List Operation
   pub second : List Operation
-  pub reads : ReadsBy most by bytes first
-  pub rereads : ReadsBy most again bytes second
+  pub reads : ReadsBy t.first bytes first
+  pub rereads : ReadsBy t.again bytes second
   pub wire : HasLogged before after (first ++ second)
 
 -- what happens between two moments of a device
@@ -47,54 +55,48 @@ abbrev pub StopsLeaving : ReadBy → Fault → Passage
 StopsLeaving by why before after = StopsAmong before after (leave_ops by) why
 
 -- all bytes came; a byte came otherwise
-abbrev pub AllCame : ℕ → ReadBy → List ℕ → Passage
-AllCame most by bytes before after = HasReadOn most before after by [] bytes
+abbrev pub AllCame : Reads → List ℕ → Passage
+AllCame r bytes before after = HasReadOn r before after [] bytes
 
-abbrev pub OtherCame : ℕ → ReadBy → List ℕ → Difference → Passage
-OtherCame most by bytes d before after = MissesOn most before after by bytes (Differs d)
+abbrev pub OtherCame : Reads → List ℕ → Difference → Passage
+OtherCame r bytes d before after = MissesOn r before after bytes (Differs d)
 
 -- bytes were read whole
-abbrev pub HasReadWhole : ℕ → Wire → Wire → ReadBy → List ℕ → Type 0
-HasReadWhole most before after by bytes =
-    IsEntered by (IsFollowed (AllCame most by bytes) (IsLeft by)) before after
+abbrev pub HasReadWhole : Reads → Wire → Wire → List ℕ → Type 0
+HasReadWhole r before after bytes = IsEntered r.by (IsFollowed (AllCame r bytes) (IsLeft r.by)) before after
 
 -- a first reading ended early: as the mode was entered, in a read, or as the mode was left
-abbrev pub StopsFirst : ℕ → Wire → Wire → ReadBy → List ℕ → Fault → Type 0
-StopsFirst most before after by bytes why =
-    StopsAmong before after (enter_ops by) why
-    ⊎ (IsEntered by (λ u v. StopsOn most u v by [] why) before after
-    ⊎ IsEntered by (IsFollowed (AllCame most by bytes) (StopsLeaving by why)) before after)
+abbrev pub StopsFirst : Reads → Wire → Wire → List ℕ → Fault → Type 0
+StopsFirst r before after bytes why =
+    StopsAmong before after (enter_ops r.by) why
+    ⊎ (IsEntered r.by (λ u v. StopsOn r u v [] why) before after
+    ⊎ IsEntered r.by (IsFollowed (AllCame r bytes) (StopsLeaving r.by why)) before after)
 
 -- bytes didn't come again: an exchange ended early, as the mode was entered, in a read, or as the mode was left; or a byte came
 -- otherwise, and the mode was left
-abbrev pub MissesWhole : ℕ → Wire → Wire → ReadBy → List ℕ → Mismatch → Type 0
-MissesWhole most before after by bytes (Exchange why) =
-    StopsAmong before after (enter_ops by) why
-    ⊎ (IsEntered by (λ u v. MissesOn most u v by bytes (Exchange why)) before after
-    ⊎ (IsEntered by (IsFollowed (AllCame most by bytes) (StopsLeaving by why)) before after
+abbrev pub MissesWhole : Reads → Wire → Wire → List ℕ → Mismatch → Type 0
+MissesWhole r before after bytes (Exchange why) =
+    StopsAmong before after (enter_ops r.by) why
+    ⊎ (IsEntered r.by (λ u v. MissesOn r u v bytes (Exchange why)) before after
+    ⊎ (IsEntered r.by (IsFollowed (AllCame r bytes) (StopsLeaving r.by why)) before after
     ⊎ ((d : Difference)
-    × IsEntered by (IsFollowed (OtherCame most by bytes d) (StopsLeaving by why)) before after)))
-MissesWhole most before after by bytes (Differs d) =
-    IsEntered by (IsFollowed (OtherCame most by bytes d) (IsLeft by)) before after
+    × IsEntered r.by (IsFollowed (OtherCame r bytes d) (StopsLeaving r.by why)) before after)))
+MissesWhole r before after bytes (Differs d) =
+    IsEntered r.by (IsFollowed (OtherCame r bytes d) (IsLeft r.by)) before after
 
 -- what a second reading says
-abbrev pub ReadsWhole : ℕ → Wire → Wire → Result (Unit {0}) Mismatch → ReadBy → List ℕ → Type 0
-ReadsWhole most before after (Ok u) by bytes =
-    HasReadWhole most before after by bytes
-ReadsWhole most before after (Err why) by bytes =
-    MissesWhole most before after by bytes why
+abbrev pub ReadsWhole : Reads → Wire → Wire → Result (Unit {0}) Mismatch → List ℕ → Type 0
+ReadsWhole r before after (Ok u) bytes = HasReadWhole r before after bytes
+ReadsWhole r before after (Err why) bytes = MissesWhole r before after bytes why
 
 -- bytes were read whole, and then not found so again
-pub record MissesAgain (most : ℕ) (before after : Wire) (by again : ReadBy) (bytes : List ℕ) (why : Mismatch) : Type 0 where
+pub record MissesAgain (t : Twice) (before after : Wire) (bytes : List ℕ) (why : Mismatch) : Type 0 where
   pub held : Option (List ℕ)
   pub ahead : Ahead
-  pub read : HasReadWhole most before (wire held ahead) by bytes
-  pub missed : MissesWhole most (wire held ahead) after again bytes why
+  pub read : HasReadWhole t.first before (wire held ahead) bytes
+  pub missed : MissesWhole t.again (wire held ahead) after bytes why
 
 -- why they didn't come twice alike: an exchange of the first reading ended early, or the second reading ended so
-abbrev pub StopsTwice : ℕ → Wire → Wire → ReadBy → ReadBy → List ℕ → Mismatch → Type 0
-StopsTwice most before after by again bytes (Exchange why) =
-    StopsFirst most before after by bytes why
-    ⊎ MissesAgain most before after by again bytes (Exchange why)
-StopsTwice most before after by again bytes (Differs d) =
-    MissesAgain most before after by again bytes (Differs d)
+abbrev pub StopsTwice : Twice → Wire → Wire → List ℕ → Mismatch → Type 0
+StopsTwice t before after bytes (Exchange why) = StopsFirst t.first before after bytes why ⊎ MissesAgain t before after bytes (Exchange why)
+StopsTwice t before after bytes (Differs d) = MissesAgain t before after bytes (Differs d)

@@ -3,6 +3,7 @@
 ghost use Rattle.std.specs.Prelude.{◌<◌, ◌+◌, ◌^◌, length};
 ghost use Rattle.nor_base.specs.Wire.{wire};
 ghost use Rattle.nor_reader.specs.Part.{ReadsPart};
+ghost use Rattle.nor_reader.specs.Reads.{chunk};
 
 use crate::by::{ReadBy, enter_of, leave_of};
 use crate::difference::Mismatch;
@@ -24,7 +25,7 @@ pub fn compare_part<R: ByteIn, W: ByteOut>(
 ) -> Result<(), Mismatch>
     requires size { length part.now < 2 ^ 24 }
     requires end { address + length part.now < 2 ^ 32 + 1 }
-    ensures { ReadsPart by address part.now (wire (W.held to.old) (R.ahead from.old))
+    ensures { ReadsPart by (chunk address part.now) (wire (W.held to.old) (R.ahead from.old))
         (wire (W.held to.new) (R.ahead from.new)) result }
 {
     switch_mode(from, to, enter_of(by), ENTER)?;

@@ -7,8 +7,8 @@ ghost use Rattle.nor_serprog.specs.declared.fault.Fault.TheVariants.{Read, Write
 ghost use Rattle.nor_serprog.specs.Exchange.{CountsReads, CountsWrites};
 ghost use Rattle.nor_reader.specs.Again.{ReadsAgain};
 ghost use Rattle.nor_reader.specs.Cut.{HasReadCut, HasReadWholeCut, ReadApart, shift};
-ghost use Rattle.nor_reader.specs.Reads.{HasReadOn, StopsOn};
-ghost use Rattle.nor_reader.specs.Twice.{HasReadWhole, ReadTwice, ReadsWhole, StopsFirst};
+ghost use Rattle.nor_reader.specs.Reads.{chunk, reads, HasReadOn, StopsOn};
+ghost use Rattle.nor_reader.specs.Twice.{twice, HasReadWhole, ReadTwice, ReadsWhole, StopsFirst};
 ghost use Rattle.nor_reader.specs.Twice.{StopsTwice};
 ghost use Rattle.nor_base.specs.Wire.{wire};
 
@@ -38,13 +38,13 @@ pub fn read_content<R: ByteIn, W: ByteOut, P: ByteOut>(
 ) -> Result<(), Mismatch>
     requires size { length content.old ≤ 2 ^ 32 }
     ensures twice { MatchResult result
-        (λ _. ReadTwice limits.now.asked (wire (W.held to.old) (R.ahead from.old))
-        (wire (W.held to.new) (R.ahead from.new)) by again content.new)
-        (StopsTwice limits.now.asked (wire (W.held to.old) (R.ahead from.old))
-        (wire (W.held to.new) (R.ahead from.new)) by again content.new) }
+        (λ _. ReadTwice (twice limits.now.asked by again) (wire (W.held to.old) (R.ahead from.old))
+        (wire (W.held to.new) (R.ahead from.new)) content.new)
+        (StopsTwice (twice limits.now.asked by again) (wire (W.held to.old) (R.ahead from.old))
+        (wire (W.held to.new) (R.ahead from.new)) content.new) }
     ensures apart { IfOk result
-        (λ _. ReadApart limits.now.asked (wire (W.held to.old) (R.ahead from.old))
-        (wire (W.held to.new) (R.ahead from.new)) by again content.new) }
+        (λ _. ReadApart (twice limits.now.asked by again) (wire (W.held to.old) (R.ahead from.old))
+        (wire (W.held to.new) (R.ahead from.new)) content.new) }
     ensures counts { CountsMismatch Read (R.count from.old) (R.count from.new) result
         × CountsMismatch Write (W.count to.old) (W.count to.new) result }
 {
@@ -66,13 +66,13 @@ fn read_first<R: ByteIn, W: ByteOut, P: ByteOut>(
 ) -> Result<(), Fault>
     requires size { length bytes.old ≤ 2 ^ 32 }
     ensures read { MatchResult result
-        (λ _. HasReadWhole limits.now.asked (wire (W.held to.old) (R.ahead from.old))
-        (wire (W.held to.new) (R.ahead from.new)) by bytes.new)
-        (StopsFirst limits.now.asked (wire (W.held to.old) (R.ahead from.old))
-        (wire (W.held to.new) (R.ahead from.new)) by bytes.new) }
+        (λ _. HasReadWhole (reads limits.now.asked by) (wire (W.held to.old) (R.ahead from.old))
+        (wire (W.held to.new) (R.ahead from.new)) bytes.new)
+        (StopsFirst (reads limits.now.asked by) (wire (W.held to.old) (R.ahead from.old))
+        (wire (W.held to.new) (R.ahead from.new)) bytes.new) }
     ensures cut { IfOk result
-        (λ _. HasReadWholeCut limits.now.asked limits.now.asked
-        (wire (W.held to.old) (R.ahead from.old)) (wire (W.held to.new) (R.ahead from.new)) by
+        (λ _. HasReadWholeCut limits.now.asked (reads limits.now.asked by)
+        (wire (W.held to.old) (R.ahead from.old)) (wire (W.held to.new) (R.ahead from.new))
         bytes.new) }
     ensures counts { CountsReads (R.count from.old) (R.count from.new) result
         × CountsWrites (W.count to.old) (W.count to.new) result }
@@ -104,11 +104,11 @@ pub fn read_again<R: ByteIn, W: ByteOut, P: ByteOut>(
     progress: &mut P,
 ) -> Result<(), Mismatch>
     requires size { length bytes.now ≤ 2 ^ 32 }
-    ensures again { ReadsWhole limits.now.asked (wire (W.held to.old) (R.ahead from.old))
-        (wire (W.held to.new) (R.ahead from.new)) result by bytes.now }
+    ensures again { ReadsWhole (reads limits.now.asked by) (wire (W.held to.old) (R.ahead from.old))
+        (wire (W.held to.new) (R.ahead from.new)) result bytes.now }
     ensures cut { IfOk result
-        (λ _. HasReadWholeCut (min shift limits.now.asked) limits.now.asked
-        (wire (W.held to.old) (R.ahead from.old)) (wire (W.held to.new) (R.ahead from.new)) by
+        (λ _. HasReadWholeCut (min shift limits.now.asked) (reads limits.now.asked by)
+        (wire (W.held to.old) (R.ahead from.old)) (wire (W.held to.new) (R.ahead from.new))
         bytes.now) }
     ensures counts { CountsMismatch Read (R.count from.old) (R.count from.new) result
         × CountsMismatch Write (W.count to.old) (W.count to.new) result }
@@ -147,13 +147,14 @@ pub(crate) fn read_on<R: ByteIn, W: ByteOut, P: ByteOut>(
     requires start { start ≤ length bytes.old }
     requires size { length bytes.old ≤ 2 ^ 32 }
     ensures read { MatchResult result
-        (λ _. HasReadOn limits.now.asked (wire (W.held to.old) (R.ahead from.old))
-        (wire (W.held to.new) (R.ahead from.new)) by (take start bytes.old) bytes.new)
-        (StopsOn limits.now.asked (wire (W.held to.old) (R.ahead from.old))
-        (wire (W.held to.new) (R.ahead from.new)) by (take start bytes.old)) }
+        (λ _. HasReadOn (reads limits.now.asked by) (wire (W.held to.old) (R.ahead from.old))
+        (wire (W.held to.new) (R.ahead from.new)) (take start bytes.old) bytes.new)
+        (StopsOn (reads limits.now.asked by) (wire (W.held to.old) (R.ahead from.old))
+        (wire (W.held to.new) (R.ahead from.new)) (take start bytes.old)) }
     ensures cut { IfOk result
-        (λ _. HasReadCut limits.now.asked limits.now.asked (wire (W.held to.old) (R.ahead from.old))
-        (wire (W.held to.new) (R.ahead from.new)) by start (drop start bytes.new)) }
+        (λ _. HasReadCut limits.now.asked (reads limits.now.asked by)
+        (wire (W.held to.old) (R.ahead from.old)) (wire (W.held to.new) (R.ahead from.new))
+        (chunk start (drop start bytes.new))) }
     ensures size { length bytes.new ≡ length bytes.old }
     ensures counts { CountsReads (R.count from.old) (R.count from.new) result
         × CountsWrites (W.count to.old) (W.count to.new) result }
@@ -186,11 +187,11 @@ pub(crate) fn compare_all<R: ByteIn, W: ByteOut, P: ByteOut>(
     requires some { 0 < first }
     requires few { first ≤ limits.now.asked }
     requires size { length bytes.now ≤ 2 ^ 32 }
-    ensures again { ReadsAgain limits.now.asked (wire (W.held to.old) (R.ahead from.old))
-        (wire (W.held to.new) (R.ahead from.new)) result by bytes.now }
+    ensures again { ReadsAgain (reads limits.now.asked by) (wire (W.held to.old) (R.ahead from.old))
+        (wire (W.held to.new) (R.ahead from.new)) result bytes.now }
     ensures cut { IfOk result
-        (λ _. HasReadCut first limits.now.asked (wire (W.held to.old) (R.ahead from.old))
-        (wire (W.held to.new) (R.ahead from.new)) by 0 bytes.now) }
+        (λ _. HasReadCut first (reads limits.now.asked by) (wire (W.held to.old) (R.ahead from.old))
+        (wire (W.held to.new) (R.ahead from.new)) (chunk 0 bytes.now)) }
     ensures counts { CountsMismatch Read (R.count from.old) (R.count from.new) result
         × CountsMismatch Write (W.count to.old) (W.count to.new) result }
 {

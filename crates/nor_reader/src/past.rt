@@ -5,6 +5,7 @@ ghost use Rattle.nor_reader.specs.Compared.{CountsMismatch};
 ghost use Rattle.nor_serprog.specs.declared.fault.Fault.TheVariants.{Read, Write};
 ghost use Rattle.nor_reader.specs.Harmless.{HasSentHarmless, SendsHarmless};
 ghost use Rattle.nor_reader.specs.Past.{past_end, reach, telling_past, ReadsPast};
+ghost use Rattle.nor_reader.specs.Reads.{reads};
 ghost use Rattle.nor_base.specs.Wire.{wire};
 
 use crate::by::ReadBy;
@@ -32,8 +33,8 @@ pub fn read_past<R: ByteIn, W: ByteOut>(
     by: ReadBy,
     content: &[u8],
 ) -> Result<(), Mismatch>
-    ensures past { ReadsPast limits.now.asked (wire (W.held to.old) (R.ahead from.old))
-        (wire (W.held to.new) (R.ahead from.new)) result by content.now }
+    ensures past { ReadsPast (reads limits.now.asked by) (wire (W.held to.old) (R.ahead from.old))
+        (wire (W.held to.new) (R.ahead from.new)) result content.now }
     ensures harmless { MatchResult result (λ _. HasSentHarmless (W.held to.old) (W.held to.new))
         (λ _. SendsHarmless (W.held to.old) (W.held to.new)) }
     ensures counts { CountsMismatch Read (R.count from.old) (R.count from.new) result

@@ -8,7 +8,7 @@ ghost use Rattle.nor_serprog.specs.Exchange.{Answers, Asks, CountsReads, CountsW
 ghost use Rattle.nor_serprog.specs.Follow.{CountsReason};
 ghost use Rattle.nor_serprog.specs.Protocol.{request};
 ghost use Rattle.nor_reader.specs.Again.{ReadsPiece};
-ghost use Rattle.nor_reader.specs.Reads.{sent_by, read_op, StopsPiece};
+ghost use Rattle.nor_reader.specs.Reads.{chunk, sent_by, read_op, reads, StopsPiece};
 ghost use Rattle.nor_base.specs.Wire.{wire};
 
 use crate::by::ReadBy;
@@ -29,8 +29,8 @@ pub(crate) fn read_piece<R: ByteIn, W: ByteOut>(
         (λ _. HasLogged (wire (W.held to.old) (R.ahead from.old))
         (wire (W.held to.new) (R.ahead from.new))
         (read_op by address piece.new ∷ []))
-        (StopsPiece (length piece.new) (wire (W.held to.old) (R.ahead from.old))
-        (wire (W.held to.new) (R.ahead from.new)) by address piece.new) }
+        (StopsPiece (reads (length piece.new) by) (wire (W.held to.old) (R.ahead from.old))
+        (wire (W.held to.new) (R.ahead from.new)) (chunk address piece.new)) }
     ensures counts { CountsReads (R.count from.old) (R.count from.new) result
         × CountsWrites (W.count to.old) (W.count to.new) result }
 {
@@ -81,8 +81,9 @@ pub(crate) fn compare_piece<R: ByteIn, W: ByteOut>(
 ) -> Result<(), Mismatch>
     requires size { length piece.now < 2 ^ 24 }
     requires end { address + length piece.now < 2 ^ 32 + 1 }
-    ensures read { ReadsPiece (length piece.now) (wire (W.held to.old) (R.ahead from.old))
-        (wire (W.held to.new) (R.ahead from.new)) result by address piece.now }
+    ensures read { ReadsPiece (reads (length piece.now) by)
+        (wire (W.held to.old) (R.ahead from.old)) (wire (W.held to.new) (R.ahead from.new)) result
+        (chunk address piece.now) }
     ensures counts { CountsMismatch Read (R.count from.old) (R.count from.new) result
         × CountsMismatch Write (W.count to.old) (W.count to.new) result }
 {

@@ -1,11 +1,12 @@
 //! The SFDP tables of the chip behind a device.
 
 ghost use Rattle.std.specs.Prelude.{◌≡◌, ◌↔◌, ◌≤◌, ◌^◌, true, length};
-ghost use Rattle.std.specs.Prelude.{MatchResult};
+ghost use Rattle.std.specs.Prelude.{IfOk, MatchResult};
 ghost use Rattle.nor_reader.specs.declared.tables.TablesFault.TheVariants.{Memory};
 ghost use Rattle.nor_serprog.specs.declared.fault.Fault.TheVariants.{Read, Write};
-ghost use Rattle.nor_reader.specs.Tables.{CountsTables, Grows, HasReadTables, HasSignature};
-ghost use Rattle.nor_reader.specs.Tables.{StopsTables, headers_end, tables_size};
+ghost use Rattle.nor_reader.specs.Reads.{HasReadOn};
+ghost use Rattle.nor_reader.specs.Tables.{CountsTables, HasReadTables, HasSignature, StopsGrowth};
+ghost use Rattle.nor_reader.specs.Tables.{StopsTables, headers_end, table_reads, tables_size};
 ghost use Rattle.nor_base.specs.Wire.{wire};
 
 use crate::by::ReadBy;
@@ -96,8 +97,12 @@ fn grow<R: ByteIn, W: ByteOut>(
 ) -> Result<(), TablesFault>
     requires start { length bytes.old.items ≤ end }
     requires end { end ≤ 2 ^ 24 }
-    ensures grows { Grows limits.now.asked (wire (W.held to.old) (R.ahead from.old))
-        (wire (W.held to.new) (R.ahead from.new)) result bytes.old.items bytes.new.items end }
+    ensures grows { MatchResult result
+        (λ _. HasReadOn (table_reads limits.now.asked) (wire (W.held to.old) (R.ahead from.old))
+        (wire (W.held to.new) (R.ahead from.new)) bytes.old.items bytes.new.items)
+        (StopsGrowth limits.now.asked (wire (W.held to.old) (R.ahead from.old))
+        (wire (W.held to.new) (R.ahead from.new)) bytes.old.items) }
+    ensures size { IfOk result (λ _. length bytes.new.items ≡ end) }
     ensures counts { CountsTables Read (R.count from.old) (R.count from.new) result
         × CountsTables Write (W.count to.old) (W.count to.new) result }
 {

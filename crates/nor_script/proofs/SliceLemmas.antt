@@ -145,7 +145,7 @@ header_inside buffer held rest f u p is = omega (arith, ap length is, length-app
 
 -- bytes that were put into a buffer from a place on
 pub filled_past : (before after : Ahead) (xs ys : List ℕ) (a k : ℕ) (r : Result ℕ Failed) → a ≤ length xs → length ys ≡ length xs - a → Takes before after r ys
-    → FillsPast before after xs (put_mid a k xs ys) a r
+    → FillsPast (reading before xs) (reading after (put_mid a k xs ys)) a r
 filled_past before after xs ys a k (Ok n) fits size takes = record {
   pulled = take n ys;
   number = length-take-le n ys takes.0;
@@ -165,7 +165,7 @@ pub put_back : (items new : List ℕ) (n : ℕ) → n ≡ length items → lengt
 put_back items new n whole size =
     take-append-le n new (drop (length new) items) (omega (arith, whole, size)) ∙ take_all n new (omega (arith, whole, size))
 
-pub came : (before after : Ahead) (old new held : List ℕ) (f u n : ℕ) → IsHeld old held f u → u < length old → FillsBy before after old new u n
+pub came : (before after : Ahead) (old new held : List ℕ) (f u n : ℕ) → IsHeld old held f u → u < length old → FillsBy (reading before old) (reading after new) u n
     → Comes (reading before held) (reading after (slice_range new f (u + n))) n
 came before after old new held f u n p room fills = record {
   pulled = fills.pulled;

@@ -1,7 +1,7 @@
 -- A reader of lines that takes its bytes from a device, a part at a time (this project's).
 use Rattle.std.specs.Prelude.{◌≡◌, ◌<◌, ◌≤◌, ℕ, ◌+◌, false, List, [], ◌∷◌, ◌++◌, length, take, drop, slice_range, Result, Ok, Err, Bool, true}
 use Rattle.std.specs.List.{list_any}
-use Rattle.nor_base.specs.Device.{Ahead, Gives, IsAtEnd}
+use Rattle.nor_base.specs.Device.{Gives, IsAtEnd}
 use Rattle.nor_base.specs.declared.device.Failed.{Failed}
 use Rattle.nor_base.specs.Script.{closed, header}
 use Rattle.nor_script.specs.declared.fault.ReadFault.{ReadFault}
@@ -48,18 +48,18 @@ abbrev pub Pulls : Reading → Reading → Result ℕ ReadFault → Type 0
 Pulls before after (Ok n) = Comes before after n
 Pulls before after (Err fault) = Reads before after [] × IsOutside fault
 
--- so many bytes came into a buffer, behind the first ones, which stay; none at the end, or where there was no room
-pub record FillsBy (before after : Ahead) (old new : List ℕ) (upto n : ℕ) : Type 0 where
+-- so many bytes came into a buffer, here what is held, behind the first ones, which stay; none at the end, or where there was no room
+pub record FillsBy (before after : Reading) (upto n : ℕ) : Type 0 where
   pub pulled : List ℕ
   pub number : length pulled ≡ n
-  pub within : upto + n ≤ length new
-  pub whole : take (upto + n) new ≡ take upto old ++ pulled
-  pub given : Gives before pulled after
-  pub over : n ≡ 0 → upto < length old → IsAtEnd after
+  pub within : upto + n ≤ length after.held
+  pub whole : take (upto + n) after.held ≡ take upto before.held ++ pulled
+  pub given : Gives before.ahead pulled after.ahead
+  pub over : n ≡ 0 → upto < length before.held → IsAtEnd after.ahead
 
-abbrev pub FillsPast : Ahead → Ahead → List ℕ → List ℕ → ℕ → Result ℕ Failed → Type 0
-FillsPast before after old new upto (Ok n) = FillsBy before after old new upto n
-FillsPast before after old new upto (Err failed) = Gives before [] after × (take upto new ≡ take upto old)
+abbrev pub FillsPast : Reading → Reading → ℕ → Result ℕ Failed → Type 0
+FillsPast before after upto (Ok n) = FillsBy before after upto n
+FillsPast before after upto (Err failed) = Gives before.ahead [] after.ahead × (take upto after.held ≡ take upto before.held)
 
 abbrev pub ReadsHeader : Reading → Reading → Result Bool ReadFault → Type 0
 ReadsHeader before after (Ok true) = Reads before after header

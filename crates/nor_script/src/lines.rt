@@ -216,8 +216,8 @@ impl LineBuffer {
 /// Takes bytes into a buffer from a place on.
 fn fill_past<R: ByteIn>(source: &mut R, buffer: &mut [u8], upto: usize) -> Result<usize, Failed>
     requires upto { upto ≤ length buffer.old }
-    ensures bytes { FillsPast (R.ahead source.old) (R.ahead source.new) buffer.old buffer.new upto
-        result }
+    ensures bytes { FillsPast (reading (R.ahead source.old) buffer.old)
+        (reading (R.ahead source.new) buffer.new) upto result }
     ensures count { Counts (R.count source.old) (R.count source.new) result }
 {
     source.take(&mut buffer[upto..])

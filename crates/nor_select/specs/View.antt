@@ -36,12 +36,12 @@ AreCoded instrs these = map coded_of instrs ≡ map coded these
 abbrev pub Adds : List Instr → List Planned → List Instr → Type 0
 Adds before these after = map coded_of after ≡ map coded_of before ++ map coded these
 
--- an instruction at an address, by its dedicated opcode or by its legacy one
-abbrev pub coded_at : Strategy → ℕ → ℕ → ℕ → ℕ → Load → Coded
-coded_at by op op4 dummies a load = record {
+-- an instruction at an address, by its dedicated opcode or by its legacy one, without data
+abbrev pub coded_at : Strategy → ℕ → ℕ → ℕ → ℕ → Coded
+coded_at by op op4 dummies a = record {
   op = if takes_dedicated by a then op4 else op;
   address = a;
   width = if takes_dedicated by a then 4 else legacy_width by;
   dummies = dummies;
-  load = load;
+  load = plain;
 }

@@ -148,7 +148,7 @@ fn with_four<'a>(op: u8, dummies: u8, address: u32) -> Instr<'a>
 
 /// An instruction at an address, by its dedicated opcode or by its legacy one, without data.
 fn at_address<'a>(strategy: Strategy, op: u8, op4: u8, dummies: u8, address: u32) -> Instr<'a>
-    ensures { coded_of result ≡ coded_at strategy op op4 dummies address plain }
+    ensures { coded_of result ≡ coded_at strategy op op4 dummies address }
 {
     if takes_dedicated(strategy, address) {
         return with_four(op4, dummies, address);

@@ -1,8 +1,9 @@
 -- Which opcodes a chip's own instructions have.
-use Rattle.std.specs.Prelude.{ℕ, suc, Bool, true, false, List, [], ◌∷◌, ◌++◌, Option, Some, None}
+use Rattle.std.specs.Prelude.{ℕ, suc, Bool, true, List, [], ◌∷◌, ◌++◌, Option, Some, None}
 use Rattle.std.specs.List.{list_any}
 use Rattle.std.specs.Option.{option_map_or}
 use Rattle.nor_base.specs.declared.meaning.Erase.{Erase}
+use Rattle.nor_base.specs.declared.meaning.QuadRead.{QuadRead}
 use Rattle.nor_base.specs.declared.meaning.Region.{Region}
 use Rattle.nor_base.specs.Parameters.{allows}
 use Rattle.nor_base.specs.Accepted.{fixed_opcodes}
@@ -21,6 +22,15 @@ kind_opcodes slot allowed = []
 abbrev pub live_opcodes : List Region → ℕ → List (Option Erase) → List ℕ
 live_opcodes regions k [] = []
 live_opcodes regions k (slot ∷ slots) = kind_opcodes slot (is_allowed regions k) ++ live_opcodes regions (suc k) slots
+
+-- the opcode of the quad read; none where there is no quad read
+abbrev pub read_opcodes : Option QuadRead → List ℕ
+read_opcodes None = []
+read_opcodes (Some read) = read.op ∷ []
+
+-- the fixed opcodes, that of the quad read, and those of the live kinds
+abbrev pub own_opcodes : Option QuadRead → List (Option Erase) → List Region → List ℕ
+own_opcodes read kinds regions = fixed_opcodes ++ (read_opcodes read ++ live_opcodes regions 1 kinds)
 
 -- the fixed opcodes, and those of the live kinds
 abbrev pub taken_opcodes : List (Option Erase) → List Region → List ℕ

@@ -30,22 +30,31 @@ abbrev pub free_read : List ℕ → Option QuadRead → Option QuadRead
 free_read taken None = None
 free_read taken (Some read) = if list_any (λ other. read.op == other) taken then None else Some read
 
+-- what the basic table says of the chip as a whole
+pub record Basic : Type 0 where
+  pub size : ℕ
+  pub width : Width
+  pub page : Page
+
+abbrev pub basic : ℕ → Width → Page → Basic
+basic size width page = record { size = size; width = width; page = page }
+
 -- the parameters, once all that can be refused is read
-abbrev pub parameters_by : Tables → Part → ℕ → Width → Page → List (Option Erase) → List Region → Parameters
-parameters_by tables part size width page kinds regions =
+abbrev pub parameters_by : Tables → Part → Basic → List (Option Erase) → List Region → Parameters
+parameters_by tables part chip kinds regions =
     let dword16 = word tables.basic 16 in
     let offered = word_in tables.four_byte 1 in
     let read = free_read (taken_opcodes kinds regions) (quad_read_of (word tables.basic 1) (word tables.basic 3)) in
     record {
-      size = size;
-      page = page.size;
-      open_page = page.open_page;
-      width = width;
+      size = chip.size;
+      page = chip.page.size;
+      open_page = chip.page.open_page;
+      width = chip.width;
       erases = kinds;
       regions = regions;
       -- FF00h DWORD 16 bits 24 and 25: B7h alone, 06h and then B7h; bits 14 and 15: E9h alone, 06h and then E9h
-      enter = switch_of width (is_set dword16 24) (is_set dword16 25);
-      leave = switch_of width (is_set dword16 14) (is_set dword16 15);
+      enter = switch_of chip.width (is_set dword16 24) (is_set dword16 25);
+      leave = switch_of chip.width (is_set dword16 14) (is_set dword16 15);
       quad_read = read;
       -- FF84h DWORD 1 bits 0, 4, 6 and 7: 13h, 6Ch, 12h and 34h
       read4 = is_set offered 0;
@@ -58,9 +67,9 @@ parameters_by tables part size width page kinds regions =
     }
 
 -- the same, where no opcode stands twice
-unfoldable pub completed : Tables → Part → ℕ → Width → Page → List (Option Erase) → List Region → Result Parameters SfdpFault
-completed tables part size width page kinds regions =
-    if are_distinct (taken_opcodes kinds regions) then Ok (parameters_by tables part size width page kinds regions) else Err Opcode
+unfoldable pub completed : Tables → Part → Basic → List (Option Erase) → List Region → Result Parameters SfdpFault
+completed tables part chip kinds regions =
+    if are_distinct (taken_opcodes kinds regions) then Ok (parameters_by tables part chip kinds regions) else Err Opcode
 
 unfoldable pub meaning_of : List ℕ → List ℕ → Part → Result Parameters SfdpFault
 meaning_of bytes config part = do
@@ -70,12 +79,12 @@ meaning_of bytes config part = do
   page ← page_of (dword_count tables.basic) (word tables.basic 1) (word tables.basic 11)
   kinds ← kinds_of page.size (word tables.basic 8) (word tables.basic 9) (word_in tables.four_byte 1) (word_in tables.four_byte 2)
   regions ← regions_of tables.sectors config size
-  completed tables part size width page kinds regions
+  completed tables part (basic size width page) kinds regions
 
 -- the size by DWORD 2 of the basic table that was found, if one was
 abbrev pub density_where_there : Option (List ℕ) → Result ℕ SfdpFault
 density_where_there None = Err NoBasic
-density_where_there (Some basic) = size_of (word basic 2)
+density_where_there (Some table) = size_of (word table 2)
 
 -- of SFDP bytes, whatever else they say
 unfoldable pub density_of : List ℕ → Result ℕ SfdpFault

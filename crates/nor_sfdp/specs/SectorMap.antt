@@ -1,5 +1,5 @@
 -- The sector map FF81h (JESD216B, 6.5): detection commands first, of two DWORDs each, then maps.
-use Rattle.std.specs.Prelude.{ℕ, zero, suc, ◌+◌, ◌*◌, ◌^◌, ◌==◌, ◌&&◌, ◌||◌, not, nat_lt, nat_le, Bool, Option, Some, None, List, [], ◌∷◌, length, map, sum_by, Result, Ok, Err, if◌then◌else◌}
+use Rattle.std.specs.Prelude.{ℕ, zero, suc, ◌+◌, ◌*◌, ◌==◌, ◌&&◌, ◌||◌, not, nat_lt, nat_le, Bool, Option, Some, None, List, [], ◌∷◌, length, map, sum_by, Result, Ok, Err, if◌then◌else◌}
 use Rattle.std.specs.List.{find, list_all, range_with_len}
 use Rattle.std.specs.Option.{option_or, option_map_or}
 use Rattle.std.specs.Char.{is_digit}

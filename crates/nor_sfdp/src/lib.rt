@@ -15,5 +15,6 @@ mod tables;
 
 pub use fault::SfdpFault;
 pub use fields::{bits, is_set};
+pub use opcodes::{are_distinct, own_opcodes};
 pub use reader::{density, read};
 pub use tables::{SfdpTable, table};

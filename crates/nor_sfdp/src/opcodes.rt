@@ -3,22 +3,30 @@
 ghost use Rattle.std.specs.Prelude.{◌≡◌, ◌+◌, ◌<◌, ◌≤◌, ◌++◌, ◌==◌};
 ghost use Rattle.std.specs.List.{list_any};
 ghost use Rattle.nor_base.specs.Accepted.{are_distinct, fixed_opcodes};
-ghost use Rattle.nor_sfdp.specs.Opcodes.{is_allowed, kind_opcodes, taken_opcodes};
+ghost use Rattle.nor_sfdp.specs.Opcodes.{is_allowed, kind_opcodes, own_opcodes};
 ghost use Rattle.arrayvec.specs.ArrayVec.{array_vec_len};
 
 use arrayvec::ArrayVec;
-use nor_base::{Erase, Region};
+use nor_base::{Erase, QuadRead, Region};
 
 /// The opcodes that mean the same on every chip.
 const FIXED: [u8; 12] = [
     0x06, 0x04, 0x05, 0xB7, 0xE9, 0x02, 0x12, 0x32, 0x34, 0x03, 0x13, 0x6C,
 ];
 
-/// The fixed opcodes, and those of the erase kinds that some region allows.
-pub(crate) fn taken_opcodes(kinds: &[Option<Erase>; 4], regions: &[Region]) -> ArrayVec<u8, 20>
-    ensures { result.items ≡ taken_opcodes kinds.now regions.now }
+/// The fixed opcodes, that of the quad read, and those of the erase kinds that some region allows.
+/// It takes no memory.
+pub fn own_opcodes(
+    read: Option<QuadRead>,
+    kinds: &[Option<Erase>; 4],
+    regions: &[Region],
+) -> ArrayVec<u8, 21>
+    ensures { result.items ≡ own_opcodes read kinds.now regions.now }
 {
     let mut opcodes = fixed_opcodes();
+    if let Some(read) = read {
+        opcodes.push(read.op);
+    }
     push_live(&mut opcodes, kinds[0], is_allowed(regions, 1));
     push_live(&mut opcodes, kinds[1], is_allowed(regions, 2));
     push_live(&mut opcodes, kinds[2], is_allowed(regions, 3));
@@ -27,7 +35,7 @@ pub(crate) fn taken_opcodes(kinds: &[Option<Erase>; 4], regions: &[Region]) -> A
 }
 
 /// The fixed opcodes.
-fn fixed_opcodes() -> ArrayVec<u8, 20>
+fn fixed_opcodes() -> ArrayVec<u8, 21>
     ensures { result.items ≡ fixed_opcodes }
 {
     let mut opcodes = ArrayVec::new();
@@ -45,8 +53,8 @@ fn is_allowed(regions: &[Region], kind: u8) -> bool
 }
 
 /// Appends the opcodes of a kind, where it is allowed.
-fn push_live(opcodes: &mut ArrayVec<u8, 20>, slot: Option<Erase>, allowed: bool)
-    requires { array_vec_len opcodes.old + 2 ≤ 20 }
+fn push_live(opcodes: &mut ArrayVec<u8, 21>, slot: Option<Erase>, allowed: bool)
+    requires { array_vec_len opcodes.old + 2 ≤ 21 }
     ensures items { opcodes.new.items ≡ opcodes.old.items ++ kind_opcodes slot allowed }
     ensures few { array_vec_len opcodes.new ≤ array_vec_len opcodes.old + 2 }
 {
@@ -62,8 +70,8 @@ fn push_live(opcodes: &mut ArrayVec<u8, 20>, slot: Option<Erase>, allowed: bool)
     }
 }
 
-/// Whether no opcode stands twice.
-pub(crate) fn are_distinct(opcodes: &[u8]) -> bool
+/// Whether no opcode stands twice. It takes no memory.
+pub fn are_distinct(opcodes: &[u8]) -> bool
     ensures { result ≡ are_distinct opcodes.now }
 {
     let mut rest = opcodes;

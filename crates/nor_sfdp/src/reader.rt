@@ -7,13 +7,14 @@ ghost use Rattle.nor_base.specs.Accepted.{IsPowerOfTwo, IsRegion};
 ghost use Rattle.nor_sfdp.specs.Kinds.{IsKind};
 ghost use Rattle.nor_sfdp.specs.SectorMap.{bytes_of};
 ghost use Rattle.nor_sfdp.specs.Reading.{completed, density_of, free_read, is_generic, meaning_of};
+ghost use Rattle.nor_sfdp.specs.Reading.{basic};
 
 use crate::basic::{Page, page_in, quad_read, size, switch, width};
 use crate::fault::SfdpFault;
 use crate::fields::is_set;
 use crate::kinds::kinds;
 use crate::map::regions;
-use crate::opcodes::{are_distinct, has_opcode, taken_opcodes};
+use crate::opcodes::{are_distinct, has_opcode, own_opcodes};
 use crate::tables::{Tables, table, tables_in, word_in};
 use arrayvec::ArrayVec;
 use nor_base::{Erase, Meaning, Part, QuadRead, Region, Width};
@@ -73,9 +74,9 @@ fn completed(
     requires regions { (length regions.items ≤ 256)
         × AllByRecursion IsRegion regions.items
         × (bytes_of regions.items ≡ size) }
-    ensures { result ≡ completed tables.now part size width page kinds regions.items }
+    ensures { result ≡ completed tables.now part (basic size width page) kinds regions.items }
 {
-    let taken = taken_opcodes(&kinds, &regions);
+    let taken = own_opcodes(None, &kinds, &regions);
     if !are_distinct(&taken) {
         return Err(SfdpFault::Opcode);
     }

@@ -9,7 +9,7 @@ use Rattle.nor_base.specs.Parameters.{Parameters}
 use Rattle.nor_base.specs.Instructions.{Row, offered_opcodes, own_rows, erase_rows}
 use Rattle.nor_sfdp.specs.Opcodes.{is_allowed, kind_opcodes, live_opcodes}
 use Rattle.nor_sfdp.proofs.AcceptedLemmas.{rows_of, kind_rows, offered-append}
-use Rattle.nor_sheet.specs.Opcodes.{read_opcodes}
+use Rattle.nor_sfdp.specs.Opcodes.{read_opcodes}
 
 joined : (xs ys : List Row) (a b : List ℕ) → offered_opcodes xs ≡ a → offered_opcodes ys ≡ b → offered_opcodes (xs ++ ys) ≡ a ++ b
 joined xs ys a b first rest = offered-append xs ys ∙ ap (λ (l : List ℕ). l ++ offered_opcodes ys) first ∙ ap (λ (l : List ℕ). a ++ l) rest

@@ -5,7 +5,6 @@ pub mod Said
 pub mod Line
 pub mod Sheet
 pub mod View
-pub mod Opcodes
 pub mod Meaning
 pub mod Text
 pub mod Laws

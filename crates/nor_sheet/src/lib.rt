@@ -9,7 +9,6 @@ mod laws;
 mod line;
 mod meaning;
 mod number;
-mod opcodes;
 mod reader;
 mod said;
 mod sheet;

@@ -5,16 +5,16 @@ ghost use Rattle.std.specs.List.{list_any};
 ghost use Rattle.nor_base.specs.Instructions.{is_there};
 ghost use Rattle.nor_base.specs.Accepted.{are_distinct, fixed_opcodes};
 ghost use Rattle.nor_sfdp.specs.Opcodes.{live_opcodes};
-ghost use Rattle.nor_sheet.specs.Opcodes.{read_opcodes};
+ghost use Rattle.nor_sfdp.specs.Opcodes.{read_opcodes};
 ghost use Rattle.nor_sheet.specs.Meaning.{is_below, is_both, lack_of, meaning_of, offered};
 ghost use Rattle.nor_sheet.specs.Meaning.{parameters_by, quad_read_of, switch_of};
 ghost use Rattle.nor_sheet.specs.Sheet.{AreSaid};
 
 use crate::fault::Lack;
-use crate::opcodes::{are_distinct, own_opcodes};
 use crate::said::{Dedicated, Page};
 use crate::sheet::Sheet;
 use nor_base::{Erase, Meaning, QuadRead, Region, Switch, Width};
+use nor_sfdp::{are_distinct, own_opcodes};
 
 /// What a sheet means, or the first thing that it lacks.
 pub(crate) fn meaning_of(sheet: Sheet) -> Result<Meaning, Lack>

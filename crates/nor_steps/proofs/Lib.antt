@@ -4,5 +4,5 @@ pub mod OpLemmas
 pub mod TallyLemmas
 mod UnitLemmas
 pub mod Placed
-pub mod WindowLemmas
 pub mod TextLemmas
+pub mod WindowLemmas

@@ -23,7 +23,6 @@ use Rattle.nor_plan_laws.proofs.Erased.Erasing.{erased_for}
 use Rattle.nor_plan_laws.proofs.Units.Ranges.{aligned_le}
 use Rattle.nor_plan_laws.proofs.Units.Wider.{some_page}
 use Rattle.nor_plan_laws.specs.Least.{ErasesBlocks}
-use Rattle.nor_steps.specs.Stretch.{stretch}
 use Rattle.nor_steps.specs.Units.{unit_size, work_unit}
 use Rattle.nor_base.proofs.ListLaws.{all_append}
 

@@ -14,7 +14,7 @@ use Rattle.nor_steps.specs.declared.tally.Tally.{Tally}
 use Rattle.nor_steps.specs.declared.fault.StepsFault.{StepsFault}
 use Rattle.nor_steps.specs.Tally.{erases_of, erased_of, programs_of}
 use Rattle.nor_steps.specs.Units.{run_op, run_ops, page_read, page_reads, block_reads, run_reads, block_ops, page_ops, Wrote, Writes}
-use Rattle.nor_steps.specs.Writing.{Writing, Begins, next_lines, written_on}
+use Rattle.nor_steps.specs.Writing.{Writing, Begins, next_lines, written_on, output}
 use Rattle.nor_steps.proofs.OpLemmas.{Done, done_one, more_lines, more_on, begun_more, more_begun}
 
 programs_run : (start : ℕ) (want : List ℕ) (runs : List Run) → (sum_by erases_of (run_ops false start want runs) ≡ 0) × (sum_by erased_of (run_ops false start want runs) ≡ 0)
@@ -53,7 +53,7 @@ pub block_wrote : (w v u t : Writing) (x y z end : Option (List ℕ)) (b : Block
     → Appends y z (next_lines v (run_ops false b.start want runs)) → u ≡ written_on v (run_ops false b.start want runs) → j ≡ length (next v.streaming (run_ops false b.start want runs))
     → Appends z end (next_lines u (block_reads u b.start want)) → t ≡ written_on u (block_reads u b.start want) → k ≡ length (next u.streaming (block_reads u b.start want))
     → i ≤ 6 → j ≤ 6 * length runs → k ≤ 6 * length want → length runs ≤ 2 ^ 24 → length want ≤ 2 ^ 24 → b.size ≡ length want
-    → Wrote w t x end 1 (block_ops w b runs want) (record { steps = i + j + k; erases = 1; erased = b.size; programs = length runs })
+    → Wrote (output w x) (output t end) 1 (block_ops w b runs want) (record { steps = i + j + k; erases = 1; erased = b.size; programs = length runs })
 block_wrote w v u t x y z end b runs want i j k first put state count put' state' count' few few' few'' some some' size =
     let programs = run_ops false b.start want runs in
     let reads = block_reads w b.start want in
@@ -86,7 +86,7 @@ block_wrote w v u t x y z end b runs want i j k first put state count put' state
 pub page_wrote : (w v u : Writing) (x y z : Option (List ℕ)) (start : ℕ) (runs : List Run) (want : List ℕ) (j k : ℕ) → Done w v x y (run_ops false start want runs) j
     → Appends y z (next_lines v (run_reads v start want runs)) → u ≡ written_on v (run_reads v start want runs) → k ≡ length (next v.streaming (run_reads v start want runs))
     → j ≤ 6 * length runs → k ≤ 6 * length runs → length runs ≤ 2 ^ 24
-    → Wrote w u x z 1 (page_ops w start runs want) (record { steps = j + k; erases = 0; erased = 0; programs = length runs })
+    → Wrote (output w x) (output u z) 1 (page_ops w start runs want) (record { steps = j + k; erases = 0; erased = 0; programs = length runs })
 page_wrote w v u x y z start runs want j k first put state count few few' some =
     let programs = run_ops false start want runs in
     let reads = run_reads w start want runs in
@@ -106,14 +106,14 @@ page_wrote w v u x y z start runs want j k first put state count few few' some =
     }
 
 pub writes_err : (w v : Writing) (a b : Option (List ℕ)) (units : ℕ) (ops : List Op) (r : Result Tally StepsFault) → IsErr r → Begins a b (next_lines w ops)
-    → Writes w v a b units ops r
+    → Writes (output w a) (output v b) units ops r
 writes_err w v a b units ops (Ok x) is p = cc
 writes_err w v a b units ops (Err e) is p = p
 
 -- a fault in the programs of a block, and in its reads
 pub programs_cut : (w v u : Writing) (x y z : Option (List ℕ)) (b : Block) (start : ℕ) (runs : List Run) (want : List ℕ) (r : Result Tally StepsFault) → IsErr r
     → start ≡ b.start → Appends x y (next_lines w (erases b ∷ [])) → v ≡ written_on w (erases b ∷ []) → Begins y z (next_lines v (run_ops false start want runs))
-    → Writes w u x z 1 (block_ops w b runs want) r
+    → Writes (output w x) (output u z) 1 (block_ops w b runs want) r
 programs_cut w v u x y z b start runs want r is same put state cut =
     let programs = run_ops false b.start want runs in
     let cut' : Begins y z (next_lines (written_on w (erases b ∷ [])) programs) =
@@ -123,7 +123,7 @@ programs_cut w v u x y z b start runs want r is same put state cut =
 
 pub reads_cut : (w v u t : Writing) (x y z end : Option (List ℕ)) (b : Block) (start start' : ℕ) (runs : List Run) (want : List ℕ) (r : Result Tally StepsFault) → IsErr r
     → start ≡ b.start → start' ≡ b.start → Appends x y (next_lines w (erases b ∷ [])) → v ≡ written_on w (erases b ∷ []) → Appends y z (next_lines v (run_ops false start want runs))
-    → u ≡ written_on v (run_ops false start want runs) → Begins z end (next_lines u (block_reads u start' want)) → Writes w t x end 1 (block_ops w b runs want) r
+    → u ≡ written_on v (run_ops false start want runs) → Begins z end (next_lines u (block_reads u start' want)) → Writes (output w x) (output t end) 1 (block_ops w b runs want) r
 reads_cut w v u t x y z end b start start' runs want r is same same' put state put' state' cut =
     let programs = run_ops false b.start want runs in
     let here : run_ops false start want runs ≡ programs = ap (λ a. run_ops false a want runs) same in
@@ -138,7 +138,7 @@ reads_cut w v u t x y z end b start start' runs want r is same same' put state p
 -- a fault in the reads of a page
 pub page_cut : (w v u : Writing) (x y z : Option (List ℕ)) (start : ℕ) (runs : List Run) (want : List ℕ) (r : Result Tally StepsFault) → IsErr r
     → Appends x y (next_lines w (run_ops false start want runs)) → v ≡ written_on w (run_ops false start want runs) → Begins y z (next_lines v (run_reads v start want runs))
-    → Writes w u x z 1 (page_ops w start runs want) r
+    → Writes (output w x) (output u z) 1 (page_ops w start runs want) r
 page_cut w v u x y z start runs want r is put state cut =
     let programs = run_ops false start want runs in
     writes_err w u x z 1 (page_ops w start runs want) r is

@@ -14,8 +14,8 @@ use Rattle.nor_pages.specs.declared.run.Run.{Run}
 use Rattle.nor_pages.specs.Runs.{IsUnit, IsSplit, LiesBetween, AreBetween, run_program, unit_start}
 use Rattle.nor_steps.specs.declared.tally.Tally.{Tally}
 use Rattle.nor_steps.specs.declared.fault.StepsFault.{StepsFault}
-use Rattle.nor_steps.specs.Units.{part_of, run_op, run_ops, page_read, page_reads, block_ops, page_ops, AreUnitOps, Writes, WritesUnit}
-use Rattle.nor_steps.specs.Writing.{Writing}
+use Rattle.nor_steps.specs.Units.{part_of, run_op, run_ops, page_read, page_reads, block_ops, page_ops, AreUnitOps, Writes, WritesUnit, unit_bytes}
+use Rattle.nor_steps.specs.Writing.{Writing, output}
 use Rattle.nor_plan_laws.proofs.Units.Ranges.{length-range, range_at}
 
 -- bytes of the chip that lie in a part of it
@@ -90,28 +90,28 @@ page_is w start have want runs between split level target has =
     ∙ ap (λ ops. run_ops false start want runs ++ (if w.verify then ops else [])) reading
 
 writes_unit : (w v : Writing) (a b : Option (List ℕ)) (u : PlanUnit) (have want : List ℕ) (ops : List Op) (r : Result Tally StepsFault) → AreUnitOps w u have want ops
-    → Writes w v a b 1 ops r → WritesUnit w v a b u have want r
+    → Writes (output w a) (output v b) 1 ops r → WritesUnit (output w a) (output v b) (unit_bytes u have want) r
 writes_unit w v a b u have want ops (Ok told) are written = record { ops = ops; are = are; written = written }
 writes_unit w v a b u have want ops (Err why) are written = inl (record { ops = ops; are = are; written = written })
 
 pub block_writes : (w v : Writing) (x y : Option (List ℕ)) (u : PlanUnit) (b : Block) (have want : List ℕ) (runs runs' : List Run) (r : Result Tally StepsFault) → u ≡ unit.Block b
     → runs' ≡ runs → IsUnit w.streaming.meaning u (length want) → AreBetween (unit_start u) (unit_start u + length want) (length want) runs
-    → IsSplit w.streaming.meaning u have want runs → Writes w v x y 1 (block_ops w b runs' want) r → WritesUnit w v x y u have want r
+    → IsSplit w.streaming.meaning u have want runs → Writes (output w x) (output v y) 1 (block_ops w b runs' want) r → WritesUnit (output w x) (output v y) (unit_bytes u have want) r
 block_writes w v x y u b have want runs runs' r is same its between split written =
-    subst (λ (p : PlanUnit). WritesUnit w v x y p have want r) (sym is)
+    subst (λ (p : PlanUnit). WritesUnit (output w x) (output v y) (unit_bytes p have want) r) (sym is)
     (writes_unit w v x y (unit.Block b) have want (block_ops w b runs want) r
     (block_is w b have want runs (subst (λ (p : PlanUnit). IsUnit w.streaming.meaning p (length want)) is its)
     (subst (λ (p : PlanUnit). AreBetween (unit_start p) (unit_start p + length want) (length want) runs) is between)
     (subst (λ (p : PlanUnit). IsSplit w.streaming.meaning p have want runs) is split))
-    (subst (λ rs. Writes w v x y 1 (block_ops w b rs want) r) same written))
+    (subst (λ rs. Writes (output w x) (output v y) 1 (block_ops w b rs want) r) same written))
 
 pub page_writes : (w v : Writing) (x y : Option (List ℕ)) (u : PlanUnit) (start : ℕ) (have want : List ℕ) (runs runs' : List Run) (r : Result Tally StepsFault) → u ≡ unit.Page start
     → runs' ≡ runs → AreBetween (unit_start u) (unit_start u + length want) (length want) runs
-    → IsSplit w.streaming.meaning u have want runs → Writes w v x y 1 (page_ops w start runs' want) r → WritesUnit w v x y u have want r
+    → IsSplit w.streaming.meaning u have want runs → Writes (output w x) (output v y) 1 (page_ops w start runs' want) r → WritesUnit (output w x) (output v y) (unit_bytes u have want) r
 page_writes w v x y u start have want runs runs' r is same between split written =
-    subst (λ (p : PlanUnit). WritesUnit w v x y p have want r) (sym is)
+    subst (λ (p : PlanUnit). WritesUnit (output w x) (output v y) (unit_bytes p have want) r) (sym is)
     (writes_unit w v x y (unit.Page start) have want (page_ops w start runs want) r
     (page_is w start have want runs
     (subst (λ (p : PlanUnit). AreBetween (unit_start p) (unit_start p + length want) (length want) runs) is between)
     (subst (λ (p : PlanUnit). IsSplit w.streaming.meaning p have want runs) is split))
-    (subst (λ rs. Writes w v x y 1 (page_ops w start rs want) r) same written))
+    (subst (λ rs. Writes (output w x) (output v y) 1 (page_ops w start rs want) r) same written))

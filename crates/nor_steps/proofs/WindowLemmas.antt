@@ -22,17 +22,19 @@ use Rattle.nor_pages.specs.Runs.{IsUnit, unit_start}
 use Rattle.nor_plan_laws.proofs.Units.Ranges.{length-range, range_at}
 use Rattle.nor_plan_laws.proofs.Units.Wider.{some_page}
 use Rattle.nor_plan_laws.specs.Least.{ErasesBlocks}
-use Rattle.nor_steps.specs.Stretch.{stretch}
+use Rattle.nor_steps.specs.Stretch.{stretch, extent}
 use Rattle.nor_steps.specs.declared.tally.Tally.{Tally}
 use Rattle.nor_steps.specs.declared.fault.StepsFault.{StepsFault}
 use Rattle.nor_steps.specs.declared.fault.StepsFault.TheVariants as fault
 use Rattle.nor_steps.specs.Faults.{lifted_plan, IsOfWriting}
 use Rattle.nor_steps.specs.Tally.{erases_of, erased_of, programs_of, tally_of, sum_of, nothing_told, IsFew}
-use Rattle.nor_steps.specs.Units.{unit_size, HasBytes, AreUnitOps, WritesUnit}
-use Rattle.nor_steps.specs.Work.{stretch_units, IsPlanned, WroteStretch, HasBegun, StopsStretch}
-use Rattle.nor_steps.specs.Writing.{Writing, Begins, next_lines, written_on}
+use Rattle.nor_steps.specs.Units.{unit_size, HasBytes, AreUnitOps, WritesUnit, unit_bytes}
+use Rattle.nor_steps.specs.Texts.{HasText, StopsText, WroteText, unit_steps}
+use Rattle.nor_steps.specs.Work.{stretch_units, IsWindowPlan, IsWork}
+use Rattle.nor_steps.specs.Writing.{Writing, Begins, next_lines, written_on, output}
 use Rattle.nor_steps.proofs.OpLemmas.{take_one, all_one, all_at, lines_join, more_lines, more_steps, more_on, done_none}
 use Rattle.nor_steps.proofs.TallyLemmas.{same_tally}
+use Rattle.nor_steps.proofs.TextLemmas.{units_steps, work_text}
 use Rattle.nor_steps.proofs.Placed.{LiesIn, IsLevel, IsPlaced, level_of, length-level, units_placed, few_units, window_stretch}
 
 -- some content of the chip that has these bytes there
@@ -127,7 +129,7 @@ has_bytes m at count content level target have want (unit.Page start) lies level
 pub record IsSofar (w v : Writing) (a b : Option (List ℕ)) (at : ℕ) (have want : List ℕ) (k : ℕ) (told : Tally) : Type 0 where
   pub ops : List Op
   pub are : (content target : List ℕ) → HasPart content have at → HasPart target want at
-      → flat_map (unit_ops w.streaming.meaning w.verify target) (take k (stretch_units w.streaming.meaning w.streaming.by at (length have) content target)) ≡ ops
+      → flat_map (unit_ops w.streaming.meaning w.verify target) (take k (stretch_units w.streaming.meaning w.streaming.by (extent at (length have) content target))) ≡ ops
   pub put : Appends a b (next_lines w ops)
   pub state : v ≡ written_on w ops
   pub its_tally : told ≡ tally_of w.streaming ops
@@ -147,15 +149,15 @@ sofar_none w a at have want =
 
 -- the operations of a unit of the plan
 ops_at : (w : Writing) (at : ℕ) (have want : List ℕ) (units : List PlanUnit) (k : ℕ) (d : PlanUnit) (e : WorkUnit) (content target : List ℕ) (ops : List Op)
-    → IsPlanned w at have want units → k < length units → HasPart content have at → HasPart target want at
+    → IsWindowPlan w.streaming.meaning w.streaming.by (stretch at have want) units → k < length units → HasPart content have at → HasPart target want at
     → AreUnitOps w (get_or units k d) (slice_range have (unit_start (get_or units k d) - at) (unit_start (get_or units k d) - at + unit_size w.streaming.meaning.page (get_or units k d)))
     (slice_range want (unit_start (get_or units k d) - at) (unit_start (get_or units k d) - at + unit_size w.streaming.meaning.page (get_or units k d))) ops
-    → (k < length (stretch_units w.streaming.meaning w.streaming.by at (length have) content target))
-    × (unit_ops w.streaming.meaning w.verify target (get_or (stretch_units w.streaming.meaning w.streaming.by at (length have) content target) k e) ≡ ops)
+    → (k < length (stretch_units w.streaming.meaning w.streaming.by (extent at (length have) content target)))
+    × (unit_ops w.streaming.meaning w.verify target (get_or (stretch_units w.streaming.meaning w.streaming.by (extent at (length have) content target)) k e) ≡ ops)
 ops_at w at have want units k d e content target ops p inside have_part want_part are =
     let m = w.streaming.meaning in
     let by = w.streaming.by in
-    let us = stretch_units m by at (length have) content target in
+    let us = stretch_units m by (extent at (length have) content target) in
     let is = p.plan content target have_part want_part in
     let count : length units ≡ length us = ap length is.units ∙ length-map us plan_unit in
     let there : k < length us = omega (arith, count, inside) in
@@ -186,9 +188,9 @@ few_sum k n t u first second is = record {
 
 -- one unit more
 sofar_next : (w v u : Writing) (a b c : Option (List ℕ)) (at : ℕ) (have want : List ℕ) (units : List PlanUnit) (k : ℕ) (d : PlanUnit) (low high : ℕ) (told one both : Tally)
-    → IsPlanned w at have want units → IsSofar w v a b at have want k told → k < length units → low ≡ unit_start (get_or units k d) - at
+    → IsWindowPlan w.streaming.meaning w.streaming.by (stretch at have want) units → IsSofar w v a b at have want k told → k < length units → low ≡ unit_start (get_or units k d) - at
     → high ≡ unit_start (get_or units k d) - at + unit_size w.streaming.meaning.page (get_or units k d)
-    → WritesUnit v u b c (get_or units k d) (slice_range have low high) (slice_range want low high) (Ok one) → both ≡ sum_of told one → IsSofar w u a c at have want (k + 1) both
+    → WritesUnit (output v b) (output u c) (unit_bytes (get_or units k d) (slice_range have low high) (slice_range want low high)) (Ok one) → both ≡ sum_of told one → IsSofar w u a c at have want (k + 1) both
 sofar_next w v u a b c at have want units k d low high told one both p s inside low_is high_is wrote sum =
     let x = get_or units k d in
     let m = w.streaming.meaning in
@@ -200,7 +202,7 @@ sofar_next w v u a b c at have want units k d low high told one both p s inside 
     record {
       ops = s.ops ++ wrote.ops;
       are = λ content target have_part want_part.
-          let us = stretch_units m w.streaming.by at (length have) content target in
+          let us = stretch_units m w.streaming.by (extent at (length have) content target) in
           let here = ops_at w at have want units k d some_unit content target wrote.ops p inside have_part want_part are in
           let f = unit_ops m w.verify target in
           let next : k + 1 ≡ suc k = omega arith in
@@ -214,17 +216,17 @@ sofar_next w v u a b c at have want units k d low high told one both p s inside 
 
 -- a fault in a unit
 begun_in : (w v : Writing) (a b c : Option (List ℕ)) (at : ℕ) (have want : List ℕ) (units : List PlanUnit) (k : ℕ) (d : PlanUnit) (told : Tally) (ops : List Op)
-    → IsPlanned w at have want units → IsSofar w v a b at have want k told → k < length units
+    → IsWindowPlan w.streaming.meaning w.streaming.by (stretch at have want) units → IsSofar w v a b at have want k told → k < length units
     → AreUnitOps w (get_or units k d) (slice_range have (unit_start (get_or units k d) - at) (unit_start (get_or units k d) - at + unit_size w.streaming.meaning.page (get_or units k d)))
     (slice_range want (unit_start (get_or units k d) - at) (unit_start (get_or units k d) - at + unit_size w.streaming.meaning.page (get_or units k d))) ops
-    → Begins b c (next_lines v ops) → HasBegun w a c (stretch at have want)
+    → Begins b c (next_lines v ops) → HasText unit_steps w a c (stretch at have want)
 begun_in w v a b c at have want units k d told ops p s inside are cut =
     let m = w.streaming.meaning in
     let before = next_lines w s.ops in
     record {
       front = before ++ cut.front;
       begun = λ content target have_part want_part.
-          let us = stretch_units m w.streaming.by at (length have) content target in
+          let us = stretch_units m w.streaming.by (extent at (length have) content target) in
           let f = unit_ops m w.verify target in
           let here = ops_at w at have want units k d some_unit content target ops p inside have_part want_part are in
           let later = flat_map f (drop (suc k) us) in
@@ -237,7 +239,7 @@ begun_in w v a b c at have want units k d told ops p s inside are cut =
           record {
             rest = cut.rest ++ after;
             whole =
-                ap (next_lines w) parts ∙ lines_join w s.ops (ops ++ later) ∙ ap (λ text. before ++ text) (lines_join (written_on w s.ops) ops later)
+                units_steps w content target us ∙ ap (next_lines w) parts ∙ lines_join w s.ops (ops ++ later) ∙ ap (λ text. before ++ text) (lines_join (written_on w s.ops) ops later)
                 ∙ ap (λ (t : Writing). before ++ (next_lines t ops ++ after)) (sym s.state)
                 ∙ ap (λ text. before ++ (text ++ after)) cut.whole ∙ ap (λ text. before ++ text) (append_assoc cut.front cut.rest after)
                 ∙ sym (append_assoc before cut.front (cut.rest ++ after));
@@ -247,35 +249,35 @@ begun_in w v a b c at have want units k d told ops p s inside are cut =
     }
 
 begun_before : (w v : Writing) (a b c : Option (List ℕ)) (at : ℕ) (have want : List ℕ) (units : List PlanUnit) (k : ℕ) (told : Tally)
-    → IsPlanned w at have want units → IsSofar w v a b at have want k told → Appends b c [] → HasBegun w a c (stretch at have want)
+    → IsWindowPlan w.streaming.meaning w.streaming.by (stretch at have want) units → IsSofar w v a b at have want k told → Appends b c [] → HasText unit_steps w a c (stretch at have want)
 begun_before w v a b c at have want units k told p s none =
     let m = w.streaming.meaning in
     let before = next_lines w s.ops in
     record {
       front = before ++ [];
       begun = λ content target have_part want_part.
-          let us = stretch_units m w.streaming.by at (length have) content target in
+          let us = stretch_units m w.streaming.by (extent at (length have) content target) in
           let f = unit_ops m w.verify target in
           let later = flat_map f (drop k us) in
           let parts : flat_map f us ≡ s.ops ++ later =
           ap (flat_map f) (sym (take-append-drop k us)) ∙ flat_map-append f (take k us) (drop k us) ∙ ap (λ xs. xs ++ later) (s.are content target have_part want_part) in
           record {
             rest = next_lines (written_on w s.ops) later;
-            whole = ap (next_lines w) parts ∙ lines_join w s.ops later ∙ ap (λ text. text ++ next_lines (written_on w s.ops) later) (sym (append-nil before));
+            whole = units_steps w content target us ∙ ap (next_lines w) parts ∙ lines_join w s.ops later ∙ ap (λ text. text ++ next_lines (written_on w s.ops) later) (sym (append-nil before));
             sound = (p.plan content target have_part want_part).sound;
           };
       put = Appends-append a b c before [] s.put none;
     }
 
-stops_by : (w : Writing) (a c : Option (List ℕ)) (at : ℕ) (have want : List ℕ) (why : StepsFault) → IsOfWriting why → HasBegun w a c (stretch at have want) → StopsStretch w a c (stretch at have want) why
+stops_by : (w : Writing) (a c : Option (List ℕ)) (at : ℕ) (have want : List ℕ) (why : StepsFault) → IsOfWriting why → HasText unit_steps w a c (stretch at have want) → StopsText unit_steps (output w a) c (stretch at have want) why
 stops_by w a c at have want (fault.Plan f) is begun = absurd is
 stops_by w a c at have want fault.Write is begun = begun
 stops_by w a c at have want fault.Memory is begun = inl begun
 
 sofar_cut : (w v u : Writing) (a b c : Option (List ℕ)) (at : ℕ) (have want : List ℕ) (units : List PlanUnit) (k : ℕ) (d : PlanUnit) (low high : ℕ) (told : Tally) (why : StepsFault)
-    → IsPlanned w at have want units → IsSofar w v a b at have want k told → k < length units → low ≡ unit_start (get_or units k d) - at
+    → IsWindowPlan w.streaming.meaning w.streaming.by (stretch at have want) units → IsSofar w v a b at have want k told → k < length units → low ≡ unit_start (get_or units k d) - at
     → high ≡ unit_start (get_or units k d) - at + unit_size w.streaming.meaning.page (get_or units k d) → IsOfWriting why
-    → WritesUnit v u b c (get_or units k d) (slice_range have low high) (slice_range want low high) (Err why) → StopsStretch w a c (stretch at have want) why
+    → WritesUnit (output v b) (output u c) (unit_bytes (get_or units k d) (slice_range have low high) (slice_range want low high)) (Err why) → StopsText unit_steps (output w a) c (stretch at have want) why
 sofar_cut w v u a b c at have want units k d low high told why p s inside low_is high_is is (inl wrote) =
     let x = get_or units k d in
     let m = w.streaming.meaning in
@@ -289,24 +291,23 @@ sofar_cut w v u a b c at have want units k d low high told why p s inside low_is
 
 -- all units are written
 pub sofar_all : (w v : Writing) (a b : Option (List ℕ)) (at : ℕ) (have want : List ℕ) (units : List PlanUnit) (k : ℕ) (told : Tally) → 0 < w.streaming.meaning.page
-    → IsPlanned w at have want units → IsSofar w v a b at have want k told → length units ≤ k → k ≤ length units → WroteStretch w v a b (stretch at have want) told
+    → IsWindowPlan w.streaming.meaning w.streaming.by (stretch at have want) units → IsSofar w v a b at have want k told → length units ≤ k → k ≤ length units → WroteText unit_steps (output w a) (output v b) (stretch at have want) told
 sofar_all w v a b at have want units k told some p s past upto =
     let m = w.streaming.meaning in
     let count = few_planned m w.streaming.by at have want units some p.plan in
+    let work : IsWork w (stretch at have want) s.ops = λ content target have_part want_part.
+    let us = stretch_units m w.streaming.by (extent at (length have) content target) in
+    let is = p.plan content target have_part want_part in
+    let long : length units ≡ length us = ap length is.units ∙ length-map us plan_unit in
     record {
-      ops = s.ops;
-      work = λ content target have_part want_part.
-          let us = stretch_units m w.streaming.by at (length have) content target in
-          let is = p.plan content target have_part want_part in
-          let long : length units ≡ length us = ap length is.units ∙ length-map us plan_unit in
-          record {
-            are = ap (flat_map (unit_ops m w.verify target)) (sym (take_all k us (omega (arith, long, past)))) ∙ s.are content target have_part want_part;
-            sound = is.sound;
-          };
+      are = ap (flat_map (unit_ops m w.verify target)) (sym (take_all k us (omega (arith, long, past)))) ∙ s.are content target have_part want_part;
+      sound = is.sound;
+    } in
+    record {
+      steps = record { ops = s.ops; work = work; state = s.state; its_tally = s.its_tally; few = wider k (length have) told (omega (arith, count, upto)) s.few };
+      these = next_lines w s.ops;
+      is = work_text w at have want s.ops work;
       put = s.put;
-      state = s.state;
-      its_tally = s.its_tally;
-      few = wider k (length have) told (omega (arith, count, upto)) s.few;
     }
   where
     wider : (i j : ℕ) (t : Tally) → i ≤ j → IsFew i t → IsFew j t
@@ -319,7 +320,7 @@ sofar_all w v a b at have want units k told some p s past upto =
 
 -- no plan
 pub no_plan : (w : Writing) (a : Option (List ℕ)) (at : ℕ) (have want : List ℕ) (why : PlanFault) → Refuses w.streaming.meaning w.streaming.by at have want why
-    → StopsStretch w a a (stretch at have want) (lifted_plan why)
+    → StopsText unit_steps (output w a) a (stretch at have want) (lifted_plan why)
 no_plan w a at have want plan.Memory is = inr (Appends-none a)
 no_plan w a at have want (plan.NoErase x) is = (is, Appends-none a)
 no_plan w a at have want (plan.Unreachable x) is = (is, Appends-none a)
@@ -332,7 +333,7 @@ pub record LiesHere (m : Parameters) (at count page : ℕ) (u : PlanUnit) : Type
   pub few : unit_size page u ≤ 2 ^ 24
   pub fits : at + count ≤ 2 ^ 28
 
-pub lies_here : (w : Writing) (at : ℕ) (have want : List ℕ) (units : List PlanUnit) (k : ℕ) {page : ℕ} (u : PlanUnit) → page ≡ w.streaming.meaning.page → IsPlanned w at have want units
+pub lies_here : (w : Writing) (at : ℕ) (have want : List ℕ) (units : List PlanUnit) (k : ℕ) {page : ℕ} (u : PlanUnit) → page ≡ w.streaming.meaning.page → IsWindowPlan w.streaming.meaning w.streaming.by (stretch at have want) units
     → u ≡ get_or units k u → k < length units → LiesHere w.streaming.meaning at (length have) page u
 lies_here w at have want units k u is p there inside =
     let m = w.streaming.meaning in
@@ -351,7 +352,7 @@ unit_length want low high start at size low_is high_is fits =
     omega (arith, long, low_is, high_is)
 
 pub few_sofar : (w v u : Writing) (a b c : Option (List ℕ)) (at : ℕ) (have want : List ℕ) (units : List PlanUnit) (k : ℕ) (p : PlanUnit) (xs ys : List ℕ) (told one : Tally)
-    → IsPlanned w at have want units → IsSofar w v a b at have want k told → k < length units → WritesUnit v u b c p xs ys (Ok one) → IsFew k told × IsFew 1 one × (k < 2 ^ 28)
+    → IsWindowPlan w.streaming.meaning w.streaming.by (stretch at have want) units → IsSofar w v a b at have want k told → k < length units → WritesUnit (output v b) (output u c) (unit_bytes p xs ys) (Ok one) → IsFew k told × IsFew 1 one × (k < 2 ^ 28)
 few_sofar w v u a b c at have want units k p xs ys told one plan s inside wrote =
     let count = few_planned w.streaming.meaning w.streaming.by at have want units (some_page w.streaming.meaning plan.accepted) plan.plan in
     let fits = plan.window.inside in
@@ -359,19 +360,19 @@ few_sofar w v u a b c at have want units k p xs ys told one plan s inside wrote 
 
 -- the same of a unit by its place
 pub cut_here : (w v u : Writing) (a b c : Option (List ℕ)) (at : ℕ) (have want : List ℕ) (units : List PlanUnit) (k : ℕ) (x : PlanUnit) (page low high : ℕ) (told : Tally) (why : StepsFault)
-    → page ≡ w.streaming.meaning.page → IsPlanned w at have want units → IsSofar w v a b at have want k told → x ≡ get_or units k x → k < length units → low ≡ unit_start x - at
-    → high ≡ unit_start x - at + unit_size page x → IsOfWriting why → WritesUnit v u b c x (slice_range have low high) (slice_range want low high) (Err why)
-    → StopsStretch w a c (stretch at have want) why
+    → page ≡ w.streaming.meaning.page → IsWindowPlan w.streaming.meaning w.streaming.by (stretch at have want) units → IsSofar w v a b at have want k told → x ≡ get_or units k x → k < length units → low ≡ unit_start x - at
+    → high ≡ unit_start x - at + unit_size page x → IsOfWriting why → WritesUnit (output v b) (output u c) (unit_bytes x (slice_range have low high) (slice_range want low high)) (Err why)
+    → StopsText unit_steps (output w a) c (stretch at have want) why
 cut_here w v u a b c at have want units k x page low high told why is p s there inside low_is high_is of wrote =
     sofar_cut w v u a b c at have want units k x low high told why p s inside (low_is ∙ ap (λ q. unit_start q - at) there)
     (high_is ∙ ap (λ n. unit_start x - at + unit_size n x) is ∙ ap (λ q. unit_start q - at + unit_size w.streaming.meaning.page q) there) of
-    (subst (λ q. WritesUnit v u b c q (slice_range have low high) (slice_range want low high) (Err why)) there wrote)
+    (subst (λ q. WritesUnit (output v b) (output u c) (unit_bytes q (slice_range have low high) (slice_range want low high)) (Err why)) there wrote)
 
 pub next_here : (w v u : Writing) (a b c : Option (List ℕ)) (at : ℕ) (have want : List ℕ) (units : List PlanUnit) (k : ℕ) (x : PlanUnit) (page low high : ℕ) (told one both : Tally)
-    → page ≡ w.streaming.meaning.page → IsPlanned w at have want units → IsSofar w v a b at have want k told → x ≡ get_or units k x → k < length units → low ≡ unit_start x - at
-    → high ≡ unit_start x - at + unit_size page x → WritesUnit v u b c x (slice_range have low high) (slice_range want low high) (Ok one) → both ≡ sum_of told one
+    → page ≡ w.streaming.meaning.page → IsWindowPlan w.streaming.meaning w.streaming.by (stretch at have want) units → IsSofar w v a b at have want k told → x ≡ get_or units k x → k < length units → low ≡ unit_start x - at
+    → high ≡ unit_start x - at + unit_size page x → WritesUnit (output v b) (output u c) (unit_bytes x (slice_range have low high) (slice_range want low high)) (Ok one) → both ≡ sum_of told one
     → IsSofar w u a c at have want (k + 1) both
 next_here w v u a b c at have want units k x page low high told one both is p s there inside low_is high_is wrote sum =
     sofar_next w v u a b c at have want units k x low high told one both p s inside (low_is ∙ ap (λ q. unit_start q - at) there)
     (high_is ∙ ap (λ n. unit_start x - at + unit_size n x) is ∙ ap (λ q. unit_start q - at + unit_size w.streaming.meaning.page q) there)
-    (subst (λ q. WritesUnit v u b c q (slice_range have low high) (slice_range want low high) (Ok one)) there wrote) sum
+    (subst (λ q. WritesUnit (output v b) (output u c) (unit_bytes q (slice_range have low high) (slice_range want low high)) (Ok one)) there wrote) sum

@@ -1,5 +1,5 @@
 -- The operations of a unit, as they are written (this project's).
-use Rattle.std.specs.Prelude.{◌≡◌, ◌⊎◌, ℕ, Bool, false, true, ◌+◌, ◌-◌, ◌/◌, if◌then◌else◌, List, [], ◌∷◌, ◌++◌, length, map, Option, None, Result, Ok, Err, slice_range}
+use Rattle.std.specs.Prelude.{◌≡◌, ◌⊎◌, ℕ, Bool, false, true, ◌+◌, ◌-◌, ◌/◌, if◌then◌else◌, List, [], ◌∷◌, ◌++◌, length, map, None, Result, Ok, Err, slice_range}
 use Rattle.std.specs.Io.KnownBytes.{Appends}
 use Rattle.nor_base.specs.Blocks.{Block}
 use Rattle.nor_base.specs.Parameters.{Parameters}
@@ -14,7 +14,7 @@ use Rattle.nor_pages.specs.Runs.{IsBlank}
 use Rattle.nor_steps.specs.declared.tally.Tally.{Tally}
 use Rattle.nor_steps.specs.declared.fault.StepsFault.{StepsFault}
 use Rattle.nor_steps.specs.Tally.{tally_of, IsFew}
-use Rattle.nor_steps.specs.Writing.{Writing, Begins, next_lines, written_on}
+use Rattle.nor_steps.specs.Writing.{Writing, Output, Begins, next_lines, written_on}
 
 -- some of the bytes from a start on, which lie at an address
 abbrev pub part_of : ℕ → List ℕ → ℕ → ℕ → Program
@@ -70,24 +70,33 @@ AreUnitOps w u have want ops =
     (level target : List ℕ) → HasBytes u have want level target → unit_ops w.streaming.meaning w.verify target (work_unit w.streaming.meaning level target u) ≡ ops
 
 -- the steps of operations were written, and what is told of them
-pub record Wrote (w v : Writing) (before after : Option (List ℕ)) (units : ℕ) (ops : List Op) (told : Tally) : Type 0 where
-  pub put : Appends before after (next_lines w ops)
-  pub state : v ≡ written_on w ops
-  pub its_tally : told ≡ tally_of w.streaming ops
+pub record Wrote (before after : Output) (units : ℕ) (ops : List Op) (told : Tally) : Type 0 where
+  pub put : Appends before.held after.held (next_lines before.work ops)
+  pub state : after.work ≡ written_on before.work ops
+  pub its_tally : told ≡ tally_of before.work.streaming ops
   pub few : IsFew units told
 
 -- they were, or, at a fault, some of the text from its beginning on
-abbrev pub Writes : Writing → Writing → Option (List ℕ) → Option (List ℕ) → ℕ → List Op → Result Tally StepsFault → Type 0
-Writes w v before after units ops (Ok told) = Wrote w v before after units ops told
-Writes w v before after units ops (Err why) = Begins before after (next_lines w ops)
+abbrev pub Writes : Output → Output → ℕ → List Op → Result Tally StepsFault → Type 0
+Writes before after units ops (Ok told) = Wrote before after units ops told
+Writes before after units ops (Err why) = Begins before.held after.held (next_lines before.work ops)
+
+-- a planned unit, what the chip holds there and what it must hold
+pub record UnitBytes : Type 0 where
+  pub planned : PlanUnit
+  pub have : List ℕ
+  pub want : List ℕ
+
+abbrev pub unit_bytes : PlanUnit → List ℕ → List ℕ → UnitBytes
+unit_bytes planned have want = record { planned = planned; have = have; want = want }
 
 -- so it is of a unit
-pub record WroteUnit (w v : Writing) (before after : Option (List ℕ)) (u : PlanUnit) (have want : List ℕ) (result : Result Tally StepsFault) : Type 0 where
+pub record WroteUnit (before after : Output) (u : UnitBytes) (result : Result Tally StepsFault) : Type 0 where
   pub ops : List Op
-  pub are : AreUnitOps w u have want ops
-  pub written : Writes w v before after 1 ops result
+  pub are : AreUnitOps before.work u.planned u.have u.want ops
+  pub written : Writes before after 1 ops result
 
 -- or, before anything of it was written, a growth was refused
-abbrev pub WritesUnit : Writing → Writing → Option (List ℕ) → Option (List ℕ) → PlanUnit → List ℕ → List ℕ → Result Tally StepsFault → Type 0
-WritesUnit w v before after u have want (Ok told) = WroteUnit w v before after u have want (Ok told)
-WritesUnit w v before after u have want (Err why) = WroteUnit w v before after u have want (Err why) ⊎ Appends before after []
+abbrev pub WritesUnit : Output → Output → UnitBytes → Result Tally StepsFault → Type 0
+WritesUnit before after u (Ok told) = WroteUnit before after u (Ok told)
+WritesUnit before after u (Err why) = WroteUnit before after u (Err why) ⊎ Appends before.held after.held []

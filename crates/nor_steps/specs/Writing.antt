@@ -28,6 +28,14 @@ pub record Writing : Type 0 where
   -- what was written is read
   pub verify : Bool
 
+-- the output of work: how far the work is, and what its writer holds
+pub record Output : Type 0 where
+  pub work : Writing
+  pub held : Option (List ℕ)
+
+abbrev pub output : Writing → Option (List ℕ) → Output
+output work held = record { work = work; held = held }
+
 -- the lines of the steps of instructions
 abbrev pub lines_of : List Instr → List ℕ
 lines_of these = step_lines (steps_of these)

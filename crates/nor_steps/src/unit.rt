@@ -6,8 +6,8 @@ ghost use Rattle.nor_pages.specs.Runs.{IsUnit, LiesBetween, AreBetween};
 ghost use Rattle.nor_select.specs.Streamed.{next};
 ghost use Rattle.nor_steps.specs.Faults.{CountsSteps, IsOfWriting};
 ghost use Rattle.nor_steps.specs.Units.{run_ops, page_reads, block_reads, block_ops, Writes};
-ghost use Rattle.nor_steps.specs.Units.{WritesUnit};
-ghost use Rattle.nor_steps.specs.Writing.{Adds, next_lines, written_on};
+ghost use Rattle.nor_steps.specs.Units.{unit_bytes, WritesUnit};
+ghost use Rattle.nor_steps.specs.Writing.{Adds, next_lines, output, written_on};
 
 use crate::fault::StepsFault;
 use crate::lines::InstrOut;
@@ -33,8 +33,8 @@ impl<'m> StepWriter<'m> {
         requires lengths { length have.now ≡ length want.now }
         requires unit { IsUnit self.old.streaming.meaning unit.now (length want.now) }
         requires few { length want.now ≤ 2 ^ 24 }
-        ensures written { WritesUnit self.old self.new (W.held out.old) (W.held out.new) unit.now
-            have.now want.now result }
+        ensures written { WritesUnit (output self.old (W.held out.old))
+            (output self.new (W.held out.new)) (unit_bytes unit.now have.now want.now) result }
         ensures fails { CountsSteps (W.count out.old) (W.count out.new) result
             × IfErr result IsOfWriting }
     {
@@ -74,8 +74,9 @@ impl<'m> StepWriter<'m> {
         requires block { (block.start + length want.now ≤ 2 ^ 28)
             × (block.size ≡ length want.now)
             × (length want.now ≤ 2 ^ 24) }
-        ensures written { Writes self.old self.new (W.held out.old) (W.held out.new) 1
-            (block_ops self.old block runs.now want.now) result }
+        ensures written { Writes (output self.old (W.held out.old))
+            (output self.new (W.held out.new)) 1 (block_ops self.old block runs.now want.now)
+            result }
         ensures count { CountsSteps (W.count out.old) (W.count out.new) result }
         ensures why { IfErr result IsOfWriting }
     {

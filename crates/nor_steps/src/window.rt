@@ -6,7 +6,9 @@ ghost use Rattle.nor_pages.specs.Runs.{unit_start};
 ghost use Rattle.nor_steps.specs.Stretch.{stretch};
 ghost use Rattle.nor_steps.specs.Faults.{CountsSteps};
 ghost use Rattle.nor_steps.specs.Units.{unit_size};
-ghost use Rattle.nor_steps.specs.Work.{IsPlanned, WroteStretch, StopsStretch};
+ghost use Rattle.nor_steps.specs.Texts.{StopsText, WroteText, unit_steps};
+ghost use Rattle.nor_steps.specs.Work.{IsWindowPlan};
+ghost use Rattle.nor_steps.specs.Writing.{output};
 
 use crate::fault::StepsFault;
 use crate::lines::InstrOut;
@@ -36,10 +38,10 @@ impl<'m> StepWriter<'m> {
         requires window { IsWindow self.old.streaming.meaning self.old.streaming.by at
             (length have.now) }
         ensures written { IfOk result
-            (WroteStretch self.old self.new (W.held out.old) (W.held out.new)
-            (stretch at have.now want.now)) }
+            (WroteText unit_steps (output self.old (W.held out.old))
+            (output self.new (W.held out.new)) (stretch at have.now want.now)) }
         ensures stopped { IfErr result
-            (StopsStretch self.old (W.held out.old) (W.held out.new)
+            (StopsText unit_steps (output self.old (W.held out.old)) (W.held out.new)
             (stretch at have.now want.now)) }
         ensures count { CountsSteps (W.count out.old) (W.count out.new) result }
     {
@@ -60,12 +62,13 @@ impl<'m> StepWriter<'m> {
         want: &[u8],
         out: &mut W,
     ) -> Result<Tally, StepsFault>
-        requires planned { IsPlanned self.old at have.now want.now units.now }
+        requires planned { IsWindowPlan self.old.streaming.meaning self.old.streaming.by
+            (stretch at have.now want.now) units.now }
         ensures written { IfOk result
-            (WroteStretch self.old self.new (W.held out.old) (W.held out.new)
-            (stretch at have.now want.now)) }
+            (WroteText unit_steps (output self.old (W.held out.old))
+            (output self.new (W.held out.new)) (stretch at have.now want.now)) }
         ensures stopped { IfErr result
-            (StopsStretch self.old (W.held out.old) (W.held out.new)
+            (StopsText unit_steps (output self.old (W.held out.old)) (W.held out.new)
             (stretch at have.now want.now)) }
         ensures count { CountsSteps (W.count out.old) (W.count out.new) result }
     {

@@ -6,7 +6,7 @@ ghost use Rattle.nor_geometry.specs.Plan.{IsWindow};
 ghost use Rattle.nor_steps.specs.Stretch.{stretch};
 ghost use Rattle.nor_steps.specs.Faults.{CountsSteps};
 ghost use Rattle.nor_steps.specs.Texts.{WroteText, StopsText, unit_steps};
-ghost use Rattle.nor_steps.specs.Writing.{Writing};
+ghost use Rattle.nor_steps.specs.Writing.{Writing, output};
 
 use crate::fault::StepsFault;
 use crate::tally::Tally;
@@ -42,11 +42,11 @@ pub trait WorkWriter {
             × IsWindow (writing self.old).streaming.meaning
             (writing self.old).streaming.by at (length have.now) }
         ensures written { IfOk result
-            (WroteText (unit_text self.old) (writing self.old) (writing self.new) (W.held out.old)
-            (W.held out.new) (stretch at have.now want.now)) }
+            (WroteText (unit_text self.old) (output (writing self.old) (W.held out.old))
+            (output (writing self.new) (W.held out.new)) (stretch at have.now want.now)) }
         ensures stopped { IfErr result
-            (StopsText (unit_text self.old) (writing self.old) (W.held out.old) (W.held out.new)
-            (stretch at have.now want.now)) }
+            (StopsText (unit_text self.old) (output (writing self.old) (W.held out.old))
+            (W.held out.new) (stretch at have.now want.now)) }
         ensures text { unit_text self.new ≡ unit_text self.old }
         ensures count { CountsSteps (W.count out.old) (W.count out.new) result };
 }

@@ -10,7 +10,7 @@ use Rattle.std.proofs.lemmas.List.Sums.{sum_by-cons}
 use Rattle.nor_base.specs.Target.{is_ignored}
 use Rattle.nor_hex.specs.Image.{Pairs, addresses, byte_at, HasNoneFrom}
 use Rattle.nor_target.specs.Ignored.{ignored_below}
-use Rattle.nor_target.specs.Runs.{HasNoChosen, IsNextChosen, HasNoRun, IsNextRun}
+use Rattle.nor_target.specs.Runs.{HasNoChosen, IsNextChosen, HasNoRun, IsNextRun, overlay}
 
 above : (low : ℕ) (pairs : Pairs) → ((k : ℕ) → k < length pairs → low < get_or (addresses pairs) k 0) → byte_at pairs low ≡ None
 above low [] past = refl
@@ -173,7 +173,7 @@ all_ignored base is_chosen (pair ∷ pairs) =
     omega (arith, is, parted base is_chosen 0 pair pairs, all_ignored base is_chosen pairs)
 
 -- one run more
-pub run_more : (base : ℕ) (image : Pairs) (done end first : ℕ) (run : List ℕ) → IsStrictlyIncreasing (addresses image) → IsNextRun (byte_at image) base 0 done end first run → ignored_below image base (λ _. true) done ≡ length run + ignored_below image base (λ _. true) (first + length run)
+pub run_more : (base : ℕ) (image : Pairs) (done end first : ℕ) (run : List ℕ) → IsStrictlyIncreasing (addresses image) → IsNextRun (overlay (byte_at image) base 0) done end first run → ignored_below image base (λ _. true) done ≡ length run + ignored_below image base (λ _. true) (first + length run)
 run_more base image done end first run rising next =
     let past = next.past in
     let gap = none_more base (λ _. true) done image (first - done) rising (λ k le lt. let none : byte_at image (base + k) ≡ None = from_zero (λ m. byte_at image (base + m) ≡ None) k (next.none_before k le (omega arith)) in rw (none) refl) in
@@ -185,7 +185,7 @@ run_more base image done end first run rising next =
     gap ∙ ap (λ s. ignored_below image base (λ _. true) s) to ∙ bytes
 
 -- no run is left
-pub run_none : (base : ℕ) (image : Pairs) (done end : ℕ) → IsStrictlyIncreasing (addresses image) → HasNoneFrom image (2 ^ 32) → done ≤ end → HasNoRun (byte_at image) base 0 done end → ignored_below image base (λ _. true) done ≡ ignored_below image base (λ _. true) end
+pub run_none : (base : ℕ) (image : Pairs) (done end : ℕ) → IsStrictlyIncreasing (addresses image) → HasNoneFrom image (2 ^ 32) → done ≤ end → HasNoRun (overlay (byte_at image) base 0) done end → ignored_below image base (λ _. true) done ≡ ignored_below image base (λ _. true) end
 run_none base image done end rising past order none =
     let to : done + (end - done) ≡ end = omega arith in
     let nothing : (k : ℕ) → done ≤ k → k < end → byte_at image (base + k) ≡ None = λ k le lt. elim (cases_lt (base + k) (2 ^ 32)) [
@@ -202,7 +202,7 @@ unchosen base is_chosen image done end rising order none =
     ∙ ap (λ s. ignored_below image base is_chosen s) to
 
 -- chosen places, of which the image gives n
-pub part_more : (base : ℕ) (is_chosen : ℕ → Bool) (image : Pairs) (done len begin end n : ℕ) → IsStrictlyIncreasing (addresses image) → IsNextChosen is_chosen 0 done len begin end → n + ignored_below image base (λ _. true) end ≡ ignored_below image base (λ _. true) begin → ignored_below image base is_chosen done ≡ n + ignored_below image base is_chosen end
+pub part_more : (base : ℕ) (is_chosen : ℕ → Bool) (image : Pairs) (done len begin end n : ℕ) → IsStrictlyIncreasing (addresses image) → IsNextChosen is_chosen 0 done len (begin, end) → n + ignored_below image base (λ _. true) end ≡ ignored_below image base (λ _. true) begin → ignored_below image base is_chosen done ≡ n + ignored_below image base is_chosen end
 part_more base is_chosen image done len begin end n rising next given =
     let some = next.some in
     let gap = unchosen base is_chosen image done begin rising next.past (λ k le lt. from_zero (λ m. is_chosen m ≡ false) k (next.none_before k le lt)) in

@@ -2,7 +2,7 @@
 use Rattle.std.proofs.Common.{◌≡◌, ◌⊎◌, inl, inr, ℕ, ◌+◌, ◌<◌, ◌≤◌, leb, Bool, true, false, List, length, get_or, Option, refl, sym, ◌∙◌, ap, arith}
 use Rattle.std.proofs.lemmas.Bool.Decides.{leb_tells}
 use Rattle.nor_base.specs.Target.{target_byte}
-use Rattle.nor_target.specs.Runs.{HasNoChosen, IsNextChosen, IsLaid}
+use Rattle.nor_target.specs.Runs.{HasNoChosen, IsNextChosen, IsLaid, overlay}
 
 -- the bytes below `done` are what f gives, and the others those that were there
 pub record IsFilled (f : ℕ → ℕ → ℕ) (at : ℕ) (have want : List ℕ) (done : ℕ) : Type 0 where
@@ -17,7 +17,7 @@ target_chosen image base is_chosen address old e = rw (e) refl
 pub target_unchosen : (image : ℕ → Option ℕ) (base : ℕ) (is_chosen : ℕ → Bool) (address old : ℕ) → is_chosen address ≡ false → target_byte image base is_chosen address old ≡ old
 target_unchosen image base is_chosen address old e = rw (e) refl
 
-pub filled_more : (image : ℕ → Option ℕ) (base at : ℕ) (is_chosen : ℕ → Bool) (have want new : List ℕ) (done begin end : ℕ) → IsFilled (target_byte image base is_chosen) at have want done → IsNextChosen is_chosen at done (length have) begin end → length new ≡ length want → IsLaid image base at want new begin end → IsFilled (target_byte image base is_chosen) at have new end
+pub filled_more : (image : ℕ → Option ℕ) (base at : ℕ) (is_chosen : ℕ → Bool) (have want new : List ℕ) (done begin end : ℕ) → IsFilled (target_byte image base is_chosen) at have want done → IsNextChosen is_chosen at done (length have) (begin, end) → length new ≡ length want → IsLaid (overlay image base at) want new begin end → IsFilled (target_byte image base is_chosen) at have new end
 filled_more image base at is_chosen have want new done begin end so_far next lengths laid = record {
   within = next.within;
   same_length = lengths ∙ so_far.same_length;

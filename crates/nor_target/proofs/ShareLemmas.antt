@@ -9,7 +9,7 @@ use Rattle.std.specs.List.Sorted.{IsStrictlyIncreasing}
 use Rattle.std.proofs.lemmas.Bool.{cases_lt}
 use Rattle.nor_hex.specs.Image.{Pairs, addresses, byte_at, HasNoneFrom}
 use Rattle.nor_target.specs.Ignored.{ignored_below}
-use Rattle.nor_target.specs.Runs.{HasNoRun, IsNextRun}
+use Rattle.nor_target.specs.Runs.{HasNoRun, IsNextRun, overlay}
 use Rattle.nor_target.specs.Shares.{share, given_between}
 use Rattle.nor_target.specs.declared.shares.Share.{Share}
 use Rattle.nor_target.proofs.CountLemmas.{one_more, from_zero}
@@ -65,7 +65,7 @@ count_given base image start (suc n) rising =
 
 -- what a part has whose first given address is this, and of whose addresses the image gives so many
 pub share_is : (base : ℕ) (image : Pairs) (begin end first count : ℕ) (run : List ℕ) → IsStrictlyIncreasing (addresses image) → begin < end
-    → IsNextRun (byte_at image) base 0 begin end first run
+    → IsNextRun (overlay (byte_at image) base 0) begin end first run
     → count + ignored_below image base (λ _. true) end ≡ ignored_below image base (λ _. true) begin
     → Path (Option Share) (Some (record { count = count; first = first })) (share (given_between (byte_at image) base begin end))
 share_is base image begin end first count run rising some next counted =
@@ -90,7 +90,7 @@ share_is base image begin end first count run rising some next counted =
     made all at others first count is same size = rw (← size, ← same, is) refl
 
 -- a part of which the image gives nothing
-pub share_none : (base : ℕ) (image : Pairs) (begin end : ℕ) → HasNoneFrom image (2 ^ 32) → HasNoRun (byte_at image) base 0 begin end
+pub share_none : (base : ℕ) (image : Pairs) (begin end : ℕ) → HasNoneFrom image (2 ^ 32) → HasNoRun (overlay (byte_at image) base 0) begin end
     → Path (Option Share) None (share (given_between (byte_at image) base begin end))
 share_none base image begin end past none =
     let empty : given_from base image begin (end - begin) ≡ [] = none_given base image begin (end - begin) (λ k le lt. elim (cases_lt (base + k) (2 ^ 32)) [

@@ -1,5 +1,5 @@
 -- What an image gives each chosen region of a chip (this project's).
-use Rattle.std.specs.Prelude.{ℕ, ◌+◌, ◌-◌, Bool, not, min, List, [], ◌∷◌, length, filter, find, filter_map, position, codes, Option, Some, None, is_some}
+use Rattle.std.specs.Prelude.{ℕ, ◌+◌, ◌-◌, not, min, List, [], ◌∷◌, length, filter, find, filter_map, position, codes, Option, Some, None, is_some}
 use Rattle.std.specs.List.{range_with_len}
 use Rattle.std.specs.Str.{bytes_eq}
 use Rattle.nor_layout.specs.Region.{Region}

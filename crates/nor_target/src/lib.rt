@@ -14,6 +14,7 @@ ghost use Rattle.nor_hex.specs.Image.{byte_at, addresses, HasNoneFrom};
 ghost use Rattle.nor_layout.specs.Chosen.{has};
 ghost use Rattle.nor_target.specs.Ignored.{HasNoPlace, ignored_below};
 ghost use Rattle.nor_target.specs.Runs.{HasNoChosen, IsNextChosen, HasNoRun, IsNextRun, IsLaid};
+ghost use Rattle.nor_target.specs.Runs.{overlay};
 
 mod shares;
 
@@ -48,7 +49,7 @@ fn next_chosen(chosen: &Chosen, at: u32, done: usize, len: usize) -> Option<(usi
     requires done { done ≤ len }
     requires inside { at + len ≤ 2 ^ 32 }
     ensures { MatchOption result (HasNoChosen (has chosen.now) at done len)
-        (λ p. IsNextChosen (has chosen.now) at done len p.0 p.1) }
+        (IsNextChosen (has chosen.now) at done len) }
 {
     let address = u32::try_from(u64::from(at) + done as u64).ok()?;
     let (first, last) = chosen.next_run(address)?;
@@ -66,7 +67,7 @@ fn lay(want: &mut [u8], image: &Image, base: u32, at: u32, begin: usize, end: us
     requires order { begin ≤ end }
     requires within { end ≤ length want.old }
     requires inside { at + end ≤ 2 ^ 32 }
-    ensures { IsLaid (byte_at image.now) base at want.old want.new begin end }
+    ensures { IsLaid (overlay (byte_at image.now) base at) want.old want.new begin end }
 {
     let mut done = begin;
     while let Some((first, bytes)) = next_run(image, base, at, done, end) {
@@ -80,8 +81,8 @@ fn lay(want: &mut [u8], image: &Image, base: u32, at: u32, begin: usize, end: us
 fn next_run(image: &Image, base: u32, at: u32, done: usize, len: usize) -> Option<(usize, &[u8])>
     requires done { done ≤ len }
     requires inside { at + len ≤ 2 ^ 32 }
-    ensures { MatchOption result (HasNoRun (byte_at image.now) base at done len)
-        (λ run. IsNextRun (byte_at image.now) base at done len run.0 run.1.now) }
+    ensures { MatchOption result (HasNoRun (overlay (byte_at image.now) base at) done len)
+        (λ run. IsNextRun (overlay (byte_at image.now) base at) done len run.0 run.1.now) }
 {
     let start = u64::from(base) + u64::from(at);
     let from = u32::try_from(start + done as u64).ok()?;

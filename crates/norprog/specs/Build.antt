@@ -1,13 +1,12 @@
 -- What a build promises (this project's).
-use Rattle.std.specs.Prelude.{◌≡◌, ◌≢◌, ℕ, true, false, ◌<◌, ◌≤◌, ⊤, List, [], ◌++◌, Bool, length, take, count_by, sum_by, Option, is_some, ◌⊎◌, Some, if◌then◌else◌}
+use Rattle.std.specs.Prelude.{◌≡◌, ◌≢◌, ℕ, true, false, ◌≤◌, ⊤, List, [], ◌++◌, Bool, length, take, count_by, sum_by, is_some, ◌⊎◌, Some, if◌then◌else◌}
 use Rattle.std.specs.List.{list_any, AllByRecursion}
 use Rattle.std.specs.Option.{option_map_or}
 use Rattle.std.specs.Io.KnownBytes.{Appends}
-use Rattle.nor_base.specs.declared.meaning.Start.{Start}
 use Rattle.nor_base.specs.declared.meaning.Strategy.{Strategy}
 use Rattle.nor_base.specs.declared.step.Step.{Step}
 use Rattle.nor_base.specs.Parameters.{Parameters}
-use Rattle.nor_base.specs.Device.{Ahead, Gives, IsAtEnd}
+use Rattle.nor_base.specs.Device.{Gives}
 use Rattle.nor_base.specs.Array.{are_bytes}
 use Rattle.nor_base.specs.Script.{IsScript}
 use Rattle.nor_base.specs.Target.{is_ignored}
@@ -16,11 +15,9 @@ use Rattle.nor_base.specs.Run.{DoesTask, DoesTaskOnEvery}
 use Rattle.nor_base.specs.Blocks.{Block, Holds, AreDisjoint, LiesIn, IsLegalBlock}
 use Rattle.nor_base.specs.Strategies.{strategy, reaches}
 use Rattle.nor_base.specs.Need.{is_due, is_needed, erased_at}
-use Rattle.nor_base.specs.Units.{WorkUnit}
 use Rattle.nor_base.specs.Events.{Event, events, is_erased_by, times_erased, erases_seen, programs_seen, AreVerified}
-use Rattle.nor_base.specs.Planned.{ArePlanned, planned_units, IsInTheMaking, IsWorkable}
+use Rattle.nor_base.specs.Planned.{planned_units, IsInTheMaking}
 use Rattle.nor_base.specs.Step.{verifies}
-use Rattle.nor_geometry.specs.Plan.{IsFault}
 use Rattle.nor_geometry.specs.Window.{IsWindowSize}
 use Rattle.nor_hex.specs.Image.{Pairs}
 use Rattle.nor_layout.specs.Region.{Region}
@@ -32,19 +29,26 @@ use Rattle.nor_job.specs.Status.{start_of}
 use Rattle.nor_job.specs.Task.{Task}
 use Rattle.nor_base.specs.Wire.{Wire}
 use Rattle.norprog.specs.declared.report.Report.{Report}
+use Rattle.norprog.specs.Update.{Update, asked, CanBeDone, IsDoneBy, WorkCause}
 use Rattle.norprog.specs.Windows.{AreWindows}
 use Rattle.nor_job.specs.Wanted.{wanted}
 
--- the report of the units of the work and of its steps; what of the image is ignored
-abbrev pub report_of : Task → Pairs → List Region → Parameters → List WorkUnit → List Step → Report
-report_of t image regions m us steps = record {
-  strategy = strategy m (start_of t);
-  steps = length steps;
-  erases = count_by (λ u. is_some u.erase) us;
-  erased = sum_by (λ u. option_map_or (λ block. block.size) u.erase 0) us;
-  programs = sum_by (λ u. length u.programs) us;
-  ignored = count_by (λ pair. is_ignored t.base (is_chosen regions t.regions) m.size pair.0) image;
-}
+-- how many addresses of the image are ignored
+abbrev pub ignored_of : Task → Pairs → List Region → Parameters → ℕ
+ignored_of t image regions m = count_by (λ pair. is_ignored t.base (is_chosen regions t.regions) m.size pair.0) image
+
+-- the report of the units of an update's planned work and of its steps; what of the image is ignored
+abbrev pub report_of : Update → ℕ → List Step → Report
+report_of u ignored steps =
+    let units = planned_units u.m u.start u.have u.want in
+    record {
+      strategy = strategy u.m u.start;
+      steps = length steps;
+      erases = count_by (λ unit. is_some unit.erase) units;
+      erased = sum_by (λ unit. option_map_or (λ block. block.size) unit.erase 0) units;
+      programs = sum_by (λ unit. length unit.programs) units;
+      ignored = ignored;
+    }
 
 -- the sentence: the inputs are accepted, the reader gave the whole content, what was appended is the text of steps, and on
 -- every chip of the inputs with that content these do what is asked
@@ -73,66 +77,52 @@ pub record AreLargest (m : Parameters) (by : Strategy) (due : ℕ → Bool) : Ty
 -- what is seen of the steps on a chip: after each transaction at most one unit of the work is in the making; where it is asked
 -- for, each address that they erase or program is read later; they erase just the needed area, each address of it once, and
 -- whatever does the task, any steps on any such chip, erases it too; erases and programs are as many as the report says
-pub record RunsAsPlanned (t : Task) (m : Parameters) (content goal : List ℕ) (steps : List Step) (report : Report) (s : Setting)
-    (seen : List Event) : Type 0 where
-  pub rising : AllByRecursion (λ e. IsInTheMaking (planned_units m (start_of t) content goal) content goal e.chip.array) seen
-  pub verified : t.verify ≡ true → AreVerified s goal steps seen
-  pub erased : (a : ℕ) → is_erased_by s seen a ≡ is_needed m (is_due m content goal) a
-  pub once : (a : ℕ) → times_erased s seen a ≡ (if is_needed m (is_due m content goal) a then 1 else 0)
-  pub least : (other : Setting) (others : List Step) (a : ℕ) → IsChipOf m (start_of t) other → DoesTask other content goal others
-      → is_erased_by s seen a ≡ true → is_erased_by other (events other (ready other content) others) a ≡ true
+pub record RunsAsPlanned (u : Update) (steps : List Step) (report : Report) (s : Setting) (seen : List Event) : Type 0 where
+  pub rising : AllByRecursion (λ e. IsInTheMaking (planned_units u.m u.start u.have u.want) u.have u.want e.chip.array) seen
+  pub verified : u.verify ≡ true → AreVerified s u.want steps seen
+  pub erased : (a : ℕ) → is_erased_by s seen a ≡ is_needed u.m (is_due u.m u.have u.want) a
+  pub once : (a : ℕ) → times_erased s seen a ≡ (if is_needed u.m (is_due u.m u.have u.want) a then 1 else 0)
+  pub least : (other : Setting) (others : List Step) (a : ℕ) → IsChipOf u.m u.start other → DoesTask other u.have u.want others
+      → is_erased_by s seen a ≡ true → is_erased_by other (events other (ready other u.have) others) a ≡ true
   -- where no profile asks for erased bytes, whatever does the task on a chip with the page that all have has at least as many programs
-  pub fewest : m.erased_only ≡ false → are_bytes content ≡ true → (other : Setting) (others : List Step) → IsChipOf m (start_of t) other
-      → other.page ≡ m.page → DoesTask other content goal others → report.programs ≤ programs_seen (events other (ready other content) others)
+  pub fewest : u.m.erased_only ≡ false → are_bytes u.have ≡ true → (other : Setting) (others : List Step) → IsChipOf u.m u.start other
+      → other.page ≡ u.m.page → DoesTask other u.have u.want others → report.programs ≤ programs_seen (events other (ready other u.have) others)
   pub erases : erases_seen seen ≡ report.erases
   pub programs : programs_seen seen ≡ report.programs
 
 -- how it is done: no address is at fault; the steps are those of the planned work, show so on every chip of a task, and read
 -- nothing where that isn't asked for; the erased blocks are the largest; the report is of that work
-pub record IsAsPlanned (t : Task) (image : Pairs) (regions : List Region) (m : Parameters) (content goal : List ℕ) (steps : List Step)
-    (report : Report) : Type 0 where
-  pub workable : IsWorkable m (start_of t) content goal
-  pub planned : ArePlanned m (start_of t) t.verify content goal steps
-  pub runs : (s : Setting) → IsChipOf m (start_of t) s
-      → RunsAsPlanned t m content goal steps report s (events s (ready s content) steps)
-  pub unverified : t.verify ≡ false → list_any verifies steps ≡ false
-  pub largest : AreLargest m (strategy m (start_of t)) (is_due m content goal)
-  pub told : report ≡ report_of t image regions m (planned_units m (start_of t) content goal) steps
+pub record IsAsPlanned (u : Update) (ignored : ℕ) (steps : List Step) (report : Report) : Type 0 where
+  pub workable : CanBeDone u
+  pub planned : IsDoneBy u steps
+  pub runs : (s : Setting) → IsChipOf u.m u.start s → RunsAsPlanned u steps report s (events s (ready s u.have) steps)
+  pub unverified : u.verify ≡ false → list_any verifies steps ≡ false
+  pub largest : AreLargest u.m (strategy u.m u.start) (is_due u.m u.have u.want)
+  pub told : report ≡ report_of u ignored steps
 
 -- what a build promises: the sentence, which says what a user gets, and how it is done
 pub record IsBuilt (t : Task) (len : ℕ) (before after : Wire) (report : Report) : Type 0 where
   pub wrote : WroteScript t len before after
-  pub work : IsAsPlanned t wrote.image wrote.regions wrote.m wrote.content (wanted t wrote.image wrote.regions wrote.content)
+  pub work : IsAsPlanned (asked t wrote.image wrote.regions wrote.m wrote.content) (ignored_of t wrote.image wrote.regions wrote.m)
       wrote.steps report
 
--- why the work on accepted inputs ended early: the reader ended before the content did; whatever the rest of the chip holds,
--- the address that is named is the lowest at fault; a device failed (its count tells it), or a growth was refused
-abbrev pub WorkCause : Task → Pairs → List Region → Parameters → ℕ → List ℕ → Ahead → BuildFault → Type 0
-WorkCause t image regions m len part after fault.ContentShort = (length part < len) × IsAtEnd after
-WorkCause t image regions m len part after (fault.Plan why) = IsFault m (strategy m (start_of t)) 0 part (wanted t image regions part) why
-WorkCause t image regions m len part after fault.Read = ⊤
-WorkCause t image regions m len part after fault.Write = ⊤
-WorkCause t image regions m len part after fault.Memory = ⊤
-WorkCause t image regions m len part after other = ⊥
-
--- with some more bytes these are the script of the planned work of this content
-pub record BeginsScript (m : Parameters) (start : Start) (verify : Bool) (content goal bytes : List ℕ) : Type 0 where
+-- with some more bytes these are the script of the planned work of this update
+pub record BeginsScript (u : Update) (bytes : List ℕ) : Type 0 where
   pub steps : List Step
-  pub planned : ArePlanned m start verify content goal steps
+  pub planned : IsDoneBy u steps
   pub rest : List ℕ
   pub script : IsScript (bytes ++ rest) steps
   pub more : rest ≢ []
 
 -- bytes that a build wrote which then was refused, of a part of the content that it read, of which the first windows were planned:
 -- some work can be done on a content that begins with these windows; and whatever else such a content has, the bytes begin its script
-pub record IsFrontOf (m : Parameters) (start : Start) (verify : Bool) (goal : List ℕ → List ℕ) (part bytes : List ℕ) (why : BuildFault) : Type 0 where
+pub record IsFrontOf (m : Parameters) (update : List ℕ → Update) (part bytes : List ℕ) (why : BuildFault) : Type 0 where
   pub window : ℕ
   pub its_size : IsWindowSize m window
   pub known : ℕ
   pub windows : AreWindows m.size window known (length part) why
-  pub workable : (content : List ℕ) × (take known content ≡ take known part) × IsWorkable m start content (goal content)
-  pub begins : (content : List ℕ) → take known content ≡ take known part → IsWorkable m start content (goal content)
-      → BeginsScript m start verify content (goal content) bytes
+  pub workable : (content : List ℕ) × (take known content ≡ take known part) × CanBeDone (update content)
+  pub begins : (content : List ℕ) → take known content ≡ take known part → CanBeDone (update content) → BeginsScript (update content) bytes
 
 -- the inputs are accepted, some of the content was read, its cause, and what was written, which is no script
 pub record StopsWork (t : Task) (len : ℕ) (before after : Wire) (why : BuildFault) : Type 0 where
@@ -143,9 +133,9 @@ pub record StopsWork (t : Task) (len : ℕ) (before after : Wire) (why : BuildFa
   pub part : List ℕ
   pub within : length part ≤ len
   pub given : Gives before.ahead part after.ahead
-  pub cause : WorkCause t image regions m len part after.ahead why
+  pub cause : WorkCause (asked t image regions m part) after.ahead why
   pub bytes : List ℕ
-  pub front : IsFrontOf m (start_of t) t.verify (wanted t image regions) part bytes why
+  pub front : IsFrontOf m (asked t image regions m) part bytes why
   pub put : Appends before.held after.held bytes
 
 -- a fault that accepted inputs can meet

@@ -1,3 +1,4 @@
+pub mod Update
 pub mod PlanWindows
 pub mod Windows
 pub mod Build

@@ -1,11 +1,9 @@
 -- What a plan promises (this project's).
-use Rattle.std.specs.Prelude.{◌≡◌, ℕ, ◌≤◌, List, length, take, Option}
+use Rattle.std.specs.Prelude.{◌≡◌, ℕ, ◌≤◌, List, length, take}
 use Rattle.std.specs.Io.KnownBytes.{Appends}
 use Rattle.nor_base.specs.declared.step.Step.{Step}
-use Rattle.nor_base.specs.Device.{Ahead, Gives}
+use Rattle.nor_base.specs.Device.{Gives}
 use Rattle.nor_base.specs.Parameters.{Parameters}
-use Rattle.nor_base.specs.Planned.{ArePlanned, planned_units, IsWorkable}
-use Rattle.nor_base.specs.Strategies.{strategy}
 use Rattle.nor_geometry.specs.Window.{IsWindowSize}
 use Rattle.nor_hex.specs.Image.{Pairs}
 use Rattle.nor_layout.specs.Region.{Region}
@@ -16,8 +14,9 @@ use Rattle.nor_job.specs.Task.{Task}
 use Rattle.nor_base.specs.Wire.{Wire}
 use Rattle.norprog.specs.declared.report.Report.{Report}
 use Rattle.nor_job.specs.Wanted.{wanted}
-use Rattle.norprog.specs.Build.{report_of, WorkCause}
+use Rattle.norprog.specs.Build.{ignored_of, report_of}
 use Rattle.norprog.specs.PlanWindows.{plan_text, TellsWindows}
+use Rattle.norprog.specs.Update.{asked, CanBeDone, IsDoneBy, WorkCause}
 use Rattle.norprog.specs.Windows.{AreWindows}
 
 -- the inputs are accepted, the reader gave the whole content, work can be done on it, and what was appended is the lines of
@@ -30,11 +29,11 @@ pub record IsPlanOf (t : Task) (len : ℕ) (before after : Wire) (report : Repor
   pub content : List ℕ
   pub whole : length content ≡ len
   pub given : Gives before.ahead content after.ahead
-  pub workable : IsWorkable m (start_of t) content (wanted t image regions content)
+  pub workable : CanBeDone (asked t image regions m content)
   pub put : Appends before.held after.held (plan_text m (start_of t) content (wanted t image regions content))
   pub steps : List Step
-  pub planned : ArePlanned m (start_of t) t.verify content (wanted t image regions content) steps
-  pub told : report ≡ report_of t image regions m (planned_units m (start_of t) content (wanted t image regions content)) steps
+  pub planned : IsDoneBy (asked t image regions m content) steps
+  pub told : report ≡ report_of (asked t image regions m content) (ignored_of t image regions m) steps
 
 -- the inputs are accepted, some of the content was read, its cause, and what was written: lines of the units that start in
 -- its whole windows, whatever the rest of the chip holds and must hold
@@ -46,11 +45,11 @@ pub record StopsPlan (t : Task) (len : ℕ) (before after : Wire) (why : BuildFa
   pub part : List ℕ
   pub within : length part ≤ len
   pub given : Gives before.ahead part after.ahead
-  pub cause : WorkCause t image regions m len part after.ahead why
+  pub cause : WorkCause (asked t image regions m part) after.ahead why
   pub window : ℕ
   pub its_size : IsWindowSize m window
   pub known : ℕ
   pub windows : AreWindows m.size window known (length part) why
   pub bytes : List ℕ
-  pub lines : TellsWindows m (strategy m (start_of t)) (take known part) (wanted t image regions (take known part)) bytes why
+  pub lines : TellsWindows (asked t image regions m (take known part)) bytes why
   pub put : Appends before.held after.held bytes

@@ -4,7 +4,6 @@ use Rattle.std.specs.Io.KnownBytes.{Appends}
 use Rattle.nor_base.specs.Accepted.{IsAccepted}
 use Rattle.nor_base.specs.Device.{Ahead, Gives}
 use Rattle.nor_base.specs.Parameters.{Parameters}
-use Rattle.nor_base.specs.Planned.{ArePlanned, planned_units, IsWorkable}
 use Rattle.nor_base.specs.Strategies.{strategy}
 use Rattle.nor_base.specs.declared.step.Step.{Step}
 use Rattle.nor_geometry.specs.Window.{IsWindowSize}
@@ -31,9 +30,10 @@ use Rattle.nor_steps.specs.Texts.{IsTold}
 use Rattle.nor_steps.specs.Writing.{Writing}
 use Rattle.nor_steps.specs.declared.tally.Tally.{Tally}
 use Rattle.nor_base.specs.Wire.{Wire, wire}
-use Rattle.norprog.specs.Build.{report_of}
+use Rattle.norprog.specs.Build.{ignored_of, report_of}
 use Rattle.norprog.specs.Plan.{IsPlanOf, StopsPlan}
-use Rattle.norprog.specs.Windows.{first_writing, IsCutPlan, StopsWindow, Range, range}
+use Rattle.norprog.specs.Update.{asked, CanBeDone, IsDoneBy}
+use Rattle.norprog.specs.Windows.{first_writing, progress, Window, window_of, IsCutPlan, StopsWindow}
 use Rattle.norprog.specs.declared.report.Report.{Report}
 
 -- how far the plan of a job is: its work, the bytes of a window, and of the room for what a window must hold; the address up to
@@ -57,23 +57,31 @@ pub record IsReady (p : Planning) : Type 0 where
   pub few : IsFew p.at p.told
   pub aligned : p.at < p.job.meaning.size → p.at % p.window ≡ 0
 
--- so many bytes of the content from an address on were read, and these are the lines of the units that start there, whatever the
--- rest of the chip holds
-pub record IsPlannedPart (job : Job) (w v : Writing) (r : Range) (before after : Ahead) (told : Tally) (lines : List PlanLine) : Type 0 where
+-- what a plan of windows gives: the work after them, how much their steps are, and their lines
+pub record Outlined : Type 0 where
+  pub work : Writing
+  pub told : Tally
+  pub lines : List PlanLine
+
+abbrev pub outlined : Writing → Tally → List PlanLine → Outlined
+outlined work told lines = record { work = work; told = told; lines = lines }
+
+-- the window was read, and its plan, of the units that start there, is this whatever the rest of the chip holds
+pub record IsPlannedPart (w : Window) (work : Writing) (before after : Ahead) (its : Outlined) : Type 0 where
   pub part : List ℕ
-  pub size : length part ≡ r.count
+  pub size : length part ≡ w.count
   pub given : Gives before part after
-  pub bytes : AreBytes (target_from job r.at part)
-  pub steps : IsTold w v (stretch r.at part (target_from job r.at part)) told
-  pub plan : IsStretchPlan job.meaning (strategy job.meaning job.start) (stretch r.at part (target_from job r.at part)) lines
+  pub bytes : AreBytes (target_from w.job w.at part)
+  pub steps : IsTold work its.work (stretch w.at part (target_from w.job w.at part)) its.told
+  pub plan : IsStretchPlan w.job.meaning (strategy w.job.meaning w.job.start) (stretch w.at part (target_from w.job w.at part)) its.lines
 
 -- why a window has no lines, whatever a writer held then
-abbrev pub StopsPlanning : Job → Writing → ℕ → ℕ → Ahead → Ahead → BuildFault → Type 0
-StopsPlanning job w at count before after why = (x : Option (List ℕ)) → StopsWindow unit_outline job w at count (wire x before) (wire x after) why
+abbrev pub StopsPlanning : Window → Writing → Ahead → Ahead → BuildFault → Type 0
+StopsPlanning w work before after why = (x : Option (List ℕ)) → StopsWindow unit_outline w (progress work x before) (wire x after) why
 
 -- all of the content before its address was, and these are the lines of all its windows
 abbrev pub HasTold : Planning → Ahead → Ahead → List PlanLine → Type 0
-HasTold p first now lines = IsPlannedPart p.job (first_writing p.job) p.work (range 0 p.at) first now p.told lines
+HasTold p first now lines = IsPlannedPart (window_of p.job 0 p.at) (first_writing p.job) first now (outlined p.work p.told lines)
 
 -- why a plan is cut short before its first window
 abbrev pub StopsBefore : Job → BuildFault → Type 0
@@ -91,9 +99,17 @@ abbrev pub CutsPlan : Planning → Ahead → Ahead → BuildFault → Type 0
 CutsPlan p before after why =
     (first : Ahead) (told : List PlanLine) (x y : Option (List ℕ)) → HasTold p first before told → Appends x y (lines_text told) → IsCutPlan p.job (wire x first) (wire y after) why
 
--- the inputs are accepted, the reader gave the whole content, work can be done on it, and these are the lines of the units of the
--- planned work; the report is of these units and of the steps of that work
-pub record IsPlanned (t : Task) (len : ℕ) (before after : Ahead) (lines : List PlanLine) (report : Report) : Type 0 where
+-- a plan that is told: its lines and its report
+pub record ToldPlan : Type 0 where
+  pub lines : List PlanLine
+  pub report : Report
+
+abbrev pub told_plan : List PlanLine → Report → ToldPlan
+told_plan lines report = record { lines = lines; report = report }
+
+-- the inputs are accepted, the reader gave the whole content, work can be done on it, and the plan's lines are those of the units
+-- of the planned work; its report is of these units and of the steps of that work
+pub record IsPlanned (t : Task) (len : ℕ) (before after : Ahead) (plan : ToldPlan) : Type 0 where
   pub image : Pairs
   pub regions : List Region
   pub m : Parameters
@@ -101,16 +117,16 @@ pub record IsPlanned (t : Task) (len : ℕ) (before after : Ahead) (lines : List
   pub content : List ℕ
   pub whole : length content ≡ len
   pub given : Gives before content after
-  pub workable : IsWorkable m (start_of t) content (wanted t image regions content)
-  pub are : lines ≡ plan_of m (start_of t) content (wanted t image regions content)
+  pub workable : CanBeDone (asked t image regions m content)
+  pub are : plan.lines ≡ plan_of m (start_of t) content (wanted t image regions content)
   pub steps : List Step
-  pub planned : ArePlanned m (start_of t) t.verify content (wanted t image regions content) steps
-  pub told : report ≡ report_of t image regions m (planned_units m (start_of t) content (wanted t image regions content)) steps
+  pub planned : IsDoneBy (asked t image regions m content) steps
+  pub told : plan.report ≡ report_of (asked t image regions m content) (ignored_of t image regions m) steps
 
 -- the whole plan, of whatever inputs the job is of
 abbrev pub EndsPlan : Planning → Report → Type 0
 EndsPlan p report =
-    (t : Task) (len : ℕ) (first now : Ahead) (lines : List PlanLine) → IsJob t len p.job → HasTold p first now lines → IsPlanned t len first now lines report
+    (t : Task) (len : ℕ) (first now : Ahead) (lines : List PlanLine) → IsJob t len p.job → HasTold p first now lines → IsPlanned t len first now (told_plan lines report)
 
 -- all lines that a planner had left were put behind those before
 pub record PutsPlan (p q : Planning) (before after : Wire) : Type 0 where

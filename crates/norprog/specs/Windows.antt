@@ -1,5 +1,5 @@
 -- What a part of the work has done: content was read, and a text of its windows was written (this project's).
-use Rattle.std.specs.Prelude.{◌≡◌, ◌≢◌, ◌⊎◌, ℕ, false, ◌+◌, ◌%◌, ◌<◌, ◌≤◌, min, ⊤, List, [], ◌++◌, length, take, count_by, Option}
+use Rattle.std.specs.Prelude.{◌≡◌, ◌≢◌, ◌⊎◌, ℕ, false, ◌+◌, ◌%◌, ◌<◌, ◌≤◌, min, List, [], ◌++◌, length, take, count_by, Option}
 use Rattle.std.specs.Io.KnownBytes.{Appends}
 use Rattle.nor_base.specs.Device.{Ahead, Gives, IsAtEnd}
 use Rattle.nor_base.specs.Need.{is_at_fault}
@@ -7,14 +7,14 @@ use Rattle.nor_base.specs.Planned.{planned, planned_ops}
 use Rattle.nor_base.specs.Script.{script_text}
 use Rattle.nor_base.specs.Strategies.{strategy}
 use Rattle.nor_base.specs.Target.{is_ignored}
-use Rattle.nor_geometry.specs.Plan.{HasPart, IsFault}
+use Rattle.nor_geometry.specs.Plan.{HasPart}
 use Rattle.nor_geometry.specs.Window.{IsWindowSize}
 use Rattle.nor_job.specs.declared.fault.BuildFault.{BuildFault}
 use Rattle.nor_job.specs.declared.fault.BuildFault.TheVariants as fault
 use Rattle.nor_job.specs.declared.job.Job.{Job}
 use Rattle.nor_layout.specs.Chosen.{has}
 use Rattle.nor_outline.specs.Told.{unit_outline}
-use Rattle.nor_steps.specs.Stretch.{stretch}
+use Rattle.nor_steps.specs.Stretch.{Stretch, stretch, extent}
 use Rattle.nor_steps.specs.declared.fault.StepsFault.{StepsFault}
 use Rattle.nor_steps.specs.declared.fault.StepsFault.TheVariants as steps
 use Rattle.nor_steps.specs.declared.tally.Tally.{Tally}
@@ -22,8 +22,9 @@ use Rattle.nor_steps.specs.Lines.{steps_of}
 use Rattle.nor_steps.specs.Tally.{tally_with}
 use Rattle.nor_steps.specs.Texts.{UnitText, IsText, IsBegunText, WroteText, StopsText}
 use Rattle.nor_steps.specs.Work.{IsSound}
-use Rattle.nor_steps.specs.Writing.{Writing, fresh}
+use Rattle.nor_steps.specs.Writing.{Writing, Output, output, fresh}
 use Rattle.nor_base.specs.Wire.{Wire}
+use Rattle.norprog.specs.Update.{Update, update, WorkCause}
 use Rattle.norprog.specs.declared.report.Report.{Report}
 use Rattle.nor_job.specs.Written.{AreBytes}
 use Rattle.nor_job.specs.Filled.{target_from}
@@ -37,58 +38,63 @@ lifted_steps (steps.Plan why) = fault.Plan why
 lifted_steps steps.Write = fault.Write
 lifted_steps steps.Memory = fault.Memory
 
--- so many addresses from one on
-pub record Range : Type 0 where
+-- a window of a job's content: so many bytes from an address on
+pub record Window : Type 0 where
+  pub job : Job
   pub at : ℕ
   pub count : ℕ
 
-abbrev pub range : ℕ → ℕ → Range
-range at count = record { at = at; count = count }
+abbrev pub window_of : Job → ℕ → ℕ → Window
+window_of job at count = record { job = job; at = at; count = count }
 
--- so many bytes of the content from an address on were read, and the text of the work on them was written
-pub record IsDone (unit_text : UnitText) (job : Job) (w v : Writing) (r : Range) (before after : Wire) (told : Tally) : Type 0 where
+-- how far a job is: its output, and what its reader has ahead
+pub record Progress : Type 0 where
+  pub out : Output
+  pub ahead : Ahead
+
+abbrev pub progress : Writing → Option (List ℕ) → Ahead → Progress
+progress work held ahead = record { out = output work held; ahead = ahead }
+
+-- the window was read, and the text of the work on it was written
+pub record IsDone (unit_text : UnitText) (w : Window) (before after : Progress) (told : Tally) : Type 0 where
   pub part : List ℕ
-  pub size : length part ≡ r.count
+  pub size : length part ≡ w.count
   pub given : Gives before.ahead part after.ahead
-  pub bytes : AreBytes (target_from job r.at part)
-  pub wrote : WroteText unit_text w v before.held after.held (stretch r.at part (target_from job r.at part)) told
+  pub bytes : AreBytes (target_from w.job w.at part)
+  pub wrote : WroteText unit_text before.out after.out (stretch w.at part (target_from w.job w.at part)) told
 
--- all of it was
-abbrev pub IsAllDone : UnitText → Job → Writing → Wire → Wire → Tally → Type 0
-IsAllDone unit_text job v before after told = IsDone unit_text job (first_writing job) v (range 0 job.meaning.size) before after told
+-- all of the content was
+abbrev pub IsAllDone : UnitText → Job → Wire → Progress → Tally → Type 0
+IsAllDone unit_text job before after told =
+    IsDone unit_text (window_of job 0 job.meaning.size) (progress (first_writing job) before.held before.ahead) after told
 
--- a window of so many bytes was read, and its text was not all written
-pub record IsUndone (unit_text : UnitText) (job : Job) (w : Writing) (at count : ℕ) (before after : Wire) (why : StepsFault) : Type 0 where
+-- the window was read, and its text was not all written
+pub record IsUndone (unit_text : UnitText) (w : Window) (before : Progress) (after : Wire) (why : StepsFault) : Type 0 where
   pub part : List ℕ
-  pub size : length part ≡ count
+  pub size : length part ≡ w.count
   pub given : Gives before.ahead part after.ahead
-  pub bytes : AreBytes (target_from job at part)
-  pub stops : StopsText unit_text w before.held after.held (stretch at part (target_from job at part)) why
+  pub bytes : AreBytes (target_from w.job w.at part)
+  pub stops : StopsText unit_text before.out after.held (stretch w.at part (target_from w.job w.at part)) why
 
 -- less than a window was read, and nothing was written
-pub record IsUnread (count : ℕ) (before after : Wire) : Type 0 where
+pub record IsUnread (w : Window) (before : Progress) (after : Wire) : Type 0 where
   pub part : List ℕ
-  pub few : length part < count
+  pub few : length part < w.count
   pub given : Gives before.ahead part after.ahead
-  pub put : Appends before.held after.held []
+  pub put : Appends before.out.held after.held []
 
 -- a window wasn't read, or it was, and its text was not all written
-abbrev pub StopsWindow : UnitText → Job → Writing → ℕ → ℕ → Wire → Wire → BuildFault → Type 0
-StopsWindow unit_text job w at count before after fault.ContentShort = IsUnread count before after × IsAtEnd after.ahead
-StopsWindow unit_text job w at count before after fault.Read = IsUnread count before after
-StopsWindow unit_text job w at count before after (fault.Plan why) = IsUndone unit_text job w at count before after (steps.Plan why)
-StopsWindow unit_text job w at count before after fault.Write = IsUndone unit_text job w at count before after steps.Write
-StopsWindow unit_text job w at count before after fault.Memory = IsUndone unit_text job w at count before after steps.Memory
-StopsWindow unit_text job w at count before after other = ⊥
+abbrev pub StopsWindow : UnitText → Window → Progress → Wire → BuildFault → Type 0
+StopsWindow unit_text w before after fault.ContentShort = IsUnread w before after × IsAtEnd after.ahead
+StopsWindow unit_text w before after fault.Read = IsUnread w before after
+StopsWindow unit_text w before after (fault.Plan why) = IsUndone unit_text w before after (steps.Plan why)
+StopsWindow unit_text w before after fault.Write = IsUndone unit_text w before after steps.Write
+StopsWindow unit_text w before after fault.Memory = IsUndone unit_text w before after steps.Memory
+StopsWindow unit_text w before after other = ⊥
 
--- why the work on a part of the content ended early
-abbrev pub CutCause : Job → List ℕ → Ahead → BuildFault → Type 0
-CutCause job part after fault.ContentShort = (length part < job.meaning.size) × IsAtEnd after
-CutCause job part after (fault.Plan why) = IsFault job.meaning (strategy job.meaning job.start) 0 part (target_from job 0 part) why
-CutCause job part after fault.Read = ⊤
-CutCause job part after fault.Write = ⊤
-CutCause job part after fault.Memory = ⊤
-CutCause job part after other = ⊥
+-- the update of a job
+abbrev pub job_update : Job → List ℕ → Update
+job_update job part = update job.meaning job.start job.verify part (target_from job 0 part)
 
 -- by where the work ended, what was read of a chip of a size beside the windows that were planned: a part of the next window,
 -- where the reader ended or failed; all of it, where it has an address at fault; nothing, where the writer failed; nothing or
@@ -109,29 +115,28 @@ pub record AreWindows (size window known read : ℕ) (why : BuildFault) : Type 0
 
 -- some of the text of a beginning of the content, from the text's beginning on: all of it but where the writer failed or a
 -- growth was refused
-abbrev pub BeginsText : UnitText → Writing → List ℕ → List ℕ → List ℕ → BuildFault → Type 0
-BeginsText unit_text w have want front fault.Write = IsBegunText unit_text w (stretch 0 have want) front
-BeginsText unit_text w have want front fault.Memory = IsBegunText unit_text w (stretch 0 have want) front
-BeginsText unit_text w have want front other = IsText unit_text w (stretch 0 have want) front
+abbrev pub BeginsText : UnitText → Writing → Stretch → List ℕ → BuildFault → Type 0
+BeginsText unit_text w p front fault.Write = IsBegunText unit_text w p front
+BeginsText unit_text w p front fault.Memory = IsBegunText unit_text w p front
+BeginsText unit_text w p front other = IsText unit_text w p front
 
--- so much of what was read is whole pages, and some of their text was written, from its beginning on
-pub record IsKnown (unit_text : UnitText) (job : Job) (known : ℕ) (part front : List ℕ) (why : BuildFault) : Type 0 where
-  pub pages : known % job.meaning.page ≡ 0
-  pub bytes : AreBytes (target_from job 0 (take known part))
-  pub begun : BeginsText unit_text (first_writing job) (take known part) (target_from job 0 (take known part)) front why
+-- of what is known some of the text was written, from its beginning on
+pub record IsKnown (unit_text : UnitText) (job : Job) (known front : List ℕ) (why : BuildFault) : Type 0 where
+  pub bytes : AreBytes (target_from job 0 known)
+  pub begun : BeginsText unit_text (first_writing job) (stretch 0 known (target_from job 0 known)) front why
 
 -- some of the content was read, and what was written is such a front of the text of its windows
-pub record IsCut (IsFront : ℕ → List ℕ → List ℕ → BuildFault → Type 0) (job : Job) (before after : Wire) (why : BuildFault) : Type 0 where
+pub record IsCut (IsFront : List ℕ → List ℕ → BuildFault → Type 0) (job : Job) (before after : Wire) (why : BuildFault) : Type 0 where
   pub part : List ℕ
   pub within : length part ≤ job.meaning.size
   pub given : Gives before.ahead part after.ahead
-  pub cause : CutCause job part after.ahead why
+  pub cause : WorkCause (job_update job part) after.ahead why
   pub window : ℕ
   pub its_size : IsWindowSize job.meaning window
   pub known : ℕ
   pub windows : AreWindows job.meaning.size window known (length part) why
   pub bytes : List ℕ
-  pub front : IsFront known part bytes why
+  pub front : IsFront (take known part) bytes why
   pub put : Appends before.held after.held bytes
 
 -- the whole content was read, no address of the chip is at fault, and how much the steps of the work are is told
@@ -155,17 +160,16 @@ pub record IsTextFront (job : Job) (content target bytes : List ℕ) : Type 0 wh
   pub more : rest ≢ []
 
 -- so it is whatever the chip holds and must hold past what is known; of what is known no address is at fault
-pub record IsScriptFront (job : Job) (known : ℕ) (part bytes : List ℕ) : Type 0 where
-  pub within : known ≤ length part
-  pub small : AreBytes (target_from job 0 (take known part))
-  pub front : (content target : List ℕ) → length content ≡ job.meaning.size → HasPart content (take known part) 0
-      → HasPart target (target_from job 0 (take known part)) 0 → IsTextFront job content target bytes
-  pub sound : (content target : List ℕ) → HasPart content (take known part) 0 → HasPart target (target_from job 0 (take known part)) 0
-      → IsSound (first_writing job) 0 known content target
+pub record IsScriptFront (job : Job) (known bytes : List ℕ) : Type 0 where
+  pub small : AreBytes (target_from job 0 known)
+  pub front : (content target : List ℕ) → length content ≡ job.meaning.size → HasPart content known 0
+      → HasPart target (target_from job 0 known) 0 → IsTextFront job content target bytes
+  pub sound : (content target : List ℕ) → HasPart content known 0 → HasPart target (target_from job 0 known) 0
+      → IsSound (first_writing job) (extent 0 (length known) content target)
 
 -- some of the content was read, and what was written is a front of the script of its windows
 abbrev pub IsCutScript : Job → Wire → Wire → BuildFault → Type 0
-IsCutScript job before after why = IsCut (λ known part bytes why. IsScriptFront job known part bytes) job before after why
+IsCutScript job before after why = IsCut (λ known bytes why. IsScriptFront job known bytes) job before after why
 
 -- some of the content was read, and what was written is lines of its windows, as many as why it ended early says
 abbrev pub IsCutPlan : Job → Wire → Wire → BuildFault → Type 0

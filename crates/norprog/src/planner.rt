@@ -10,8 +10,8 @@ ghost use Rattle.nor_job.specs.Written.{CountsReader, CountsWriter};
 ghost use Rattle.nor_job.specs.declared.fault.BuildFault.TheVariants.{Memory};
 ghost use Rattle.norprog.specs.Planner.{IsReady, IsPlannedPart, HasTold, GoesOn};
 ghost use Rattle.norprog.specs.Planner.{CutsPlan, EndsPlan, StopsBefore, StopsPlanning};
-ghost use Rattle.norprog.specs.Planner.{AreFew, CutsAnywhere, CutsInputs};
-ghost use Rattle.norprog.specs.Windows.{range};
+ghost use Rattle.norprog.specs.Planner.{AreFew, CutsAnywhere, CutsInputs, outlined};
+ghost use Rattle.norprog.specs.Windows.{window_of};
 
 use crate::builder::report_of;
 use crate::report::Report;
@@ -160,10 +160,11 @@ fn part_plan<R: ByteIn>(
         × IsWindow job.now.meaning (driven_by job.now.meaning job.now.start) at count
         × (at + count ≤ 2 ^ 32) }
     ensures planned { IfOk result
-        (λ plan. IsPlannedPart job.now writer.old writer.new (range at count) (R.ahead content.old)
-        (R.ahead content.new) plan.0 plan.1.items) }
+        (λ plan. IsPlannedPart (window_of job.now at count) writer.old (R.ahead content.old)
+        (R.ahead content.new) (outlined writer.new plan.0 plan.1.items)) }
     ensures stopped { IfErr result
-        (StopsPlanning job.now writer.old at count (R.ahead content.old) (R.ahead content.new)) }
+        (StopsPlanning (window_of job.now at count) writer.old (R.ahead content.old)
+        (R.ahead content.new)) }
     ensures counts { CountsReader (R.count content.old) (R.count content.new) result
         × CountsWriter 0 0 result }
 {
@@ -192,10 +193,10 @@ fn window_plan<R: ByteIn>(
         (length have.old)
         × (at + length have.old ≤ 2 ^ 32) }
     ensures planned { IfOk result
-        (λ plan. IsPlannedPart job.now writer.old writer.new (range at (length have.old))
-        (R.ahead content.old) (R.ahead content.new) plan.0 plan.1.items) }
+        (λ plan. IsPlannedPart (window_of job.now at (length have.old)) writer.old
+        (R.ahead content.old) (R.ahead content.new) (outlined writer.new plan.0 plan.1.items)) }
     ensures stopped { IfErr result
-        (StopsPlanning job.now writer.old at (length have.old) (R.ahead content.old)
+        (StopsPlanning (window_of job.now at (length have.old)) writer.old (R.ahead content.old)
         (R.ahead content.new)) }
     ensures counts { CountsReader (R.count content.old) (R.count content.new) result
         × CountsWriter 0 0 result }

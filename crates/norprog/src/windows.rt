@@ -5,8 +5,8 @@ ghost use Rattle.nor_base.specs.Accepted.{IsAccepted};
 ghost use Rattle.nor_base.specs.Strategies.{strategy as driven_by};
 ghost use Rattle.nor_geometry.specs.Plan.{IsWindow};
 ghost use Rattle.nor_geometry.specs.Window.{IsWindowSize};
-ghost use Rattle.norprog.specs.Windows.{first_writing, lifted_steps, StopsWindow, IsDone, range};
-ghost use Rattle.norprog.specs.Windows.{IsAllDone, IsKnown, IsCut};
+ghost use Rattle.norprog.specs.Windows.{first_writing, lifted_steps, progress, window_of};
+ghost use Rattle.norprog.specs.Windows.{StopsWindow, IsDone, IsAllDone, IsKnown, IsCut};
 ghost use Rattle.nor_job.specs.Written.{CountsReader, CountsWriter};
 ghost use Rattle.nor_base.specs.Wire.{wire};
 
@@ -41,9 +41,9 @@ pub(crate) fn write_windows<T: WorkWriter, R: ByteIn, W: ByteOut>(
         × (T.writing writer.old ≡ first_writing job.now) }
     requires window { IsWindowSize job.now.meaning (length have.old)
         × (length want.old ≡ length have.old) }
-    ensures done { IfOk result (IsAllDone (T.unit_text writer.old) job.now (T.writing writer.new)
+    ensures done { IfOk result (IsAllDone (T.unit_text writer.old) job.now
         (wire (W.held out.old) (R.ahead content.old))
-        (wire (W.held out.new) (R.ahead content.new))) }
+        (progress (T.writing writer.new) (W.held out.new) (R.ahead content.new))) }
     ensures cut { IfErr result (IsCut (IsKnown (T.unit_text writer.old) job.now) job.now
         (wire (W.held out.old) (R.ahead content.old))
         (wire (W.held out.new) (R.ahead content.new))) }
@@ -92,12 +92,12 @@ fn write_window<T: WorkWriter, R: ByteIn, W: ByteOut>(
         (length have.old)
         × (at + length have.old ≤ 2 ^ 32) }
     ensures done { IfOk result
-        (IsDone (T.unit_text writer.old) job.now (T.writing writer.old) (T.writing writer.new)
-        (range at (length have.old)) (wire (W.held out.old) (R.ahead content.old))
-        (wire (W.held out.new) (R.ahead content.new))) }
+        (IsDone (T.unit_text writer.old) (window_of job.now at (length have.old))
+        (progress (T.writing writer.old) (W.held out.old) (R.ahead content.old))
+        (progress (T.writing writer.new) (W.held out.new) (R.ahead content.new))) }
     ensures stopped { IfErr result
-        (StopsWindow (T.unit_text writer.old) job.now (T.writing writer.old) at (length have.old)
-        (wire (W.held out.old) (R.ahead content.old))
+        (StopsWindow (T.unit_text writer.old) (window_of job.now at (length have.old))
+        (progress (T.writing writer.old) (W.held out.old) (R.ahead content.old))
         (wire (W.held out.new) (R.ahead content.new))) }
     ensures text { T.unit_text writer.new ≡ T.unit_text writer.old }
     ensures counts { CountsReader (R.count content.old) (R.count content.new) result

@@ -2,7 +2,9 @@
 use Rattle.std.proofs.Common.{◌≡◌, ℕ, List, [], ◌∷◌, ◌++◌, length, Ok, false, sym, ◌∙◌, ap, subst, append_assoc, append-nil}
 use Rattle.nor_base.specs.declared.step.Step.{Step}
 use Rattle.nor_base.specs.Device.{Ahead}
+use Rattle.nor_check.specs.declared.verdict.Verdict.{Verdict}
 use Rattle.nor_check.specs.declared.verdict.Verdict.TheVariants.{No}
+use Rattle.nor_check.specs.declared.verdict.Witness.{Witness}
 use Rattle.nor_check.specs.declared.verdict.Why.{Why}
 use Rattle.nor_check.specs.Fed.{Fed, IsShown, to_come}
 use Rattle.nor_script.specs.Stream.{Reading, reading, HasRead, Advances, HadText}
@@ -22,22 +24,19 @@ fed_more before now after above step shown fed is next more =
 -- and what shows a no of more shows that of all
 abbrev pub ShowsWith : Fed → Fed → List Step → Type 0
 ShowsWith before now above =
-    (more : List Step) (at : ℕ) (why : Why) (page reads : ℕ) → IsShown now more at why page reads → IsShown before (above ++ more) at why page reads
+    (more : List Step) (v : Verdict) (w : Witness) → IsShown now more v w → IsShown before (above ++ more) v w
 
 pub shown_more : (before now after : Fed) (above : List Step) (step given : Step) → ShowsWith before now above → given ≡ step
-    → ((more : List Step) (at : ℕ) (why : Why) (page reads : ℕ) → IsShown after more at why page reads → IsShown now (given ∷ more) at why page reads)
-    → ShowsWith before after (above ++ step ∷ [])
-shown_more before now after above step given shows is next more at why page reads h =
-    subst (λ s. IsShown before s at why page reads) (sym (append_assoc above (step ∷ []) more))
-    (shows (step ∷ more) at why page reads (subst (λ s. IsShown now (s ∷ more) at why page reads) is (next more at why page reads h)))
+    → ((more : List Step) (v : Verdict) (w : Witness) → IsShown after more v w → IsShown now (given ∷ more) v w) → ShowsWith before after (above ++ step ∷ [])
+shown_more before now after above step given shows is next more v w h =
+    subst (λ s. IsShown before s v w) (sym (append_assoc above (step ∷ []) more)) (shows (step ∷ more) v w (subst (λ s. IsShown now (s ∷ more) v w) is (next more v w h)))
 
 module _ (before : Ahead) where
   -- the end
   pub feeds_all : (fed now : Fed) (b c : Reading) (above : List Step) (steps : ℕ) (step : Step) (said : Said) → HasRead (reading before []) b above
       → steps ≡ length above → Advances b c steps step (Ok false) → IsFedWith fed now above → ShowsWith fed now above
       → said.steps ≡ length above → said.verdict ≡ to_come now []
-      → ((at : ℕ) (why : Why) → to_come now [] ≡ No at why → IsShown now [] at why said.witness.page said.witness.reads)
-      → HadText before c.ahead (IsSaidOf fed said)
+      → ((at : ℕ) (why : Why) → to_come now [] ≡ No at why → IsShown now [] (No at why) said.witness) → HadText before c.ahead (IsSaidOf fed said)
   feeds_all fed now b c above steps step said p number q with_these shows counted told witnessed =
       let of = script_of before b c above steps step p number q in (
         of.0,
@@ -49,8 +48,7 @@ module _ (before : Ahead) where
             number = counted;
             told = told ∙ with_these [] ∙ ap (to_come fed) (append-nil above);
             shown = λ at why no.
-                subst (λ s. IsShown fed s at why said.witness.page said.witness.reads) (append-nil above)
-                (shows [] at why said.witness.page said.witness.reads (witnessed at why (sym told ∙ no)));
+                subst (λ s. IsShown fed s (No at why) said.witness) (append-nil above) (shows [] (No at why) said.witness (witnessed at why (sym told ∙ no)));
           };
         },
       )

@@ -1,6 +1,5 @@
 -- What a check of a script's text promises (this project's).
 use Rattle.std.specs.Prelude.{◌≡◌, ◌≢◌, ◌↔◌, ◌+◌, ◌^◌, ◌≤◌, ◌==◌, ℕ, ⊤, List, length, Option, Some, None, unwrap_or, Result, Ok, Err}
-use Rattle.nor_base.specs.declared.meaning.Start.{Start}
 use Rattle.nor_base.specs.declared.step.Step.{Step}
 use Rattle.nor_base.specs.Device.{Ahead, Gives, raised}
 use Rattle.nor_base.specs.Parameters.{Parameters}
@@ -9,6 +8,7 @@ use Rattle.nor_base.specs.Script.{IsScript}
 use Rattle.nor_check.specs.declared.verdict.Verdict.{Verdict}
 use Rattle.nor_check.specs.declared.verdict.Verdict.TheVariants.{Yes, No}
 use Rattle.nor_check.specs.declared.verdict.Why.{Why}
+use Rattle.nor_check.specs.Outcome.{Trial, trial}
 use Rattle.nor_check.specs.Witness.{Witnesses, reads_before, even}
 use Rattle.nor_check.specs.Worst.{IsWorst}
 use Rattle.nor_hex.specs.Image.{Pairs}
@@ -27,17 +27,6 @@ use Rattle.norprog_check.specs.declared.finding.Finding.{Finding}
 use Rattle.norprog_check.specs.declared.finding.ShowingChip.{ShowingChip}
 use Rattle.norprog_check.specs.Content.{StopsRead}
 
--- a chip of these parameters, its start and what it holds, what it is to hold, and the steps
-pub record Trial : Type 0 where
-  pub m : Parameters
-  pub start : Start
-  pub have : List ℕ
-  pub want : List ℕ
-  pub steps : List Step
-
-abbrev pub trial : Parameters → Start → List ℕ → List ℕ → List Step → Trial
-trial m start have want steps = record { m = m; start = start; have = have; want = want; steps = steps }
-
 -- a run of the steps on this chip goes wrong at this step, so: each program and erase keeps it busy for one status read more than are
 -- sent in a row right before the step, it keeps a set latch just where the step is the number of steps, and a page is said just where
 -- it isn't the meaning's own
@@ -45,7 +34,7 @@ pub record ShowsNo (t : Trial) (step : ℕ) (why : Why) (chip : ShowingChip) : T
   pub busy : chip.each_busy ≡ reads_before step t.steps + 1
   pub keep : chip.keep ≡ (step == length t.steps)
   pub page : chip.page ≢ Some t.m.page
-  pub shows : Witnesses t.m t.start t.have t.want t.steps step why (even chip.each_busy chip.keep (unwrap_or chip.page t.m.page))
+  pub shows : Witnesses t step why (even chip.each_busy chip.keep (unwrap_or chip.page t.m.page))
 
 -- a no has such a chip where its number of status reads has 32 bits
 abbrev pub IsShownOn : Trial → Verdict → Option ShowingChip → Type 0
@@ -76,7 +65,7 @@ pub record IsChecked (c : Checking) (text : List ℕ) (found : Finding) : Type 0
   pub content : List ℕ
   pub whole : length content ≡ c.len
   pub given : Gives c.content content c.left
-  pub worst : IsWorst m (start_of c.task) content (wanted c.task image regions content) steps found.verdict
+  pub worst : IsWorst (trial m (start_of c.task) content (wanted c.task image regions content) steps) found.verdict
   pub yes : (found.verdict ≡ Yes) ↔ DoesTaskOnEvery m (start_of c.task) content (wanted c.task image regions content) steps
   pub shown : IsShownOn (trial m (start_of c.task) content (wanted c.task image regions content) steps) found.verdict found.chip
 

@@ -7,19 +7,20 @@ use Rattle.nor_check.specs.declared.verdict.Verdict.{Verdict}
 use Rattle.nor_check.specs.declared.verdict.Verdict.TheVariants.{Yes, No}
 use Rattle.nor_check.specs.declared.verdict.Why.{Why}
 use Rattle.nor_check.specs.Fed.{Fed, IsShown, to_come}
+use Rattle.nor_check.specs.Outcome.{trial}
 use Rattle.nor_check.specs.Worst.{IsWorst}
 use Rattle.nor_job.specs.declared.job.Job.{Job}
 use Rattle.norprog_check.specs.declared.finding.Finding.{Finding}
 use Rattle.norprog_check.specs.declared.finding.ShowingChip.{ShowingChip}
 use Rattle.norprog_check.specs.declared.readings.Said.{Said}
-use Rattle.norprog_check.specs.Checked.{IsShownOn, trial}
+use Rattle.norprog_check.specs.Checked.{IsShownOn}
 
 -- what a checker says that is fed with steps: how many they are, the verdict and, of a no, which page and how many status reads
 -- before the step show it
 pub record SaysOf (fed : Fed) (steps : List Step) (said : Said) : Type 0 where
   pub number : said.steps ≡ length steps
   pub told : said.verdict ≡ to_come fed steps
-  pub shown : (step : ℕ) (why : Why) → said.verdict ≡ No step why → IsShown fed steps step why said.witness.page said.witness.reads
+  pub shown : (step : ℕ) (why : Why) → said.verdict ≡ No step why → IsShown fed steps (No step why) said.witness
 
 -- with the steps of a text
 pub record IsSaidOf (fed : Fed) (said : Said) (text : List ℕ) : Type 0 where
@@ -47,6 +48,6 @@ TakesChip said own chip = TakesBy said.verdict said own chip
 pub record IsJudged (job : Job) (have want : List ℕ) (found : Finding) (text : List ℕ) : Type 0 where
   pub steps : List Step
   pub script : IsScript text steps
-  pub worst : IsWorst job.meaning job.start have want steps found.verdict
+  pub worst : IsWorst (trial job.meaning job.start have want steps) found.verdict
   pub yes : (found.verdict ≡ Yes) ↔ DoesTaskOnEvery job.meaning job.start have want steps
   pub shown : IsShownOn (trial job.meaning job.start have want steps) found.verdict found.chip

@@ -1,9 +1,10 @@
 //! The reading of a script for its steps, with which a checker is fed as they come.
 
-ghost use Rattle.std.specs.Prelude.{◌≡◌, ◌<◌, ◌+◌, ◌-◌, ◌^◌, ◌∷◌, ℕ, List, IfOk, IfErr};
+ghost use Rattle.std.specs.Prelude.{◌≡◌, ◌<◌, ◌+◌, ◌-◌, ◌^◌, ◌∷◌, List, IfOk, IfErr};
 ghost use Rattle.nor_base.specs.declared.step.Step.{Step};
 ghost use Rattle.nor_check.specs.Fed.{IsShown, to_come};
-ghost use Rattle.nor_check.specs.declared.verdict.Why.{Why};
+ghost use Rattle.nor_check.specs.declared.verdict.Verdict.{Verdict};
+ghost use Rattle.nor_check.specs.declared.verdict.Witness.{Witness};
 ghost use Rattle.nor_script.specs.Stream.{CountsRead, HadText, StopsReader};
 ghost use Rattle.nor_script.specs.View.{step_of};
 ghost use Rattle.nor_script.specs.declared.fault.ReadFault.TheVariants.{Script};
@@ -57,9 +58,8 @@ fn feed(alloc: Global, checker: &mut StepChecker<'_>, step: StepView<'_>) -> Res
     requires { checker.old.number < 2 ^ 64 - 1 }
     ensures fed { IfOk result (λ _. (more : List Step)
         → to_come checker.new more ≡ to_come checker.old (step_of step.entry ∷ more)) }
-    ensures shown { IfOk result (λ _. (more : List Step) (at : ℕ) (why : Why) (page reads : ℕ)
-        → IsShown checker.new more at why page reads
-        → IsShown checker.old (step_of step.entry ∷ more) at why page reads) }
+    ensures shown { IfOk result (λ _. (more : List Step) (v : Verdict) (w : Witness)
+        → IsShown checker.new more v w → IsShown checker.old (step_of step.entry ∷ more) v w) }
     ensures number { IfOk result (λ _. checker.new.number ≡ checker.old.number + 1) }
     ensures refused { IfErr result (λ fault. fault ≡ Script Memory) }
 {

@@ -23,5 +23,6 @@ pub rebuilt_exactly : (request : Request) (held : Held) (hex : List ℕ) (image 
       base = request.base;
       verify = request.verify;
       erased_only = request.erased_only;
+      page = request.page;
     }) (task_by request held)
 rebuilt_exactly request held hex image layout regions chip h i l r is = rw (h, i, l, r, is) refl

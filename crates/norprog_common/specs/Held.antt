@@ -36,4 +36,5 @@ task_by request held = record {
   base = request.base;
   verify = request.verify;
   erased_only = request.erased_only;
+  page = request.page;
 }

@@ -4,7 +4,7 @@ use Rattle.norprog_common.specs.declared.given.Given.{Given}
 use Rattle.norprog_common.specs.declared.request.Request.{Request}
 use Rattle.norprog_common.specs.Image.{Image, fills_chip, image_in, images_in}
 use Rattle.norprog_common.specs.Rules.{job_rules}
-use Rattle.norprog_common.specs.Values.{part_of, base_of, said_status}
+use Rattle.norprog_common.specs.Values.{part_of, base_of, said_number, said_status}
 use Rattle.norprog_common.specs.Chip.{origin_of, chosen_origin, Origin}
 
 -- the chip that the options name
@@ -30,7 +30,7 @@ abbrev pub is_well_formed : Given → Bool
 is_well_formed given =
     is_some (asked_image given) && is_some (asked_chip given) && is_some (part_of (asked_part given))
     && is_some (said_status (option_map (λ t. t.now) given.status)) && is_some (base_of (asked_base given))
-    && is_some given.content
+    && is_some (said_number (option_map (λ t. t.now) given.page)) && is_some given.content
 
 -- each value is the one that its text spells
 pub record AsksFor (given : Given) (request : Request) : Type 0 where
@@ -46,5 +46,6 @@ pub record AsksFor (given : Given) (request : Request) : Type 0 where
   pub content : given.content ≡ Some request.content
   pub verify : request.verify ≡ given.verify
   pub erased_only : request.erased_only ≡ given.erased_only
+  pub page : said_number (option_map (λ t. t.now) given.page) ≡ Some request.page
   pub rules : request.rules ≡ job_rules given.strict given.whole (fills_chip given.image)
   pub regions : request.regions ≡ given.regions

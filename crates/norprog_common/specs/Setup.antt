@@ -1,5 +1,5 @@
 -- The chip that a command line asks for which does no build, and how it begins (this project's).
-use Rattle.std.specs.Prelude.{◌≡◌, ℕ, Bool, false, ◌&&◌, List, [], Option, None, Some, option_map, unwrap_or, is_some, codes}
+use Rattle.std.specs.Prelude.{◌≡◌, ◌⊎◌, ℕ, Bool, false, ◌&&◌, List, [], Option, None, Some, option_map, unwrap_or, is_some, codes}
 use Rattle.nor_base.specs.Parameters.{Parameters}
 use Rattle.nor_job.specs.declared.fault.BuildFault.TheVariants as fault
 use Rattle.nor_job.specs.Chip.{HasChip, RefusesChip}
@@ -26,7 +26,7 @@ abbrev pub is_setup : SetupArgs → Bool
 is_setup given =
     is_some (chip_asked given.chip) && is_some (part_of (family_asked given.chip)) && is_some (said_status (option_map (λ t. t.now) given.status))
 
--- each value is the one that its text spells
+-- each value is the one that its text spells, and of the page nothing is said
 pub record AsksSetup (given : SetupArgs) (setup : Setup) : Type 0 where
   pub chip : chip_asked given.chip ≡ Some (origin_of setup.chip)
   pub part : part_of (family_asked given.chip) ≡ Some setup.part
@@ -34,6 +34,7 @@ pub record AsksSetup (given : SetupArgs) (setup : Setup) : Type 0 where
   pub mode4 : setup.mode4 ≡ given.mode4
   pub quad : setup.quad ≡ given.quad
   pub erased_only : setup.erased_only ≡ given.erased_only
+  pub page : setup.page ≡ None
 
 -- the task of a chip whose tables are these bytes; it has neither image nor layout
 abbrev pub setup_task : Setup → List ℕ → Task
@@ -50,6 +51,7 @@ setup_task setup tables = record {
   base = 0;
   verify = false;
   erased_only = setup.erased_only;
+  page = setup.page;
 }
 
 -- the inputs don't contradict one another, and give the chip these parameters
@@ -59,7 +61,8 @@ pub record IsKnown (t : Task) (m : Parameters) : Type 0 where
 
 -- why there is no such chip; no earlier cause holds
 abbrev pub RefusesChipOf : Task → Refusal → Type 0
-RefusesChipOf t (Build (fault.Contradiction number)) = contradiction t ≡ Some number
+RefusesChipOf t (Build (fault.Contradiction number)) =
+    (contradiction t ≡ Some number) ⊎ ((contradiction t ≡ None) × RefusesChip t (fault.Contradiction number))
 RefusesChipOf t (Build (fault.Sfdp why)) = (contradiction t ≡ None) × RefusesChip t (fault.Sfdp why)
 RefusesChipOf t (Build (fault.Sheet why)) = (contradiction t ≡ None) × RefusesChip t (fault.Sheet why)
 RefusesChipOf t (Build (fault.Status number)) = (contradiction t ≡ None) × RefusesChip t (fault.Status number)

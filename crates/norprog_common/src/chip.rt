@@ -3,7 +3,7 @@
 ghost use Rattle.std.specs.Prelude.{◌≡◌, option_map};
 ghost use Rattle.nor_job.specs.Task.{origin_of as task_origin};
 ghost use Rattle.norprog_common.specs.Chip.{origin_of, chosen_origin, task_chip};
-ghost use Rattle.norprog_common.specs.Values.{said_status};
+ghost use Rattle.norprog_common.specs.Values.{said_number, said_status};
 
 use crate::values::{decimal, status};
 use nor_job::Source;
@@ -54,6 +54,16 @@ pub fn source_of<'a>(chip: Chip<'a>, tables: &'a [u8]) -> Source<'a>
         },
         Chip::Uniform(size) => Source::Uniform(size),
         Chip::Sheet { file: _ } => Source::Sheet(tables),
+    }
+}
+
+/// The number, if one is given: decimal digits, within 32 bits. None where it isn't so.
+pub fn optional_number(text: Option<&str>) -> Option<Option<u32>>
+    ensures { result ≡ said_number (option_map (λ t. t.now) text.entry) }
+{
+    match text {
+        Some(text) => Some(Some(decimal(text)?)),
+        None => Some(None),
     }
 }
 

@@ -28,6 +28,7 @@ pub struct Given<'a> {
     pub content: Option<&'a str>,
     pub verify: bool,
     pub erased_only: bool,
+    pub page: Option<&'a str>,
     pub strict: bool,
     pub whole: bool,
     pub regions: Vec<Bytes>,
@@ -150,6 +151,7 @@ pub struct PlayArgs<'a> {
     pub setup: SetupArgs<'a>,
     pub content: Option<&'a str>,
     pub script: Option<&'a str>,
+    pub page: Option<&'a str>,
     pub device: Option<&'a str>,
     pub limit: Option<&'a str>,
     pub trust: bool,
@@ -159,6 +161,7 @@ pub struct PlayArgs<'a> {
 #[derive(Clone, Copy)]
 pub struct ReadArgs<'a> {
     pub chip: ChipArgs<'a>,
+    pub page: Option<&'a str>,
     pub mode4: bool,
     pub device: Option<&'a str>,
     pub limit: Option<&'a str>,
@@ -180,6 +183,7 @@ pub struct ReadArgs<'a> {
 #[derive(Drop)]
 pub struct FlashArgs<'a> {
     pub chip: ChipArgs<'a>,
+    pub page: Option<&'a str>,
     pub mode4: bool,
     pub device: Option<&'a str>,
     pub limit: Option<&'a str>,

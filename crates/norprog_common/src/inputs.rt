@@ -37,6 +37,7 @@ pub fn inputs_of<'a>(request: &'a Request<'_>, texts: &'a Texts) -> Inputs<'a>
         base: request.base,
         verify: request.verify,
         erased_only: request.erased_only,
+        page: request.page,
     }
 }
 

@@ -17,7 +17,7 @@ mod setup;
 mod values;
 mod wrongs;
 
-pub use chip::{Chip, chip_of, optional_status, source_of};
+pub use chip::{Chip, chip_of, optional_number, optional_status, source_of};
 pub use content::read_content;
 pub use faults::{FileName, Gap, Length, Refusal, Stray, answered, refuse, refuse_lines};
 pub use given::{

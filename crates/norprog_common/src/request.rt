@@ -3,7 +3,7 @@
 ghost use Rattle.std.specs.Prelude.{◌≡◌, is_some, IfSome};
 ghost use Rattle.norprog_common.specs.Request.{is_well_formed, AsksFor};
 
-use crate::chip::{Chip, chip_of, optional_status};
+use crate::chip::{Chip, chip_of, optional_number, optional_status};
 use crate::given::{Given, ImageArgs};
 use crate::image::{ImageFile, fills_chip, first_of};
 use crate::rules::{ImageRules, job_rules};
@@ -27,6 +27,8 @@ pub struct Request<'a> {
     pub content: &'a str,
     pub verify: bool,
     pub erased_only: bool,
+    /// Bytes of the chip's page, where its meaning only says the least that they may be.
+    pub page: Option<u32>,
     /// What the image has to give.
     pub rules: ImageRules,
     pub regions: Vec<Bytes>,
@@ -52,6 +54,7 @@ pub fn request_of<'a>(given: Given<'a>) -> Option<Request<'a>>
         content: given.content?,
         verify: given.verify,
         erased_only: given.erased_only,
+        page: optional_number(given.page)?,
         rules: job_rules(given.strict, given.whole, exact),
         regions: given.regions,
     })

@@ -21,9 +21,12 @@ pub struct Setup<'a> {
     pub mode4: bool,
     pub quad: bool,
     pub erased_only: bool,
+    /// Bytes of the chip's page, where its meaning only says the least that they may be.
+    pub page: Option<u32>,
 }
 
-/// The chip that the values spell, and how it begins. None where one isn't of its form.
+/// The chip that the values spell, and how it begins; of its page nothing is said. None where one
+/// isn't of its form.
 pub fn setup_of<'a>(given: SetupArgs<'a>) -> Option<Setup<'a>>
     ensures forms { is_some result ≡ is_setup given.entry }
     ensures values { IfSome result (AsksSetup given.entry) }
@@ -40,6 +43,7 @@ pub fn setup_of<'a>(given: SetupArgs<'a>) -> Option<Setup<'a>>
         mode4: given.mode4,
         quad: given.quad,
         erased_only: given.erased_only,
+        page: None,
     })
 }
 
@@ -60,12 +64,14 @@ pub fn setup_inputs<'a>(setup: Setup<'a>, tables: &'a [u8]) -> Inputs<'a>
         base: 0,
         verify: false,
         erased_only: setup.erased_only,
+        page: setup.page,
     }
 }
 
 /// The chip that the inputs describe, and how it begins.
 ///
-/// `Contradiction`, `Sfdp` or `Sheet`, `Status` and `ModeImpossible`, in this order.
+/// `Contradiction` 1 to 5, `Sfdp` or `Sheet`, `Contradiction` 6, `Status` and `ModeImpossible`, in
+/// this order.
 pub fn known_chip(inputs: &Inputs<'_>) -> Result<(Meaning, Start), Refusal>
     ensures known { IfOk result (λ chip. IsKnown inputs.now chip.0) }
     ensures start { IfOk result (λ chip. chip.1 ≡ start_of inputs.now) }

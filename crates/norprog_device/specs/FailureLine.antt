@@ -2,10 +2,9 @@
 use Rattle.std.specs.Prelude.{ℕ, List, ◌++◌, codes, decimal}
 use Rattle.nor_base.specs.declared.wrong.Wrong.TheVariants.{PollNever}
 use Rattle.nor_base.specs.Script.{closed, hex_pair}
-use Rattle.nor_reader.specs.declared.difference.Difference.{Difference}
-use Rattle.nor_script.specs.Hexadecimal.{hex_number}
 use Rattle.norprog_common.specs.Wrongs.{wrong_number}
 use Rattle.norprog_device.specs.Line.{fault_word}
+use Rattle.norprog_device.specs.Shown.{other_line}
 use Rattle.norprog_device.specs.declared.failure.Failure.{Failure}
 use Rattle.norprog_device.specs.declared.failure.Failure.TheVariants as failure
 
@@ -16,11 +15,6 @@ wrong_line number step = closed (codes "wrong " ++ (decimal number ++ (codes " a
 -- `failed at K WHY`, and LF
 abbrev pub failed_line : ℕ → List ℕ → List ℕ
 failed_line step why = closed (codes "failed at " ++ (decimal step ++ (codes " " ++ why)))
-
--- the address of a byte that is another, the chip's and the one that was wanted, behind and between these texts, and LF
-abbrev pub other_line : List ℕ → List ℕ → Difference → List ℕ
-other_line front last d =
-    front ++ (hex_number d.address ++ (codes " chip " ++ (hex_pair d.chip ++ (last ++ (hex_pair d.want ++ codes "\n")))))
 
 -- why a step isn't done; a device that stays busy is a poll that never ends
 abbrev pub failure_line : ℕ → Failure → List ℕ

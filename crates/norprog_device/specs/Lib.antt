@@ -3,6 +3,7 @@ pub mod Opened
 pub mod Blame
 pub mod Shell
 pub mod Setting
+pub mod Shown
 pub mod FailureLine
 pub mod Reported
 pub mod FailureBlame

@@ -5,7 +5,7 @@
 //! how the exchange ended that ended the work, and [`is_cut`] whether nothing more may be sent.
 //! [`let_go`] lets the pins of the device's chip go. [`write_stty`] writes how the terminal of a
 //! device is set, [`write_waiting`] which one is waited for, and [`write_word`] a text as a shell
-//! reads it.
+//! reads it; [`write_status`], [`write_digits`] and [`write_difference`] what lines show of a chip.
 //!
 //! [`Failure`] says why a device didn't do a step of a script: [`failure_at`] from where it
 //! halted, [`failure_by`] of a read after all steps; [`fault_of_failure`] how the exchange
@@ -22,6 +22,7 @@ mod pins;
 mod reported;
 mod setting;
 mod shell;
+mod shown;
 
 pub use blame::{fault_of_greeting, fault_of_mismatch, is_cut};
 pub use failure::{Failure, fault_of_failure};
@@ -32,3 +33,4 @@ pub use pins::let_go;
 pub use reported::{failure_at, failure_by};
 pub use setting::{write_stty, write_waiting};
 pub use shell::write_word;
+pub use shown::{registers, write_difference, write_digits, write_status};

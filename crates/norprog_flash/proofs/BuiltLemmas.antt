@@ -3,17 +3,17 @@ use Rattle.std.proofs.Common.{◌≡◌, ℕ, List, [], length, take, Some, sym,
 use Rattle.std.proofs.Math.Seq.{take-append_seam, take-length}
 use Rattle.nor_base.specs.declared.step.Step.{Step}
 use Rattle.nor_base.specs.Device.{Ahead, Unknown, Finite, Endless, Gives}
-use Rattle.nor_base.specs.Planned.{ArePlanned, IsWorkable, planned_units}
 use Rattle.nor_base.specs.Script.{IsScript}
 use Rattle.nor_job.specs.Status.{start_of}
 use Rattle.nor_job.specs.Task.{Task}
 use Rattle.nor_job.specs.Wanted.{wanted}
 use Rattle.nor_laws.specs.Laws.{OneList}
 use Rattle.nor_base.specs.Wire.{wire}
-use Rattle.norprog.specs.Build.{IsBuilt, report_of}
+use Rattle.norprog.specs.Build.{IsBuilt, ignored_of, report_of}
 use Rattle.norprog.specs.declared.report.Report.{Report}
 use Rattle.norprog.specs.Plan.{IsPlanOf}
 use Rattle.norprog.specs.PlanWindows.{plan_text}
+use Rattle.norprog.specs.Update.{asked, CanBeDone, IsDoneBy}
 use Rattle.norprog_flash.specs.Work.{BuildsSteps, HasLines}
 
 -- a reader that has just these bytes ahead, and gives as many, gives these
@@ -30,19 +30,16 @@ built_steps one t content held rest report steps built script =
     let same : wrote.content ≡ content = given_all content wrote.content rest wrote.given wrote.whole in
     let text : held ≡ wrote.text = wrote.put in
     let these : wrote.steps ≡ steps = one held wrote.steps steps (subst (λ (u : List ℕ). IsScript u wrote.steps) (sym text) wrote.script) script in
-    let start = start_of t in
-    let goal = wanted t wrote.image wrote.regions in
+    let u = asked t wrote.image wrote.regions wrote.m in
     record {
       image = wrote.image;
       regions = wrote.regions;
       m = wrote.m;
       accepted = wrote.accepted;
-      workable = subst (λ (x : List ℕ). IsWorkable wrote.m start x (goal x)) same built.work.workable;
-      planned = subst (λ (x : List ℕ). ArePlanned wrote.m start t.verify x (goal x) steps) same
-          (subst (λ (xs : List Step). ArePlanned wrote.m start t.verify wrote.content (goal wrote.content) xs) these built.work.planned);
-      told = subst (λ (x : List ℕ). report ≡ report_of t wrote.image wrote.regions wrote.m (planned_units wrote.m start x (goal x)) steps) same
-          (subst (λ (xs : List Step). report ≡ report_of t wrote.image wrote.regions wrote.m (planned_units wrote.m start wrote.content (goal wrote.content)) xs)
-          these built.work.told);
+      workable = subst (λ (x : List ℕ). CanBeDone (u x)) same built.work.workable;
+      planned = subst (λ (x : List ℕ). IsDoneBy (u x) steps) same (subst (IsDoneBy (u wrote.content)) these built.work.planned);
+      told = subst (λ (x : List ℕ). report ≡ report_of (u x) (ignored_of t wrote.image wrote.regions wrote.m) steps) same
+          (subst (λ (xs : List Step). report ≡ report_of (u wrote.content) (ignored_of t wrote.image wrote.regions wrote.m) xs) these built.work.told);
     }
 
 -- so where the reader had just the content and the writer nothing

@@ -1,7 +1,6 @@
 -- How work that was planned ends.
-use Rattle.std.proofs.Common.{◌≡◌, ℕ, true, List, ◌∷◌, Option, Result, Ok, Err, IfOk, IfErr, refl, sym, subst}
+use Rattle.std.proofs.Common.{◌≡◌, ℕ, true, List, Option, Result, Ok, Err, IfOk, IfErr, refl, sym, subst}
 use Rattle.nor_reader.specs.AtOnce.{at_once}
-use Rattle.nor_flasher.specs.Apart.{BreaksApart, chip_read}
 use Rattle.nor_flasher.specs.Laws.{Closes, Breaks}
 use Rattle.nor_job.specs.Status.{start_of}
 use Rattle.nor_reader.specs.declared.by.ReadBy.{ReadBy}
@@ -13,35 +12,32 @@ use Rattle.norprog_device.specs.declared.failure.Failure.TheVariants.{Carried}
 use Rattle.norprog_flash.specs.declared.ending.Ending.{Ending}
 use Rattle.norprog_flash.specs.declared.ending.Ending.TheVariants.{Failed}
 use Rattle.norprog_flash.specs.declared.job.Job.{Job}
-use Rattle.norprog_flash.specs.Begun.{HasPlanned, HasRead, Printed, printed}
+use Rattle.norprog_flash.specs.Begun.{HasPlanned, HasRead, Printed, Session, printed}
 use Rattle.norprog_flash.specs.Ended.{AllDone, EndsWork, Halted, IsCompared, IsPlanned, IsToDo, Missed, NotCarried, OnlyCompared, OnlyPlan, Planning}
 use Rattle.norprog_flash.specs.Stops.{CantPlan}
 use Rattle.norprog_common.specs.declared.faults.Refusal.{Refusal}
 use Rattle.norprog_read.specs.declared.asked.Reading.{Reading}
 use Rattle.norprog_flash.specs.Task.{task_on}
-use Rattle.norprog_flash.specs.Worked.{Cannot, FailedAt, Goes, GoesOn, MissedIt, Session, Worked, WorksOut, back_of}
+use Rattle.norprog_flash.specs.Worked.{Cannot, FailedAt, Goes, GoesOn, MissedIt, Worked, WorksOut, flashing}
 use Rattle.norprog_device.proofs.CarriedLemmas.{never_carried, never_misses}
 use Rattle.norprog_flash.proofs.PlannedLemmas.{every_flashes, every_keeps}
 use Rattle.norprog_flash.specs.Work.{Plan}
 
 module _ (close : Closes) (break : Breaks) (s : Session) (before read : Wire) (p : Plan) (out : Printed) (whole : s.job.ask.content ≡ true)
-    (aims : s.job.aim ≡ aim.Work) (planned : HasPlanned (at_once s.limits) s.job before read s.reading p out) where
+    (aims : s.job.aim ≡ aim.Work) (planned : HasPlanned s before read p out) where
   abbrev todo : IsToDo s before read p out
   todo = record { aim = aims; planned = planned }
 
   worked_ends : (last : Wire) (by : ReadBy) (ending : Ending) → GivesBy s.reading.meaning (start_of (task_on s.job s.reading)) by
-      → AreCarried s.limits p.steps → WorksOut s read last (back_of s.job by) p ending → EndsWork s before last out ending
+      → AreCarried s.limits p.steps → WorksOut s read last (flashing p by) ending → EndsWork s before last out ending
   worked_ends last by ending way carried (Worked worked) =
-      AllDone p read todo by way worked
-      (every_flashes (at_once s.limits) s.job before read s.reading p out planned whole close worked.done s.limits s.job.ask.turns worked.steps)
-  worked_ends last by ending way carried (FailedAt step why failed) =
-      Halted p read todo step why (never_carried s.reading.meaning s.limits s.job.ask.turns read last p.steps failed.halt why carried failed.halted failed.failed) failed
-      (subst (λ (n : ℕ). BreaksApart planned.read.read.ready planned.read.read.held read (chip_read s.reading.meaning (start_of (task_on s.job s.reading)) s.reading.content.items) p.goal p.steps n
-      (failed.halted.at ∷ failed.halted.beyond)) (sym failed.at)
-      (every_keeps (at_once s.limits) s.job before read s.reading p out planned whole break last s.limits s.job.ask.turns failed.halt failed.halted))
+      AllDone p read todo by way worked (every_flashes s before read p out planned whole close worked.done worked.steps)
+  worked_ends last by ending way carried (FailedAt halt why halted failed) =
+      Halted p read todo halt why (never_carried s.reading.meaning s.limits s.job.ask.turns read last p.steps halt why carried halted failed) halted failed
+      (every_keeps s before read p out planned whole break last halt halted)
   worked_ends last by ending way carried (MissedIt why missed) =
       Missed p read todo by why (never_misses missed.mismatch why missed.failed) way missed
-      (every_flashes (at_once s.limits) s.job before read s.reading p out planned whole close missed.worked.done s.limits s.job.ask.turns missed.worked.steps)
+      (every_flashes s before read p out planned whole close missed.worked.done missed.worked.steps)
 
   pub goes_ends : (last : Wire) (ending : Ending) → GoesOn s read last p ending → EndsWork s before last out ending
   goes_ends last ending (Goes by it way carried works) = worked_ends last by it way carried works

@@ -1,19 +1,12 @@
 -- Why a plan stopped.
-use Rattle.std.proofs.Common.{◌≡◌, ℕ, zero, suc, ◌+◌, ◌/◌, ◌≤◌, List, [], ◌∷◌, ◌++◌, length, take, drop, map, Option, refl, sym, ap, subst, ◌∙◌, arith, length-append}
-use Rattle.std.specs.Prelude.{flat_map}
-use Rattle.std.specs.Io.KnownBytes.{Appends}
+use Rattle.std.proofs.Common.{◌≡◌, ℕ, ◌+◌, ◌≤◌, List, [], ◌∷◌, ◌++◌, length, map, Option, refl, sym, ap, subst, ◌∙◌, arith, length-append}
 use Rattle.std.specs.List.{enumerate_from}
-use Rattle.std.proofs.Math.Nat.{div-mul-le_self, div-zero}
-use Rattle.std.proofs.lemmas.Grind.{flat_map-append}
-use Rattle.std.proofs.lemmas.List.{append-nil, append_assoc, map-append, take-append-drop}
-use Rattle.std.proofs.lemmas.Nat.{le-div}
+use Rattle.std.proofs.lemmas.List.{map-append}
 use Rattle.nor_base.specs.declared.meaning.Strategy.{Strategy}
 use Rattle.nor_base.specs.Device.{Ahead, Unknown, Finite, Endless, Gives}
-use Rattle.nor_base.specs.Need.{is_due, erased_at, levelled}
 use Rattle.nor_base.specs.Parameters.{Parameters}
 use Rattle.nor_base.specs.Strategies.{strategy}
 use Rattle.nor_base.specs.Target.{target, target_byte}
-use Rattle.nor_base.specs.Units.{pages, units, units_over, unit_by}
 use Rattle.nor_geometry.specs.declared.fault.PlanFault.TheVariants as plan
 use Rattle.nor_geometry.specs.Plan.{HasPart, IsLowestAt}
 use Rattle.nor_hex.specs.Image.{Pairs, byte_at}
@@ -23,15 +16,11 @@ use Rattle.nor_job.specs.Causes.{RefusesInputs}
 use Rattle.nor_job.specs.Status.{start_of}
 use Rattle.nor_job.specs.Task.{Task}
 use Rattle.nor_job.specs.Wanted.{wanted}
-use Rattle.nor_job.specs.Written.{of_writer}
 use Rattle.nor_layout.specs.Chosen.{is_chosen}
 use Rattle.nor_layout.specs.Region.{Region}
-use Rattle.nor_outline.specs.Outline.{unit_lines}
-use Rattle.nor_outline.specs.Told.{stretch_lines, AreBegun, AreLines}
 use Rattle.nor_base.specs.Wire.{wire}
-use Rattle.norprog.specs.Build.{WorkCause}
 use Rattle.norprog.specs.Plan.{StopsPlan}
-use Rattle.norprog.specs.PlanWindows.{TellsWindows}
+use Rattle.norprog.specs.Update.{asked, WorkCause}
 use Rattle.norprog.proofs.Content.Targets.{part_front}
 use Rattle.norprog_flash.specs.Refused.{late, IsCause, StopsPlanning}
 
@@ -64,27 +53,27 @@ module _ (t : Task) (image : Pairs) (regions : List Region) (m : Parameters) (xs
   abbrev goal : List ℕ
   goal = wanted t image regions (xs ++ ys)
 
-  cause_of : (len : ℕ) (after : Ahead) (why : BuildFault) → WorkCause t image regions m len xs after why
+  cause_of : (after : Ahead) (why : BuildFault) → WorkCause (asked t image regions m xs) after why
       → IsCause m (start_of t) (xs ++ ys) goal (late why)
-  cause_of len after (fault.Plan (plan.NoErase a)) is =
+  cause_of after (fault.Plan (plan.NoErase a)) is =
       let low = is (xs ++ ys) goal (part_front xs ys) (wanted_front t image regions xs ys) in
       (lower m (strategy m (start_of t)) (xs ++ ys) goal (length xs) (length (xs ++ ys)) a (omega (arith, length-append xs ys)) low.0, low.1)
-  cause_of len after (fault.Plan (plan.Unreachable a)) is =
+  cause_of after (fault.Plan (plan.Unreachable a)) is =
       let low = is (xs ++ ys) goal (part_front xs ys) (wanted_front t image regions xs ys) in
       (lower m (strategy m (start_of t)) (xs ++ ys) goal (length xs) (length (xs ++ ys)) a (omega (arith, length-append xs ys)) low.0, low.1)
-  cause_of len after (fault.Plan plan.Memory) is = absurd is
-  cause_of len after fault.Write is = tt
-  cause_of len after fault.Memory is = tt
-  cause_of len after fault.ContentShort is = tt
-  cause_of len after fault.Read is = tt
-  cause_of len after (fault.Contradiction number) is = tt
-  cause_of len after (fault.Hex why) is = tt
-  cause_of len after (fault.Layout why) is = tt
-  cause_of len after (fault.Sfdp why) is = tt
-  cause_of len after (fault.Sheet why) is = tt
-  cause_of len after (fault.Status number) is = tt
-  cause_of len after fault.ModeImpossible is = tt
-  cause_of len after fault.ContentSize is = tt
+  cause_of after (fault.Plan plan.Memory) is = absurd is
+  cause_of after fault.Write is = tt
+  cause_of after fault.Memory is = tt
+  cause_of after fault.ContentShort is = tt
+  cause_of after fault.Read is = tt
+  cause_of after (fault.Contradiction number) is = tt
+  cause_of after (fault.Hex why) is = tt
+  cause_of after (fault.Layout why) is = tt
+  cause_of after (fault.Sfdp why) is = tt
+  cause_of after (fault.Sheet why) is = tt
+  cause_of after (fault.Status number) is = tt
+  cause_of after fault.ModeImpossible is = tt
+  cause_of after fault.ContentSize is = tt
 
 -- a plan of a content in memory that stopped
 stops_planning : (t : Task) (content : List ℕ) (after : Ahead) (o p : Option (List ℕ)) (why : BuildFault)
@@ -97,7 +86,7 @@ stops_planning t content after o p why s =
       m = s.m;
       accepted = s.accepted;
       cause = subst (λ (xs : List ℕ). IsCause s.m (start_of t) xs (wanted t s.image s.regions xs) (late why)) (sym from.1)
-          (cause_of t s.image s.regions s.m s.part from.0 (length content) after why s.cause);
+          (cause_of t s.image s.regions s.m s.part from.0 after why s.cause);
     }
 
 -- inputs that are refused have no fault that is reported of a plan

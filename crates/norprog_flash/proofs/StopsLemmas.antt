@@ -32,7 +32,6 @@ use Rattle.norprog_flash.specs.Task.{blank_image, dump_of, imaged_task, task_on}
 use Rattle.norprog_read.specs.declared.asked.Reading.{Reading}
 use Rattle.norprog_read.specs.Chip.{GivesContent, HasReadChip, way_by}
 use Rattle.norprog_read.specs.Way.{first_by, first_of, Way}
-use Rattle.norprog_flash.specs.Refused.{RefusesWork}
 
 given_way : (w : Way) (before after : Wire) (wanted : Bool) (content : List ℕ) → wanted ≡ true → GivesContent w before after wanted content
     → GivesBy w.m w.start (first_of w)

@@ -1,20 +1,20 @@
 -- The work of the narrowed task is the work of the task.
-use Rattle.std.proofs.Common.{◌≡◌, ◌⊎◌, inl, inr, ℕ, ◌<◌, ◌^◌, List, [], ◌++◌, length, Option, Result, Ok, refl, sym, ap, subst, ◌∙◌, arith}
+use Rattle.std.proofs.Common.{◌≡◌, ◌⊎◌, inl, inr, ℕ, ◌<◌, ◌^◌, List, length, sym, ap, subst, ◌∙◌, arith}
 use Rattle.nor_base.specs.declared.step.Step.{Step}
 use Rattle.nor_base.specs.Parameters.{Parameters}
-use Rattle.nor_base.specs.Planned.{ArePlanned, IsWorkable, planned_units}
 use Rattle.nor_hex.specs.Image.{Pairs}
 use Rattle.nor_job.proofs.ChipLemmas.{one_chip}
 use Rattle.nor_job.specs.declared.fault.BuildFault.{BuildFault}
 use Rattle.nor_job.specs.declared.fault.BuildFault.TheVariants.{Memory}
-use Rattle.nor_job.specs.Causes.{AreAccepted, RefusesInputs}
+use Rattle.nor_job.specs.Causes.{AreAccepted}
 use Rattle.nor_job.specs.Status.{start_of}
 use Rattle.nor_job.specs.Task.{Task}
 use Rattle.nor_job.specs.Wanted.{wanted}
 use Rattle.nor_laws.specs.Laws.{TargetGives, TargetKeeps}
 use Rattle.nor_layout.specs.Region.{Region}
-use Rattle.norprog.specs.Build.{report_of}
+use Rattle.norprog.specs.Build.{ignored_of, report_of}
 use Rattle.norprog.specs.PlanWindows.{plan_text}
+use Rattle.norprog.specs.Update.{Update, update, asked, CanBeDone, IsDoneBy}
 use Rattle.norprog.specs.declared.report.Report.{Report}
 use Rattle.norprog_flash.specs.declared.goal.Goal.{Goal}
 use Rattle.norprog_flash.specs.Narrowed.{narrowed, SpansDifference}
@@ -75,32 +75,19 @@ module _ (keeps : TargetKeeps) (gives : TargetGives) (t : Task) (content old : L
   planning_refused why (inr memory) = subst (RefusesWork t content old) (sym memory) starved
 
   module _ (report : Report) (steps : List Step) (built : BuildsSteps (narrowed t narrow) content report steps) where
-    chip : built.m ≡ g.m
-    chip = same_chip built.image built.regions built.m built.accepted
+    abbrev goal_update : Update
+    goal_update = update g.m (start_of t) t.verify content goal.bytes.items
 
-    want : wanted (narrowed t narrow) built.image built.regions content ≡ goal.bytes.items
-    want = same_target built.image built.regions built.m built.accepted
+    same : asked (narrowed t narrow) built.image built.regions built.m content ≡ goal_update
+    same =
+        ap (λ (m : Parameters). update m (start_of t) t.verify content (wanted (narrowed t narrow) built.image built.regions content))
+        (same_chip built.image built.regions built.m built.accepted)
+        ∙ ap (update g.m (start_of t) t.verify content) (same_target built.image built.regions built.m built.accepted)
 
-    workable : IsWorkable g.m (start_of t) content goal.bytes.items
-    workable =
-        subst (λ (m : Parameters). IsWorkable m (start_of t) content goal.bytes.items) chip
-        (subst (λ (w : List ℕ). IsWorkable built.m (start_of t) content w) want built.workable)
-
-    planned : ArePlanned g.m (start_of t) t.verify content goal.bytes.items steps
-    planned =
-        subst (λ (m : Parameters). ArePlanned m (start_of t) t.verify content goal.bytes.items steps) chip
-        (subst (λ (w : List ℕ). ArePlanned built.m (start_of t) t.verify content w steps) want built.planned)
-
-    told : (r : Report) → r ≡ record report { ignored = goal.ignored }
-        → r ≡ report_of t g.image g.regions g.m (planned_units g.m (start_of t) content goal.bytes.items) steps
+    told : (r : Report) → r ≡ record report { ignored = goal.ignored } → r ≡ report_of goal_update (ignored_of t g.image g.regions g.m) steps
     told r is =
-        let start = start_of t in
-        let these : report ≡ report_of (narrowed t narrow) built.image built.regions g.m (planned_units g.m start content goal.bytes.items) steps =
-        subst (λ (m : Parameters). report ≡ report_of (narrowed t narrow) built.image built.regions m (planned_units m start content goal.bytes.items) steps) chip
-        (subst (λ (w : List ℕ). report ≡ report_of (narrowed t narrow) built.image built.regions built.m (planned_units built.m start content w) steps) want built.told) in
-        is
-        ∙ (ap (λ (x : Report). record x { ignored = goal.ignored }) these
-        ∙ ap (λ (n : ℕ). record (report_of t g.image g.regions g.m (planned_units g.m start content goal.bytes.items) steps) { ignored = n }) g.ignored)
+        is ∙ ap (λ (x : Report). record x { ignored = goal.ignored }) built.told ∙ ap (λ (u : Update). report_of u goal.ignored steps) same
+        ∙ ap (λ (n : ℕ). report_of goal_update n steps) g.ignored
 
     pub work_is : (lines : List ℕ) (r : Report) → r ≡ record report { ignored = goal.ignored } → HasLines (narrowed t narrow) content lines
         → IsWork t content old (record { goal = goal.bytes.items; steps = steps; lines = lines; report = r })
@@ -110,8 +97,8 @@ module _ (keeps : TargetKeeps) (gives : TargetGives) (t : Task) (content old : L
       m = g.m;
       accepted = here;
       goal_is = g.bytes;
-      workable = workable;
-      planned = planned;
+      workable = subst CanBeDone same built.workable;
+      planned = subst (λ (u : Update). IsDoneBy u steps) same built.planned;
       lines = lines_are lines has;
       report = told r is;
     }

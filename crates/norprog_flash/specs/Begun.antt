@@ -2,7 +2,9 @@
 use Rattle.std.specs.Prelude.{◌≡◌, ◌||◌, ℕ, Bool, false, not, List, length, Option, unwrap_or}
 use Rattle.std.specs.Io.KnownBytes.{Appends}
 use Rattle.nor_base.specs.declared.meaning.Start.{Start}
+use Rattle.nor_reader.specs.AtOnce.{at_once}
 use Rattle.nor_reader.specs.Status.{suits}
+use Rattle.nor_serprog.specs.declared.limits.Limits.{Limits}
 use Rattle.nor_sfdp.specs.Bits.{is_set}
 use Rattle.nor_base.specs.declared.meaning.Part.{Part}
 use Rattle.norprog_common.specs.declared.given.Aim.{Aim}
@@ -67,14 +69,23 @@ pub record PrintsPlan (job : Job) (r : Reading) (p : Plan) (out : Printed) : Typ
   pub kept : IsOfDump r.meaning r.content.items (unwrap_or (dump_of job) r.content.items) p.goal
   pub printed : Appends out.before out.after (work_text job r p)
 
+-- work on a chip that gave this, by a device that reported these limits
+pub record Session : Type 0 where
+  pub job : Job
+  pub limits : Limits
+  pub reading : Reading
+
+abbrev pub session : Job → Limits → Reading → Session
+session job limits r = record { job = job; limits = limits; reading = r }
+
 -- it was read, and nothing else was sent; and the work from what it holds to the target was planned and printed
-pub record HasPlanned (most : ℕ) (job : Job) (before after : Wire) (r : Reading) (p : Plan) (out : Printed) : Type 0 where
-  pub read : HasRead most job before after r
-  pub plan : PrintsPlan job r p out
+pub record HasPlanned (s : Session) (before after : Wire) (p : Plan) (out : Printed) : Type 0 where
+  pub read : HasRead (at_once s.limits) s.job before after s.reading
+  pub plan : PrintsPlan s.job s.reading p out
 
 -- so, whatever went over the wire and was printed meanwhile
-abbrev pub IsPlannedOn : ℕ → Job → Reading → Plan → Type 0
-IsPlannedOn most job r p = (before : Wire) × (after : Wire) × (out : Printed) × HasPlanned most job before after r p out
+abbrev pub IsPlannedOn : Session → Plan → Type 0
+IsPlannedOn s p = (before : Wire) × (after : Wire) × (out : Printed) × HasPlanned s before after p out
 
 -- a chip was read so that gave this
 abbrev pub IsReadOn : ℕ → Job → Reading → Type 0

@@ -1,22 +1,25 @@
 -- How work on the chip behind a device ends (this project's).
-use Rattle.std.specs.Prelude.{◌≡◌, ◌≢◌, ℕ, true, false, List, ◌∷◌, length, Ok}
+use Rattle.std.specs.Prelude.{◌≡◌, ◌≢◌, ℕ, List, ◌∷◌, length, Ok}
 use Rattle.nor_reader.specs.AtOnce.{at_once}
 use Rattle.nor_base.specs.declared.step.Step.{Step}
 use Rattle.nor_flasher.specs.Apart.{ClosesApart, BreaksApart, chip_read}
 use Rattle.nor_job.specs.Status.{start_of}
 use Rattle.nor_reader.specs.declared.by.ReadBy.{ReadBy}
 use Rattle.nor_reader.specs.Laws.{GivesBy}
+use Rattle.nor_serprog.specs.declared.halt.Halt.{Halt}
+use Rattle.nor_serprog.specs.Row.{HasHalted}
 use Rattle.nor_serprog.specs.Steps.{IsFirstNotCarried}
 use Rattle.norprog_common.specs.declared.given.Aim.TheVariants as aim
 use Rattle.nor_base.specs.Wire.{Wire}
 use Rattle.norprog_device.specs.declared.failure.Failure.{Failure}
 use Rattle.norprog_device.specs.declared.failure.Failure.TheVariants.{Carried}
+use Rattle.norprog_device.specs.Reported.{IsFailureAt}
 use Rattle.norprog_flash.specs.declared.ending.Ending.{Ending}
 use Rattle.norprog_flash.specs.declared.ending.Ending.TheVariants.{Planned, Compared, Done, Failed}
 use Rattle.norprog_flash.specs.declared.job.Job.{Job}
-use Rattle.norprog_flash.specs.Begun.{HasPlanned, HasRead, Printed, PrintsPlan}
+use Rattle.norprog_flash.specs.Begun.{HasPlanned, HasRead, Printed, PrintsPlan, Session}
 use Rattle.norprog_flash.specs.Task.{dump_of, goal_of, task_on}
-use Rattle.norprog_flash.specs.Worked.{HasFailedAt, HasMissed, HasWorked, Session, back_of}
+use Rattle.norprog_flash.specs.Worked.{flashing, HasMissed, HasWorked}
 use Rattle.norprog_read.specs.declared.asked.Reading.{Reading}
 use Rattle.norprog_flash.specs.declared.compared.Comparison.{Comparison}
 use Rattle.norprog_flash.specs.Compared.{IsComparison}
@@ -25,7 +28,7 @@ use Rattle.norprog_flash.specs.Work.{Plan}
 -- the chip was read and planned for, and the plan is to be carried out, from these bytes of the wire on
 pub record IsToDo (s : Session) (before read : Wire) (p : Plan) (out : Printed) : Type 0 where
   pub aim : s.job.aim ≡ aim.Work
-  pub planned : HasPlanned (at_once s.limits) s.job before read s.reading p out
+  pub planned : HasPlanned s before read p out
 
 -- what went over the wire as the content was read, and then in the work, is explained only by chips that end with the target of what
 -- they held, and by some chip
@@ -54,22 +57,22 @@ pub data IsCompared (job : Job) (r : Reading) : Ending → Type 0 where
 -- how the work on a chip ends, from its first reading on
 pub data EndsWork (s : Session) (before after : Wire) (out : Printed) : Ending → Type 0 where
   -- only the plan is wanted, and nothing was sent after the chip was read
-  OnlyPlan : (p : Plan) → s.job.aim ≡ aim.Plan → HasPlanned (at_once s.limits) s.job before after s.reading p out → EndsWork s before after out Planned
+  OnlyPlan : (p : Plan) → s.job.aim ≡ aim.Plan → HasPlanned s before after p out → EndsWork s before after out Planned
   -- it is only compared, and nothing was sent after it was read
   OnlyCompared : (ending : Ending) → s.job.aim ≡ aim.Compare → HasRead (at_once s.limits) s.job before after s.reading → out.after ≡ out.before
       → IsCompared s.job s.reading ending → EndsWork s before after out ending
   -- each step was done, and then the chip gave just what it must hold, and past its end what one that holds just this gives, unless it may be
   -- larger, by reads of no more bytes than the device gives at once
   AllDone : (p : Plan) (read : Wire) (todo : IsToDo s before read p out) (by : ReadBy)
-      → GivesBy s.reading.meaning (start_of (task_on s.job s.reading)) by → (worked : HasWorked s read after (back_of s.job by) p (Ok tt))
+      → GivesBy s.reading.meaning (start_of (task_on s.job s.reading)) by → (worked : HasWorked s read after (flashing p by) (Ok tt))
       → EveryChipFlashes todo worked.done → EndsWork s before after out (Done (length p.steps))
   -- a step can't be done by this device: nothing was sent after the chip was read
   NotCarried : (p : Plan) (step : ℕ) → IsToDo s before after p out → IsFirstNotCarried s.limits p.steps step → EndsWork s before after out (Failed step Carried)
   -- the device halted at a step
-  Halted : (p : Plan) (read : Wire) (todo : IsToDo s before read p out) (step : ℕ) (why : Failure) → why ≢ Carried
-      → (failed : HasFailedAt s read after p.steps step why) → EveryChipKeeps todo step (failed.halted.at ∷ failed.halted.beyond)
-      → EndsWork s before after out (Failed step why)
+  Halted : (p : Plan) (read : Wire) (todo : IsToDo s before read p out) (halt : Halt) (why : Failure) → why ≢ Carried
+      → (halted : HasHalted read after s.limits s.job.ask.turns p.steps halt) → IsFailureAt s.reading.meaning p.steps halt why
+      → EveryChipKeeps todo halt.step (halted.at ∷ halted.beyond) → EndsWork s before after out (Failed halt.step why)
   -- each step was done, but then the chip didn't give what it must hold
   Missed : (p : Plan) (read : Wire) (todo : IsToDo s before read p out) (by : ReadBy) (why : Failure) → why ≢ Carried
-      → GivesBy s.reading.meaning (start_of (task_on s.job s.reading)) by → (missed : HasMissed s read after (back_of s.job by) p why)
+      → GivesBy s.reading.meaning (start_of (task_on s.job s.reading)) by → (missed : HasMissed s read after (flashing p by) why)
       → EveryChipFlashes todo missed.worked.done → EndsWork s before after out (Failed (length p.steps) why)

@@ -1,12 +1,12 @@
 -- What is written of how work on a chip ends (this project's).
-use Rattle.std.specs.Prelude.{ℕ, ◌/◌, ◌%◌, Bool, true, false, if◌then◌else◌, List, [], ◌++◌, codes, decimal}
+use Rattle.std.specs.Prelude.{ℕ, Bool, true, false, if◌then◌else◌, List, [], ◌++◌, codes, decimal}
 use Rattle.nor_base.specs.declared.meaning.Part.{Part}
-use Rattle.nor_base.specs.declared.meaning.Part.TheVariants.{Generic, W25q256jv}
 use Rattle.nor_base.specs.Script.{hex_pair}
 use Rattle.nor_script.specs.Hexadecimal.{hex_number}
 use Rattle.norprog_device.specs.declared.failure.Failure.{Failure}
 use Rattle.norprog_device.specs.declared.failure.Failure.TheVariants.{Carried}
 use Rattle.norprog_device.specs.FailureLine.{failure_line}
+use Rattle.norprog_device.specs.Shown.{status_line}
 use Rattle.norprog_flash.specs.declared.ending.Ending.{Ending}
 use Rattle.norprog_flash.specs.declared.ending.Ending.TheVariants.{Planned, Compared, Done, Failed}
 use Rattle.norprog_flash.specs.declared.compared.Comparison.{Comparison}
@@ -28,9 +28,7 @@ ending_line (Failed step why) = failure_line step why
 
 -- a status by which a chip can't take the work
 abbrev pub closed_line : Part → ℕ → List ℕ
-closed_line Generic status = codes "unlike status " ++ (hex_pair (status % 256) ++ codes "\n")
-closed_line W25q256jv status =
-    codes "unlike status " ++ (hex_pair (status / 65536 % 256) ++ (hex_pair (status / 256 % 256) ++ (hex_pair (status % 256) ++ codes "\n")))
+closed_line = status_line (codes "unlike status ")
 
 -- a step that failed so was sent
 abbrev pub is_sent : Failure → Bool

@@ -11,9 +11,8 @@ use Rattle.norprog_flash.specs.declared.ending.Ending.{Ending}
 use Rattle.norprog_flash.specs.declared.ending.Unflashed.{Unflashed}
 use Rattle.norprog_flash.specs.declared.ending.Unflashed.TheVariants.{Device}
 use Rattle.norprog_flash.specs.declared.job.Job.{Job}
-use Rattle.norprog_flash.specs.Begun.{HasRead, Printed}
+use Rattle.norprog_flash.specs.Begun.{HasRead, Printed, Session}
 use Rattle.norprog_flash.specs.Ended.{EndsWork}
-use Rattle.norprog_flash.specs.Worked.{session}
 use Rattle.norprog_flash.specs.Stops.{StopsBefore}
 use Rattle.norprog_read.specs.declared.asked.Reading.{Reading}
 
@@ -34,7 +33,7 @@ pub data StopsHolding (limits : Limits) (job : Job) (before after : Wire) : Unfl
       → SendsHarmless ready.held after.held → StopsHolding limits job before after why
 
 -- the line was tested, and then the work on a chip that gave this ended so
-pub record EndsTested (limits : Limits) (job : Job) (before after : Wire) (out : Printed) (r : Reading) (ending : Ending) : Type 0 where
+pub record EndsTested (s : Session) (before after : Wire) (out : Printed) (ending : Ending) : Type 0 where
   pub ready : Wire
-  pub tested : Tests limits before ready (Ok tt)
-  pub ends : EndsWork (session job limits r) ready after out ending
+  pub tested : Tests s.limits before ready (Ok tt)
+  pub ends : EndsWork s ready after out ending

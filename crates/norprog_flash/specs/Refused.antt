@@ -1,5 +1,5 @@
 -- Why there is no planned work (this project's).
-use Rattle.std.specs.Prelude.{◌≡◌, ◌⊎◌, ⊤, ℕ, List, length}
+use Rattle.std.specs.Prelude.{◌⊎◌, ⊤, ℕ, List, length}
 use Rattle.nor_base.specs.declared.meaning.Start.{Start}
 use Rattle.nor_base.specs.Parameters.{Parameters}
 use Rattle.nor_base.specs.Strategies.{strategy}

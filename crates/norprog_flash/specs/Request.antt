@@ -15,6 +15,7 @@ use Rattle.norprog_read.specs.Request as read
 abbrev pub read_args : FlashArgs → ReadArgs
 read_args given = record {
   chip = given.chip;
+  page = given.page;
   mode4 = given.mode4;
   device = given.device;
   limit = given.limit;

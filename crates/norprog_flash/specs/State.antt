@@ -16,6 +16,7 @@ name_text name.Uniform = codes "uniform"
 name_text name.Sheet = codes "sheet"
 name_text name.Bits = codes "bits"
 name_text name.Part = codes "part"
+name_text name.Page = codes "page"
 name_text name.Mode4 = codes "mode4"
 name_text name.Device = codes "device"
 name_text name.Limit = codes "limit"
@@ -67,6 +68,7 @@ next_options given = concat (
     ∷ valued name.Sheet (option_map (λ t. t.now) given.chip.sheet) []
     ∷ valued name.Bits (option_map (λ t. t.now) given.chip.bits) []
     ∷ valued name.Part (option_map (λ t. t.now) given.chip.part) []
+    ∷ valued name.Page (option_map (λ t. t.now) given.page) []
     ∷ flagged name.Mode4 given.mode4
     ∷ valued name.Device (option_map (λ t. t.now) given.device) []
     ∷ valued name.Limit (option_map (λ t. t.now) given.limit) []

@@ -36,6 +36,7 @@ imaged_task job tables image = record {
   base = job.base;
   verify = true;
   erased_only = job.ask.erased_only;
+  page = job.ask.page;
 }
 
 -- its task, on a chip of so many bytes

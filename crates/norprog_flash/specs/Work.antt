@@ -1,18 +1,16 @@
 -- The planned work from what a chip holds to what it must hold (this project's).
-use Rattle.std.specs.Prelude.{◌≡◌, ◌<◌, ◌^◌, ℕ, List, length, count_by}
+use Rattle.std.specs.Prelude.{◌≡◌, ◌<◌, ◌^◌, ℕ, List, length}
 use Rattle.nor_base.specs.declared.step.Step.{Step}
 use Rattle.nor_base.specs.Parameters.{Parameters}
-use Rattle.nor_base.specs.Planned.{ArePlanned, IsWorkable, planned_units}
-use Rattle.nor_base.specs.Target.{is_ignored}
 use Rattle.nor_hex.specs.Image.{Pairs}
 use Rattle.nor_job.specs.Causes.{AreAccepted}
 use Rattle.nor_job.specs.Status.{start_of}
 use Rattle.nor_job.specs.Task.{Task}
 use Rattle.nor_job.specs.Wanted.{wanted}
-use Rattle.nor_layout.specs.Chosen.{is_chosen}
 use Rattle.nor_layout.specs.Region.{Region}
-use Rattle.norprog.specs.Build.{report_of}
+use Rattle.norprog.specs.Build.{ignored_of, report_of}
 use Rattle.norprog.specs.PlanWindows.{plan_text}
+use Rattle.norprog.specs.Update.{update, asked, CanBeDone, IsDoneBy}
 use Rattle.norprog.specs.declared.report.Report.{Report}
 use Rattle.norprog_flash.specs.declared.goal.Goal.{Goal}
 use Rattle.norprog_flash.specs.declared.planned.Work.{Work}
@@ -27,7 +25,7 @@ pub record IsGoal (t : Task) (old : List ℕ) (goal : Goal) : Type 0 where
   pub size : length goal.bytes.items ≡ length old
   pub few : length old < 2 ^ 32
   pub given : goal.given ≡ length image
-  pub ignored : goal.ignored ≡ count_by (λ pair. is_ignored t.base (is_chosen regions t.regions) m.size pair.0) image
+  pub ignored : goal.ignored ≡ ignored_of t image regions m
 
 -- the lines of the plan of a content, which can be worked on
 pub record HasLines (t : Task) (content lines : List ℕ) : Type 0 where
@@ -43,9 +41,9 @@ pub record BuildsSteps (t : Task) (content : List ℕ) (report : Report) (steps 
   pub regions : List Region
   pub m : Parameters
   pub accepted : AreAccepted t (length content) image regions m
-  pub workable : IsWorkable m (start_of t) content (wanted t image regions content)
-  pub planned : ArePlanned m (start_of t) t.verify content (wanted t image regions content) steps
-  pub told : report ≡ report_of t image regions m (planned_units m (start_of t) content (wanted t image regions content)) steps
+  pub workable : CanBeDone (asked t image regions m content)
+  pub planned : IsDoneBy (asked t image regions m content) steps
+  pub told : report ≡ report_of (asked t image regions m content) (ignored_of t image regions m) steps
 
 -- what is planned: what the chip must hold, the steps, and the lines and the report of the plan
 pub record Plan : Type 0 where
@@ -65,7 +63,7 @@ pub record IsWork (t : Task) (content old : List ℕ) (p : Plan) : Type 0 where
   pub m : Parameters
   pub accepted : AreAccepted t (length content) image regions m
   pub goal_is : p.goal ≡ wanted t image regions old
-  pub workable : IsWorkable m (start_of t) content p.goal
-  pub planned : ArePlanned m (start_of t) t.verify content p.goal p.steps
+  pub workable : CanBeDone (update m (start_of t) t.verify content p.goal)
+  pub planned : IsDoneBy (update m (start_of t) t.verify content p.goal) p.steps
   pub lines : p.lines ≡ plan_text m (start_of t) content p.goal
-  pub report : p.report ≡ report_of t image regions m (planned_units m (start_of t) content p.goal) p.steps
+  pub report : p.report ≡ report_of (update m (start_of t) t.verify content p.goal) (ignored_of t image regions m) p.steps

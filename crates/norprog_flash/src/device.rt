@@ -1,17 +1,17 @@
 //! Work on a chip that was read, and whose content is saved.
 
-ghost use Rattle.std.specs.Prelude.{◌≡◌, true};
+ghost use Rattle.std.specs.Prelude.{◌≡◌, false, true};
 ghost use Rattle.std.specs.Prelude.{IfOk, IfErr, List, Option, ℕ};
 ghost use Rattle.nor_job.specs.Status.{start_of};
 ghost use Rattle.nor_reader.specs.AtOnce.{at_once};
 ghost use Rattle.nor_reader.specs.Laws.{GivesBy};
-ghost use Rattle.norprog_flash.specs.Begun.{HasRead, IsPlannedOn, IsReadOn, printed};
+ghost use Rattle.norprog_flash.specs.Begun.{HasRead, IsPlannedOn, IsReadOn, printed, session};
 ghost use Rattle.norprog_flash.specs.Ended.{EndsWork, IsCompared, IsPlanned};
 ghost use Rattle.norprog_common.specs.declared.given.Aim.TheVariants as aim;
 ghost use Rattle.norprog_flash.specs.Stops.{CantPlan};
 ghost use Rattle.norprog_flash.specs.Task.{task_on};
 ghost use Rattle.nor_base.specs.Wire.{Wire, wire};
-ghost use Rattle.norprog_flash.specs.Worked.{GoesOn, session};
+ghost use Rattle.norprog_flash.specs.Worked.{GoesOn};
 ghost use Rattle.norprog_flash.specs.Work.{plan_of};
 
 use crate::begun::{Held, print_plan};
@@ -21,13 +21,17 @@ use crate::ending::Ending;
 use crate::job::{Job, inputs_for};
 use crate::planned::Work;
 use crate::work::do_work;
-use nor_base::{ByteIn, ByteOut};
+use nor_base::{ByteIn, ByteOut, Meaning, put_all};
 use nor_flasher::{breaks, closes, doable};
 use nor_serprog::{Limits, carried};
 use norprog_common::{Aim, Refusal};
 use norprog_device::Failure;
 use norprog_read::Reading;
 use std::alloc::Global;
+
+/// What is told where the page is open.
+const PAGE_TOLD: &[u8] =
+    b"its page may be larger than its tables say: with the data sheet's, --page N, it is quicker\n";
 
 /// Plans for a chip that was read, and prints the plan. Then, where the work is wanted, it has the
 /// device do that and read the chip back. How far it is goes to `progress`. Or it only compares.
@@ -91,7 +95,17 @@ fn work_through<R: ByteIn, W: ByteOut, O: ByteOut, P: ByteOut>(
     closes();
     breaks();
     let work = print_plan(alloc, job, &held.reading, out)?;
+    tell_page(&held.reading.meaning, progress);
     Ok(work_on(from, to, limits, job, held, &work, progress))
+}
+
+/// Tells that the page of the data sheet makes the work quicker, where the tables leave it open.
+fn tell_page<P: ByteOut>(meaning: &Meaning, progress: &mut P)
+    ensures { meaning.now.open_page ≡ false → progress.new ≡ progress.old }
+{
+    if meaning.open_page {
+        let _ = put_all(progress, PAGE_TOLD);
+    }
 }
 
 /// Plans for a chip that was read, and prints the plan.
@@ -136,7 +150,7 @@ fn work_on<R: ByteIn, W: ByteOut, P: ByteOut>(
     work: &Work,
     progress: &mut P,
 ) -> Ending
-    requires planned { IsPlannedOn (at_once limits.now) job.now held.now.reading
+    requires planned { IsPlannedOn (session job.now limits.now held.now.reading)
         (plan_of work.now) }
     requires way { GivesBy held.now.reading.meaning
         (start_of (task_on job.now held.now.reading)) held.now.by }

@@ -70,6 +70,7 @@ pub(crate) fn inputs_for<'a>(
         base: job.base,
         verify: true,
         erased_only: job.ask.erased_only,
+        page: job.ask.page,
     }
 }
 

@@ -1,7 +1,6 @@
 //! What is written of how work on a chip ends.
 
 ghost use Rattle.nor_base.specs.Device.{Counts, Writes};
-ghost use Rattle.nor_base.specs.declared.meaning.Part.TheVariants.{Generic, W25q256jv};
 ghost use Rattle.norprog_flash.specs.Line.{closed_line, comparison_line, ending_line};
 ghost use Rattle.norprog_flash.specs.declared.compared.Comparison.TheVariants.{Differs};
 
@@ -10,7 +9,7 @@ use crate::ending::Ending;
 use itoa::Buffer;
 use nor_base::{ByteOut, Failed, Part, put_parts};
 use nor_script::{hex_number, hex_pair};
-use norprog_device::write_failure;
+use norprog_device::{write_failure, write_status};
 
 /// Writes the line of an ending, closed by LF: `ok N` with the number of steps, or why one wasn't
 /// done, as [`write_failure`] does; `same N`, or in two lines what differs; of a plan nothing. It
@@ -92,39 +91,5 @@ pub fn write_closed<W: ByteOut>(part: Part, status: u32, writer: &mut W) -> Resu
         (closed_line part status) }
     ensures count { Counts (W.count writer.old) (W.count writer.new) result }
 {
-    match part {
-        Part::Generic => write_status(status, writer),
-        Part::W25q256jv => write_registers(status, writer),
-    }
-}
-
-/// Writes `unlike status` and S7 to S0.
-fn write_status<W: ByteOut>(status: u32, writer: &mut W) -> Result<(), Failed>
-    ensures bytes { Writes (W.held writer.old) (W.held writer.new) result
-        (closed_line Generic status) }
-    ensures count { Counts (W.count writer.old) (W.count writer.new) result }
-{
-    let low = (status % 256) as u8;
-    put_parts(writer, &[b"unlike status ", &hex_pair(low), b"\n"])
-}
-
-/// Writes `unlike status` and S23 to S0.
-fn write_registers<W: ByteOut>(status: u32, writer: &mut W) -> Result<(), Failed>
-    ensures bytes { Writes (W.held writer.old) (W.held writer.new) result
-        (closed_line W25q256jv status) }
-    ensures count { Counts (W.count writer.old) (W.count writer.new) result }
-{
-    let high = (status / 65536 % 256) as u8;
-    let middle = (status / 256 % 256) as u8;
-    let low = (status % 256) as u8;
-    put_parts(
-        writer,
-        &[
-            b"unlike status ",
-            &hex_pair(high),
-            &hex_pair(middle),
-            &hex_pair(low),
-            b"\n",
-        ],
-    )
+    write_status(b"unlike status ", part, status, writer)
 }

@@ -41,6 +41,7 @@ pub(crate) fn narrowed<'a>(inputs: &'a Inputs<'_>, image: &'a Image) -> Inputs<'
         base: 0,
         verify: inputs.verify,
         erased_only: inputs.erased_only,
+        page: inputs.page,
     }
 }
 

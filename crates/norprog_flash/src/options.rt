@@ -21,6 +21,7 @@ pub(crate) enum Name {
     Sheet,
     Bits,
     Part,
+    Page,
     Mode4,
     Device,
     Limit,
@@ -109,7 +110,7 @@ fn command_word(blank: bool) -> &'static [u8]
 }
 
 /// Its options.
-fn options<'a>(given: &'a FlashArgs<'a>) -> [Given<'a>; 24]
+fn options<'a>(given: &'a FlashArgs<'a>) -> [Given<'a>; 25]
     ensures { flat_map given_text result ≡ next_options given.now }
 {
     [
@@ -118,6 +119,7 @@ fn options<'a>(given: &'a FlashArgs<'a>) -> [Given<'a>; 24]
         Given::Text(Name::Sheet, given.chip.sheet),
         Given::Text(Name::Bits, given.chip.bits),
         Given::Text(Name::Part, given.chip.part),
+        Given::Text(Name::Page, given.page),
         Given::Flag(Name::Mode4, given.mode4),
         Given::Text(Name::Device, given.device),
         Given::Text(Name::Limit, given.limit),
@@ -251,6 +253,7 @@ fn name_text(name: Name) -> &'static [u8]
         Name::Sheet => b"sheet",
         Name::Bits => b"bits",
         Name::Part => b"part",
+        Name::Page => b"page",
         Name::Mode4 => b"mode4",
         Name::Device => b"device",
         Name::Limit => b"limit",

@@ -104,6 +104,7 @@ fn read_args<'a>(given: &FlashArgs<'a>) -> ReadArgs<'a>
 {
     ReadArgs {
         chip: given.chip,
+        page: given.page,
         mode4: given.mode4,
         device: given.device,
         limit: given.limit,

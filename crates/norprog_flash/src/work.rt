@@ -3,8 +3,10 @@
 ghost use Rattle.std.specs.Prelude.{◌≤◌, ◌^◌, All, length};
 ghost use Rattle.nor_serprog.specs.Done.{IsDoable};
 ghost use Rattle.nor_base.specs.Wire.{wire};
-ghost use Rattle.norprog_flash.specs.Worked.{ReadsBack, WorksOut, back_of, session};
+ghost use Rattle.norprog_flash.specs.Begun.{session};
+ghost use Rattle.norprog_flash.specs.Worked.{ReadsBack, WorksOut, flashing};
 ghost use Rattle.norprog_flash.specs.Work.{plan_of};
+ghost use Rattle.norprog_read.specs.End.{past};
 
 use crate::begun::Held;
 use crate::ending::Ending;
@@ -40,7 +42,7 @@ pub(crate) fn do_work<R: ByteIn, W: ByteOut, P: ByteOut>(
     requires size { length work.now.goal.items ≤ 2 ^ 32 }
     ensures ends { WorksOut (session job.now limits.now held.now.reading)
         (wire (W.held to.old) (R.ahead from.old)) (wire (W.held to.new) (R.ahead from.new))
-        (back_of job.now held.now.by) (plan_of work.now) result }
+        (flashing (plan_of work.now) held.now.by) result }
 {
     let steps = work.steps.as_slice();
     if let Err(halt) = do_steps(from, to, limits, job.ask.turns, steps, progress) {
@@ -76,8 +78,8 @@ fn read_back<R: ByteIn, W: ByteOut, P: ByteOut>(
     progress: &mut P,
 ) -> Result<(), Mismatch>
     requires size { length bytes.now ≤ 2 ^ 32 }
-    ensures back { ReadsBack limits.now.asked (wire (W.held to.old) (R.ahead from.old))
-        (wire (W.held to.new) (R.ahead from.new)) result back bytes.now }
+    ensures back { ReadsBack (past limits.now.asked back.by bytes.now) back.larger
+        (wire (W.held to.old) (R.ahead from.old)) (wire (W.held to.new) (R.ahead from.new)) result }
 {
     read_again(from, to, limits, back.by, bytes, Pass::Last, progress)?;
     if back.larger {

@@ -14,6 +14,7 @@ use Rattle.nor_base.specs.Target.{target, target_byte}
 use Rattle.nor_check.specs.declared.verdict.Verdict.TheVariants.{Yes, No}
 use Rattle.nor_check.specs.declared.verdict.Why.TheVariants as why
 use Rattle.nor_check.specs.Outcome.{differs, first_difference, at_difference, ended, outcome_from, outcome}
+use Rattle.nor_check.specs.Outcome.{trial}
 use Rattle.nor_check.specs.Worst.{IsWorst}
 use Rattle.nor_hex.specs.Image.{Pairs, byte_at}
 use Rattle.nor_job.proofs.ChipLemmas.{one_chip}
@@ -93,6 +94,6 @@ built_is_checked one t len before after rest x y found wrote tells checked =
     (image_same t.image t.hex checked.image wrote.image named.imaged.spelled own.imaged.spelled)
     (regions_same t.layout checked.regions wrote.regions named.layout own.layout) in
     built_is_right one t len before after x y wrote checked.steps found.verdict checked.script
-    (subst (λ (wish : List ℕ). IsWorst wrote.m start wrote.content wish checked.steps found.verdict) goal
-    (subst (λ (holds : List ℕ). IsWorst wrote.m start holds (wanted t checked.image checked.regions holds) checked.steps found.verdict) content
-    (subst (λ (n : Parameters). IsWorst n start checked.content (wanted t checked.image checked.regions checked.content) checked.steps found.verdict) m checked.worst)))
+    (subst (λ (wish : List ℕ). IsWorst (trial wrote.m start wrote.content wish checked.steps) found.verdict) goal
+    (subst (λ (holds : List ℕ). IsWorst (trial wrote.m start holds (wanted t checked.image checked.regions holds) checked.steps) found.verdict) content
+    (subst (λ (n : Parameters). IsWorst (trial n start checked.content (wanted t checked.image checked.regions checked.content) checked.steps) found.verdict) m checked.worst)))

@@ -66,8 +66,8 @@ below k n limit i low = elim (cases_lt i k) [
 
 pub no_is_replayed : BoundedIsRun → NoIsReplayed
 unfolding outcome_from
-no_is_replayed bounded m start have want steps step cause n page limit many keeps w low enough =
-    let s = even_chip m start many n keeps page in
-    let is = bounded s limit (ready s have) steps (record { left = omega arith; to_come = λ i. below many n limit i low }) in
-    subst (λ r. ShowsSo cause step (length steps) want (at_end s (length steps) r)) (sym is)
-    (run_so s want (length steps) (run s (ready s have) steps) step cause (w.shows many enough))
+no_is_replayed bounded t step cause e limit many w low enough =
+    let s = even_chip t.m t.start many e in
+    let is = bounded s limit (ready s t.have) t.steps (record { left = omega arith; to_come = λ i. below many e.each_busy limit i low }) in
+    subst (λ r. ShowsSo cause step (length t.steps) t.want (at_end s (length t.steps) r)) (sym is)
+    (run_so s t.want (length t.steps) (run s (ready s t.have) t.steps) step cause (w.shows many enough))

@@ -9,7 +9,8 @@ use Rattle.nor_check.specs.declared.verdict.Verdict.{Verdict as Judged}
 use Rattle.nor_check.specs.declared.verdict.Verdict.TheVariants.{No}
 use Rattle.nor_check.specs.declared.verdict.Why.{Why}
 use Rattle.nor_check.specs.declared.verdict.Why.TheVariants as why
-use Rattle.nor_check.specs.Witness.{even_chip}
+use Rattle.nor_check.specs.Outcome.{trial}
+use Rattle.nor_check.specs.Witness.{even_chip, even}
 use Rattle.nor_chip.specs.Busy.{most_times, times_of}
 use Rattle.nor_chip.specs.declared.busy.BusyTimes.{BusyTimes}
 use Rattle.nor_job.specs.Status.{start_of}
@@ -19,7 +20,7 @@ use Rattle.nor_laws.specs.Laws.{OneList}
 use Rattle.nor_play.specs.Play.{play}
 use Rattle.norprog_laws.specs.Replay.{NoIsReplayed, ShowsSo}
 use Rattle.norprog_check.specs.declared.finding.ShowingChip.{ShowingChip}
-use Rattle.norprog_check.specs.Checked.{IsShownOn, ShowsNo, trial}
+use Rattle.norprog_check.specs.Checked.{IsShownOn, ShowsNo}
 use Rattle.norprog_run.specs.declared.request.ChipBehaviour.{ChipBehaviour}
 use Rattle.norprog_run.specs.declared.verdict.Verdict.{Verdict}
 use Rattle.norprog_run.specs.declared.verdict.Verdict.TheVariants.{Done, Wrong}
@@ -38,7 +39,7 @@ says_so s c d limit step steps want (why.Differs a) (Wrong at because) shows end
 
 -- the chip of the options is the one that was found
 same_chip : (u : Task) (m : Parameters) (start : Start) (chip : ShowingChip) (bench : ChipBehaviour) → IsBenchOf chip bench → start_of u ≡ start
-    → setting_of u bench m ≡ even_chip m start most_times chip.each_busy chip.keep (unwrap_or chip.page m.page)
+    → setting_of u bench m ≡ even_chip m start most_times (even chip.each_busy chip.keep (unwrap_or chip.page m.page))
 same_chip u m start chip bench is starts =
     ap (λ (s : Start). record { meaning = m; start = s; page = unwrap_or bench.page m.page; busy = times_of bench.busy; keeps = bench.keep }) starts
     ∙ ap (λ (p : Option ℕ). record { meaning = m; start = start; page = unwrap_or p m.page; busy = times_of bench.busy; keeps = bench.keep }) is.page
@@ -60,9 +61,9 @@ no_is_run one replays t u len text before after rest found step cause chip bench
     let steps : ran.steps ≡ checked.steps = one text ran.steps checked.steps ran.may.script checked.script in
     let content : ran.content ≡ have = given_same before rest after ran.content have tells ran.given checked.given (ran.whole ∙ sym checked.whole) in
     let shows = found_shows m start have want checked.steps found.verdict found.chip step cause chip is some checked.shown in
-    let s = even_chip m start most_times chip.each_busy chip.keep (unwrap_or chip.page m.page) in
+    let s = even_chip m start most_times (even chip.each_busy chip.keep (unwrap_or chip.page m.page)) in
     let shown : ShowsSo cause step (length checked.steps) want (play s bench.limit (ready s have) checked.steps) =
-    replays m start have want checked.steps step cause chip.each_busy (unwrap_or chip.page m.page) bench.limit most_times chip.keep shows.shows of.limit
+    replays (trial m start have want checked.steps) step cause (even chip.each_busy chip.keep (unwrap_or chip.page m.page)) bench.limit most_times shows.shows of.limit
     (subst (λ (xs : List Step). length xs ≤ most_times) steps few) in
     let ends : EndsSo (run_of s (ready s have) bench.limit) checked.steps verdict ran.chip =
     subst (λ (xs : List Step). EndsSo (run_of s (ready s have) bench.limit) xs verdict ran.chip) steps

@@ -5,6 +5,7 @@ use Rattle.nor_base.specs.Device.{Ahead, Unknown, Finite, Endless}
 use Rattle.nor_base.specs.Script.{IsScript}
 use Rattle.nor_check.specs.declared.verdict.Verdict.{Verdict}
 use Rattle.nor_check.specs.declared.verdict.Verdict.TheVariants.{Yes}
+use Rattle.nor_check.specs.Outcome.{trial}
 use Rattle.nor_check.specs.Worst.{IsWorst}
 use Rattle.nor_job.specs.Status.{start_of}
 use Rattle.nor_job.specs.Task.{Task}
@@ -18,7 +19,7 @@ use Rattle.norprog_check.specs.Checked.{IsChecked, checking}
 abbrev pub BuiltIsRight : Type 0
 BuiltIsRight = (t : Task) (len : ℕ) (before after : Ahead) (x y : Option (List ℕ))
     → (wrote : WroteScript t len (wire x before) (wire y after)) → (steps : List Step) (v : Verdict) → IsScript wrote.text steps
-    → IsWorst wrote.m (start_of t) wrote.content (wanted t wrote.image wrote.regions wrote.content) steps v → v ≡ Yes
+    → IsWorst (trial wrote.m (start_of t) wrote.content (wanted t wrote.image wrote.regions wrote.content) steps) v → v ≡ Yes
 
 -- the reader tells its bytes
 abbrev pub Tells : Ahead → Type 0

@@ -17,7 +17,7 @@ use Rattle.nor_hex.specs.Image.{address_of, base_after, base_in, byte_at, Puts}
 use Rattle.nor_hex.specs.Record.{Record, record_of}
 use Rattle.nor_hex.specs.Records.{line_records}
 use Rattle.nor_job.specs.Causes.{LayoutSays}
-use Rattle.nor_job.specs.Chip.{ChipSays, uniform_says}
+use Rattle.nor_job.specs.Chip.{ChipSays, paged, uniform_says}
 use Rattle.nor_job.specs.Status.{start_of, status_fault}
 use Rattle.nor_job.specs.Task.{Task, Uniform, contradiction}
 use Rattle.nor_job.specs.Wanted.{wanted}
@@ -162,6 +162,7 @@ plain size = record {
   base = 0;
   verify = false;
   erased_only = false;
+  page = None;
 }
 
 -- bits 0, 1, 15 and 3 of a status; bits 9 and 16; the four contradictions; sizes; the page where only its least is known
@@ -181,6 +182,8 @@ pub record AreStates : Type 0 where
   pub consistent : contradiction (plain 8192) ≡ None
   pub says : ChipSays (plain 8192) (uniform_of 8192)
   pub says_erased : ChipSays (record (plain 8192) { erased_only = true }) (record (uniform_of 8192) { erased_only = true })
+  pub says_page : paged (Some 512) (record (uniform_of 8192) { page = 64; open_page = true }) ≡ Some (record (uniform_of 8192) { page = 512 })
+  pub no_page : paged (Some 512) (uniform_of 8192) ≡ None
   pub no_size : uniform_says 8193 ≡ Err sfdp.Density
   pub page : map (may_page (uniform_of 8192)) (128 ∷ 256 ∷ 512 ∷ []) ≡ false ∷ true ∷ false ∷ []
   pub open_page :

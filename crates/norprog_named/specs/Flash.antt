@@ -13,7 +13,7 @@ use Rattle.norprog_device.specs.Opened.{LetsGo}
 use Rattle.norprog_device.specs.declared.fault.DeviceFault.TheVariants.{Greet}
 use Rattle.nor_base.specs.Wire.{Wire}
 use Rattle.norprog_files.specs.Files.{Event, Denied, Denies, Given, StopsOpening, Unwired, Wired}
-use Rattle.norprog_flash.specs.Begun.{Printed}
+use Rattle.norprog_flash.specs.Begun.{session, Printed}
 use Rattle.norprog_flash.specs.Blame.{fault_in}
 use Rattle.norprog_flash.specs.Early.{IsSoundEarly, RefusesEarly}
 use Rattle.norprog_flash.specs.Opened.{EndsTested, HasHeld, StopsHolding}
@@ -95,6 +95,7 @@ reading_of r = record {
   chip = r.read.chip;
   bits = r.read.bits;
   part = r.read.part;
+  page = r.read.page;
   mode4 = r.read.mode4;
   device = r.read.device;
   limit = r.read.limit;
@@ -132,7 +133,7 @@ pub data EndsHeld (limits : Limits) (name : List ℕ) (job : Job) (begun done : 
   where
     -- what the chip held is saved, and then the work on it ended so
     Ended : (r : Reading) (saved : List Event) (ending : Ending) → SavesIf (file_for job name) file.Before r.content.items saved (Ok tt)
-        → EndsTested limits job begun done out r ending → EndsHeld limits name job begun done out saved (Ok ending)
+        → EndsTested (session job limits r) begun done out ending → EndsHeld limits name job begun done out saved (Ok ending)
     -- the chip isn't read, or can't take the work
     NotHeld : (why : Unflashed) → StopsHolding limits job begun done why → out.after ≡ out.before
         → EndsHeld limits name job begun done out [] (Err why)

@@ -194,6 +194,7 @@ fn job_for<'a>(request: &'a FlashRequest<'_>, texts: &'a FlashTexts) -> Job<'a>
             known: asked.known,
             bits: asked.bits,
             part: asked.part,
+            page: asked.page,
             mode4: asked.mode4,
             turns: asked.turns,
             content: asked.content,

@@ -76,6 +76,7 @@ pub record IsJobIn (found : Found) (given : Given) : Type 0 where
   pub quad : Sets found (codes "quad") given.quad
   pub verify : Sets found (codes "verify") given.verify
   pub erased_only : Sets found (codes "erased-only") given.erased_only
+  pub page : Has found (codes "page") (option_map (λ t. t.now) given.page)
   pub strict : Sets found (codes "strict") given.strict
   pub whole : Sets found (codes "whole") given.whole
   pub regions : given.regions.items ≡ texts_of found (codes "names")
@@ -123,12 +124,14 @@ pub record IsPlayIn (found : Found) (given : PlayArgs) : Type 0 where
   pub setup : IsSetupIn found given.setup
   pub content : Has found (codes "content") (option_map (λ t. t.now) given.content)
   pub script : Has found (codes "script") (option_map (λ t. t.now) given.script)
+  pub page : Has found (codes "page") (option_map (λ t. t.now) given.page)
   pub device : Has found (codes "device") (option_map (λ t. t.now) given.device)
   pub limit : Has found (codes "limit") (option_map (λ t. t.now) given.limit)
   pub trust : Sets found (codes "trust") given.trust
 
 pub record IsReadIn (found : Found) (given : ReadArgs) : Type 0 where
   pub chip : IsChipIn found given.chip
+  pub page : Has found (codes "page") (option_map (λ t. t.now) given.page)
   pub mode4 : Sets found (codes "mode4") given.mode4
   pub device : Has found (codes "device") (option_map (λ t. t.now) given.device)
   pub limit : Has found (codes "limit") (option_map (λ t. t.now) given.limit)
@@ -148,6 +151,7 @@ AimsIn found aim.Compare = ⊤
 
 pub record IsFlashIn (found : Found) (given : FlashArgs) : Type 0 where
   pub chip : IsChipIn found given.chip
+  pub page : Has found (codes "page") (option_map (λ t. t.now) given.page)
   pub mode4 : Sets found (codes "mode4") given.mode4
   pub device : Has found (codes "device") (option_map (λ t. t.now) given.device)
   pub limit : Has found (codes "limit") (option_map (λ t. t.now) given.limit)

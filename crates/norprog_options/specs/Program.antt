@@ -48,8 +48,8 @@ image_rules = flag (codes "strict") ∷ flag (codes "partial") ∷ flag (codes "
 -- the device that the chip is behind, and how that is read
 abbrev pub device : List Rule
 device =
-    flag (codes "mode4") ∷ needed (codes "device") ∷ optional (codes "limit") ∷ flag (codes "raw") ∷ flag (codes "fresh") ∷ flag (codes "any-size")
-    ∷ flag (codes "repeats") ∷ optional (codes "expect-id") ∷ []
+    flag (codes "mode4") ∷ optional (codes "page") ∷ needed (codes "device") ∷ optional (codes "limit") ∷ flag (codes "raw") ∷ flag (codes "fresh")
+    ∷ flag (codes "any-size") ∷ flag (codes "repeats") ∷ optional (codes "expect-id") ∷ []
 
 -- how work on it is done
 abbrev pub work : List Rule
@@ -60,9 +60,9 @@ work =
 abbrev pub chip : List Rule
 chip = optional (codes "sfdp") ∷ optional (codes "uniform") ∷ optional (codes "sheet") ∷ optional (codes "bits") ∷ optional (codes "part") ∷ []
 
--- the file of what the chip holds
+-- the file of what the chip holds, and its page
 abbrev pub content : List Rule
-content = needed (codes "content") ∷ []
+content = needed (codes "content") ∷ optional (codes "page") ∷ []
 
 -- the options of the chip's state when the script begins
 abbrev pub start : List Rule
@@ -71,7 +71,7 @@ start = optional (codes "status") ∷ flag (codes "mode4") ∷ flag (codes "quad
 -- the options of the chip in memory
 abbrev pub behaviour : List Rule
 behaviour =
-    optional (codes "busy") ∷ optional (codes "each-busy") ∷ flag (codes "keep") ∷ optional (codes "limit") ∷ optional (codes "page") ∷ []
+    optional (codes "busy") ∷ optional (codes "each-busy") ∷ flag (codes "keep") ∷ optional (codes "limit") ∷ []
 
 -- whether the script reads back what it writes
 abbrev pub verify : List Rule

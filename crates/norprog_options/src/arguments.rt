@@ -226,7 +226,8 @@ const PAGE: Choice = Choice {
     name: "page",
     takes: Takes::Value("N"),
     required: false,
-    help: "The number of bytes of the chip's page, decimal [default: what the chip's tables say]",
+    help: "How many bytes the chip's page has, decimal, from its data sheet, where its tables \
+        leave that open [default: the least that they allow]",
 };
 
 const READ_BACK: Choice = Choice {
@@ -530,7 +531,7 @@ const IMAGE: &[Choice] = &[HEX, IMAGE_BIN, LAYOUT, BASE, REGIONS];
 const RULES: &[Choice] = &[STRICT, PARTIAL, BEYOND];
 
 const BEHIND: &[Choice] = &[
-    MODE4, DEVICE, LIMIT, RAW, FRESH, ANY_SIZE, REPEATS, EXPECT_ID,
+    MODE4, PAGE, DEVICE, LIMIT, RAW, FRESH, ANY_SIZE, REPEATS, EXPECT_ID,
 ];
 
 const WORK: &[Choice] = &[ERASED_ONLY, BEFORE, RESUME, DRY_RUN, LIST];
@@ -539,11 +540,11 @@ const ERASED: &[Choice] = &[LAYOUT, ERASED_REGIONS];
 
 const CHIP: &[Choice] = &[SFDP, UNIFORM, SHEET, BITS, PART];
 
-const CONTENT: &[Choice] = &[CONTENT_FILE];
+const CONTENT: &[Choice] = &[CONTENT_FILE, PAGE];
 
 const START: &[Choice] = &[STATUS, MODE4, QUAD, ERASED_ONLY];
 
-const BENCH: &[Choice] = &[BUSY, EACH_BUSY, KEEP, LIMIT, PAGE];
+const BENCH: &[Choice] = &[BUSY, EACH_BUSY, KEEP, LIMIT];
 
 const VERIFY: &[Choice] = &[READ_BACK];
 

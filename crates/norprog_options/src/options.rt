@@ -260,6 +260,7 @@ fn given_in<'a>(alloc: Global, job: &ArgMatches<'a>) -> Result<Given<'a>, Refusa
         content: job.get_str("content"),
         verify: job.get_flag("verify"),
         erased_only: job.get_flag("erased-only"),
+        page: job.get_str("page"),
         strict: job.get_flag("strict"),
         whole: job.get_flag("whole"),
         regions: texts_in(alloc, job, "names")?,
@@ -417,6 +418,7 @@ fn read_in<'a>(read: &ArgMatches<'a>) -> ReadArgs<'a>
 {
     ReadArgs {
         chip: chip_in(read),
+        page: read.get_str("page"),
         mode4: read.get_flag("mode4"),
         device: read.get_str("device"),
         limit: read.get_str("limit"),
@@ -457,6 +459,7 @@ fn flash_in<'a>(
 {
     Ok(FlashArgs {
         chip: chip_in(flash),
+        page: flash.get_str("page"),
         mode4: flash.get_flag("mode4"),
         device: flash.get_str("device"),
         limit: flash.get_str("limit"),
@@ -490,6 +493,7 @@ fn play_in<'a>(play: &ArgMatches<'a>) -> PlayArgs<'a>
         setup: setup_in(play),
         content: play.get_str("content"),
         script: play.get_str("script"),
+        page: play.get_str("page"),
         device: play.get_str("device"),
         limit: play.get_str("limit"),
         trust: play.get_flag("trust"),

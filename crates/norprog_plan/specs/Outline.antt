@@ -18,7 +18,7 @@ use Rattle.nor_times.specs.Times.{times_of}
 use Rattle.nor_times.specs.Busy.{busy_of}
 use Rattle.nor_times.specs.Bus.{bus_of}
 use Rattle.nor_times.specs.Text.{times_text}
-use Rattle.norprog.specs.Planner.{IsPlanned}
+use Rattle.norprog.specs.Planner.{told_plan, IsPlanned}
 use Rattle.norprog.specs.Report.{report_text}
 use Rattle.norprog.specs.declared.report.Report.{Report}
 use Rattle.norprog_plan.specs.declared.outline.Shows.{Shows}
@@ -75,7 +75,7 @@ pub record IsOutline (shows : Shows) (t : Task) (len : ℕ) (content : Ahead) (o
   pub after : Ahead
   pub lines : List PlanLine
   pub report : Report
-  pub planned : IsPlanned t len content after lines report
+  pub planned : IsPlanned t len content after (told_plan lines report)
   pub text : o.lines ≡ lines_text lines
   pub ends : EndsWith shows.regions t len (behind_lines shows.times report t planned.m lines) o.rest
   pub picture : IsPicture shows.picture t planned.m lines o.picture

@@ -12,7 +12,7 @@ use Rattle.nor_outline.specs.declared.line.PlanLine.{PlanLine}
 use Rattle.nor_times.specs.Bus.{is_work}
 use Rattle.nor_times.specs.Timing.{timing_of}
 use Rattle.nor_times.specs.declared.times.Times.{Times}
-use Rattle.norprog.specs.Planner.{Planning, IsReady, HasTold, IsPlanned}
+use Rattle.norprog.specs.Planner.{Planning, IsReady, HasTold, told_plan, IsPlanned}
 use Rattle.norprog.specs.declared.report.Report.{Report}
 use Rattle.norprog_plan.specs.declared.sums.Sums.{Sums}
 
@@ -51,6 +51,6 @@ pub record PrintsAll (p q : Planning) (begun done : Sums) (by : Passed) : Type 0
 -- the lines of the plan of whatever inputs the job is of were printed and added up, and this is its report
 pub record PrintsLines (job : Job) (begun done : Sums) (by : Passed) (report : Report) : Type 0 where
   pub lines : List PlanLine
-  pub planned : (t : Task) (len : ℕ) → IsJob t len job → IsPlanned t len by.ahead by.rest lines report
+  pub planned : (t : Task) (len : ℕ) → IsJob t len job → IsPlanned t len by.ahead by.rest (told_plan lines report)
   pub put : Appends by.begun by.ended (lines_text lines)
   pub sums : GrewBy job begun done lines

@@ -10,10 +10,11 @@ use Rattle.nor_loop.proofs.DeviceLemmas.{logged_none, logged_both}
 use Rattle.nor_loop.specs.Log.{HasLogged}
 use Rattle.nor_reader.specs.declared.by.ReadBy.{ReadBy}
 use Rattle.nor_reader.specs.Part.{AllCame}
+use Rattle.nor_reader.specs.Reads.{Chunk}
 use Rattle.nor_base.specs.Wire.{Wire}
 use Rattle.norprog_player.specs.declared.access.Access.{Access}
 use Rattle.norprog_player.specs.Access.{way_at}
-use Rattle.norprog_player.specs.Compared.{comparison, ops_by, range_ops, AreInOrder, Comparison, HasCompared, HasComparedTo, IsOneSided, IsOneSidedPiece, LiesIn, LiesInOne, Range, ReadsAt, StopsComparing}
+use Rattle.norprog_player.specs.Compared.{chunk_in, comparison, ops_by, range_ops, AreInOrder, Comparison, HasCompared, HasComparedTo, IsOneSided, IsOneSidedPiece, LiesIn, LiesInOne, Range, ReadsAt, StopsComparing}
 use Rattle.nor_cells.specs.Marks.{IsMarked, IsNextMarked, AreMarkedFrom}
 
 -- one range more
@@ -92,9 +93,9 @@ reads_more u v w c r some few sided wanted so_far read =
     }
 
 -- bytes that came were read by these operations
-all_came : (v w : Wire) (way : Option ReadBy) (at : ℕ) (want : List ℕ) → ReadsAt way at want v w (Ok tt) → HasLogged v w (ops_by way at want)
-all_came v w None at want same = subst (λ (x : Wire). HasLogged v x []) (sym same.1) (logged_none v.held v.ahead)
-all_came v w (Some by) at want (AllCame read) = read
+all_came : (v w : Wire) (way : Option ReadBy) (want : Chunk) → ReadsAt way want v w (Ok tt) → HasLogged v w (ops_by way want)
+all_came v w None want same = subst (λ (x : Wire). HasLogged v x []) (sym same.1) (logged_none v.held v.ahead)
+all_came v w (Some by) want (AllCame read) = read
 
 abbrev piece_of : ℕ → ℕ → Range
 piece_of start len = record { start = start; len = len }
@@ -106,16 +107,16 @@ module _ (limits : Limits) (access : Access) (content : List ℕ) (marks : List 
   -- the next piece of marked addresses
   pub piece_more : (u v w : Wire) (done start upto len : ℕ) → IsNextMarked marks done start → AreMarkedFrom marks start limits.asked upto → 0 < len
       → len ≤ upto → IsOneSidedPiece start len → HasComparedTo u v marked done
-      → ReadsAt (way_at access start) start (slice_range content start (start + len)) v w (Ok tt) → HasComparedTo u w marked (start + len)
+      → ReadsAt (way_at access start) (chunk_in content (piece_of start len)) v w (Ok tt) → HasComparedTo u w marked (start + len)
   piece_more u v w done start upto len next from some few sided so_far read =
       reads_more u v w marked (piece_of start len) some (omega (arith, few, from.few)) sided
       (λ k past below. from.each k past (omega (arith, below, few)))
-      (reaches u v marked done start next.past next.none_before so_far) (all_came v w (way_at access start) start (slice_range content start (start + len)) read)
+      (reaches u v marked done start next.past next.none_before so_far) (all_came v w (way_at access start) (chunk_in content (piece_of start len)) read)
 
   -- its read ended so
   pub piece_stopped : (u v w : Wire) (done start upto len : ℕ) (why : Mismatch) → start + len ≤ length content → IsNextMarked marks done start
       → AreMarkedFrom marks start limits.asked upto → 0 < len → len ≤ upto → IsOneSidedPiece start len → HasComparedTo u v marked done
-      → ReadsAt (way_at access start) start (slice_range content start (start + len)) v w (Err why) → StopsComparing u w marked why
+      → ReadsAt (way_at access start) (chunk_in content (piece_of start len)) v w (Err why) → StopsComparing u w marked why
   piece_stopped u v w done start upto len why within next from some few sided so_far stop = record {
     last = piece_of start len;
     some = some;

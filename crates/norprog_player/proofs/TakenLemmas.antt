@@ -13,6 +13,7 @@ use Rattle.nor_base.specs.Effect.{effect}
 use Rattle.nor_base.specs.Run.{Stop, Halt, poll_clocks, says_busy, is_verify, done, matched, halt_on, poll_or_halt, polled_for, step_for, play_on, played, trail, DoesTaskOnEvery}
 use Rattle.nor_check.specs.declared.verdict.Verdict.TheVariants.{No as Says}
 use Rattle.nor_check.specs.declared.verdict.Why.{Why}
+use Rattle.nor_check.specs.Outcome.{trial}
 use Rattle.nor_check.specs.Worst.{IsWorst}
 use Rattle.nor_play.specs.Play.{at_end, play, EndsPlay, Plays}
 use Rattle.nor_play.specs.declared.fault.PlayFault.{PlayFault}
@@ -122,16 +123,16 @@ well before after s content left steps count is ends holds every = (
 )
 
 pub other : (before after : Shown) (s : Setting) (content left : List ℕ) (steps : List Step) (count at : ℕ) (why : Why) → before ≡ ready_chip s content
-    → EndsPlay before after 1 steps count → left ≡ after.chip.array → IsWorst s.meaning s.start content left steps (Says at why)
+    → EndsPlay before after 1 steps count → left ≡ after.chip.array → IsWorst (trial s.meaning s.start content left steps) (Says at why)
     → Rehearses s (ready s content) steps (rehearsal.No at why)
 other before after s content left steps count at why is ends holds worst = record {
   left = after.chip;
   ends = subst (λ (b : Shown). play b.setting 1 b.chip steps ≡ Ok after.chip) is ends.ends;
-  worst = subst (λ (l : List ℕ). IsWorst s.meaning s.start content l steps (Says at why)) holds worst;
+  worst = subst (λ (l : List ℕ). IsWorst (trial s.meaning s.start content l steps) (Says at why)) holds worst;
 }
 
 pub wrong_at : (before after : Shown) (s : Setting) (content : List ℕ) (steps : List Step) (at : ℕ) (why : Wrong) (f : PlayFault) → before ≡ ready_chip s content
     → f ≡ fault.Wrong at why → Plays before after 1 steps (Err f) → (d : Chip) × (play s 1 (ready s content) steps ≡ Err (record { at = at; why = why; chip = d }))
 wrong_at before after s content steps at why f is told plays =
     let stops = subst (λ (k : PlayFault). Plays before after 1 steps (Err k)) told plays in
-    (after.chip, subst (λ (b : Shown). play b.setting 1 b.chip steps ≡ Err (record { at = at; why = why; chip = after.chip })) is stops.stops)
+    (after.chip, subst (λ (b : Shown). play b.setting 1 b.chip steps ≡ Err (record { at = at; why = why; chip = after.chip })) is stops.1)

@@ -6,6 +6,7 @@ use Rattle.nor_loop.specs.Log.{Operation, HasLogged}
 use Rattle.nor_reader.specs.declared.by.ReadBy.{ReadBy}
 use Rattle.nor_reader.specs.declared.difference.Mismatch.{Mismatch}
 use Rattle.nor_reader.specs.Part.{ReadsPart, part_ops}
+use Rattle.nor_reader.specs.Reads.{chunk, Chunk}
 use Rattle.nor_serprog.specs.declared.limits.Limits.{Limits}
 use Rattle.norprog_player.specs.declared.access.Access.{Access}
 use Rattle.norprog_player.specs.Access.{way_at}
@@ -36,16 +37,16 @@ AreInOrder most low high [] = low ≤ high
 AreInOrder most low high (r ∷ rs) = (low ≤ r.start) × (0 < r.len) × (r.len ≤ most) × IsOneSided r × AreInOrder most (r.start + r.len) high rs
 
 -- the bytes of a content in a range
-abbrev pub bytes_in : List ℕ → Range → List ℕ
-bytes_in content r = slice_range content r.start (r.start + r.len)
+abbrev pub chunk_in : List ℕ → Range → Chunk
+chunk_in content r = chunk r.start (slice_range content r.start (r.start + r.len))
 
 -- what reads bytes from an address on, in one way; nothing where there is none
-abbrev pub ops_by : Option ReadBy → ℕ → List ℕ → List Operation
-ops_by None at bytes = []
-ops_by (Some by) at bytes = part_ops by at bytes
+abbrev pub ops_by : Option ReadBy → Chunk → List Operation
+ops_by None part = []
+ops_by (Some by) part = part_ops by part
 
 abbrev pub range_ops : Access → List ℕ → Range → List Operation
-range_ops access content r = ops_by (way_at access r.start) r.start (bytes_in content r)
+range_ops access content r = ops_by (way_at access r.start) (chunk_in content r)
 
 -- what of a chip is compared with a content: the bytes at these addresses, by these instructions, no more at once than the device gives
 pub record Comparison : Type 1 where
@@ -73,9 +74,9 @@ abbrev pub HasCompared : Wire → Wire → Comparison → Type 0
 HasCompared before after c = HasComparedTo before after c (length c.content)
 
 -- what the read of bytes that are wanted says, in that way
-abbrev pub ReadsAt : Option ReadBy → ℕ → List ℕ → Wire → Wire → Result (Unit {0}) Mismatch → Type 0
-ReadsAt None at want before after result = (result ≡ Ok tt) × (after ≡ before)
-ReadsAt (Some by) at want before after result = ReadsPart by at want before after result
+abbrev pub ReadsAt : Option ReadBy → Chunk → Wire → Wire → Result (Unit {0}) Mismatch → Type 0
+ReadsAt None want before after result = (result ≡ Ok tt) × (after ≡ before)
+ReadsAt (Some by) want before after result = ReadsPart by want before after result
 
 -- those before this range were compared, and its own read ended so
 pub record StopsComparing (before after : Wire) (c : Comparison) (why : Mismatch) : Type 0 where
@@ -87,4 +88,4 @@ pub record StopsComparing (before after : Wire) (c : Comparison) (why : Mismatch
   pub wanted : (a : ℕ) → LiesIn last a → c.Wanted a
   pub between : Wire
   pub compared : HasComparedTo before between c last.start
-  pub stop : ReadsAt (way_at c.access last.start) last.start (bytes_in c.content last) between after (Err why)
+  pub stop : ReadsAt (way_at c.access last.start) (chunk_in c.content last) between after (Err why)

@@ -39,7 +39,7 @@ first limits c =
 
 abbrev pub again : Limits → Course → Comparison
 again limits c =
-    comparison limits (access_of c.meaning.now c.expected.start) c.left.now (IsReadBack c.meaning.now c.expected.start c.content.now c.steps.now c.left.now)
+    comparison limits (access_of c.meaning.now c.expected.start) c.left.now (IsReadBack (IsCompared c.meaning.now c.expected.start c.content.now c.steps.now) c.left.now)
 
 -- each step is an operation of the device; the chip was asked and compared, unless it is trusted
 pub record Begins (limits : Limits) (c : Course) (before between : Wire) : Type 0 where

@@ -5,6 +5,7 @@ use Rattle.nor_reader.specs.declared.by.ReadBy.{ReadBy}
 use Rattle.nor_reader.specs.declared.by.ReadBy.TheVariants.{Content}
 use Rattle.nor_reader.specs.declared.difference.Mismatch.{Mismatch}
 use Rattle.nor_reader.specs.Past.{ReadsPast}
+use Rattle.nor_reader.specs.Reads.{reads}
 use Rattle.norprog_player.specs.declared.access.Access.{Access}
 use Rattle.norprog_player.specs.declared.access.Access.TheVariants.{Four}
 use Rattle.norprog_player.specs.Compared.{Comparison, HasCompared, StopsComparing}
@@ -18,7 +19,7 @@ past_by access = Content false
 pub record ComparesPast (before after : Wire) (c : Comparison) (result : Result (Unit {0}) Mismatch) : Type 0 where
   pub between : Wire
   pub compared : HasCompared before between c
-  pub past : ReadsPast c.limits.asked between after result (past_by c.access) c.content
+  pub past : ReadsPast (reads c.limits.asked (past_by c.access)) between after result c.content
 
 -- both came; or one of the readings stopped so
 abbrev pub ComparesWhole : Wire → Wire → Comparison → Result (Unit {0}) Mismatch → Type 0

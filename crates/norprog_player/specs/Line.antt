@@ -1,5 +1,5 @@
 -- The line that tells how a script ends on a device (this project's).
-use Rattle.std.specs.Prelude.{ℕ, ◌/◌, ◌%◌, Bool, true, false, List, ◌++◌, codes, decimal}
+use Rattle.std.specs.Prelude.{ℕ, Bool, true, false, List, ◌++◌, codes, decimal}
 use Rattle.nor_base.specs.Script.{closed}
 use Rattle.nor_serprog.specs.declared.fault.Fault.{Fault}
 use Rattle.nor_base.specs.Script.{hex_pair}
@@ -11,7 +11,9 @@ use Rattle.nor_check.specs.declared.verdict.Verdict.TheVariants.{No as Says}
 use Rattle.norprog_check.specs.Line.{verdict_text}
 use Rattle.norprog_common.specs.Wrongs.{wrong_number}
 use Rattle.norprog_device.specs.Line.{fault_word}
-use Rattle.norprog_device.specs.FailureLine.{failure_line, other_line, wrong_line}
+use Rattle.norprog_device.specs.FailureLine.{failure_line, wrong_line}
+use Rattle.norprog_device.specs.Shown.{other_line, status_line}
+use Rattle.nor_base.specs.declared.meaning.Part.TheVariants.{Generic, W25q256jv}
 use Rattle.norprog_player.specs.declared.ending.Ending.{Ending}
 use Rattle.norprog_player.specs.declared.ending.Ending.TheVariants.{Done, Wrong, No, Unlike, Failed}
 
@@ -23,20 +25,12 @@ abbrev pub mismatch_line : List ℕ → List ℕ → Mismatch → List ℕ
 mismatch_line front last (mismatch.Exchange why) = exchange_line why
 mismatch_line front last (mismatch.Differs d) = other_line front last d
 
--- `unlike status` and S7 to S0, and LF; or S23 to S0
-abbrev pub status_line : ℕ → List ℕ
-status_line status = codes "unlike status " ++ (hex_pair (status % 256) ++ codes "\n")
-
-abbrev pub registers_line : ℕ → List ℕ
-registers_line status =
-    codes "unlike status " ++ (hex_pair (status / 65536 % 256) ++ (hex_pair (status / 256 % 256) ++ (hex_pair (status % 256) ++ codes "\n")))
-
 -- why the chip isn't known to be the one that is expected
 abbrev pub unlike_line : Unlikeness → List ℕ
 unlike_line unlike.Busy = codes "unlike busy\n"
 unlike_line (unlike.Asking why) = exchange_line why
-unlike_line (unlike.Status status) = status_line status
-unlike_line (unlike.Registers status) = registers_line status
+unlike_line (unlike.Status status) = status_line (codes "unlike status ") Generic status
+unlike_line (unlike.Registers status) = status_line (codes "unlike status ") W25q256jv status
 unlike_line (unlike.Tables why) = mismatch_line (codes "unlike tables at ") (codes " file ") why
 unlike_line (unlike.Moved value) = codes "unlike register " ++ (hex_pair value ++ codes "\n")
 unlike_line (unlike.Content why) = mismatch_line (codes "unlike differs at ") (codes " dump ") why

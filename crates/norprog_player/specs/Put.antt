@@ -34,7 +34,7 @@ AreAnswered before (x ∷ xs) put after =
 
 -- what a device is to do for steps on a chip like that one: each is one that a device does
 pub data ArePut (shown : Shown) (steps : List Step) : List Step → Type 0 where
-  -- the steps themselves
+  -- the steps themselves: what they send, they don't sample, so every chip does the same (`MayPlay.same`)
   Themselves : All IsDoable steps → ArePut shown steps steps
   -- some sample what they don't expect: that is to be what the chip in memory gives
   Answered : (put : List Step) (after : Shown) → AreAnswered shown steps put after → All IsDoable put → ArePut shown steps put

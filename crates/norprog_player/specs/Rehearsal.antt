@@ -5,6 +5,7 @@ use Rattle.nor_base.specs.Chip.{Setting, Chip}
 use Rattle.nor_base.specs.Run.{DoesTaskOnEvery, trail}
 use Rattle.nor_check.specs.declared.verdict.Verdict.TheVariants.{No as Says}
 use Rattle.nor_check.specs.declared.verdict.Why.{Why}
+use Rattle.nor_check.specs.Outcome.{trial}
 use Rattle.nor_check.specs.Worst.{IsWorst}
 use Rattle.nor_play.specs.Play.{play}
 use Rattle.norprog_player.specs.declared.rehearsal.Rehearsal.{Rehearsal}
@@ -20,7 +21,7 @@ pub record DoesSame (s : Setting) (c : Chip) (steps : List Step) : Type 0 where
 pub record DoesOther (s : Setting) (c : Chip) (steps : List Step) (at : ℕ) (why : Why) : Type 0 where
   pub left : Chip
   pub ends : play s 1 c steps ≡ Ok left
-  pub worst : IsWorst s.meaning s.start c.array left.array steps (Says at why)
+  pub worst : IsWorst (trial s.meaning s.start c.array left.array steps) (Says at why)
 
 -- how the steps go on a chip in memory and, where that is well, on every chip
 abbrev pub Rehearses : Setting → Chip → List Step → Rehearsal → Type 0

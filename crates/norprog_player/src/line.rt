@@ -1,20 +1,22 @@
 //! The line that tells how a script ends on a device.
 
 ghost use Rattle.nor_base.specs.Device.{Writes, Counts};
-ghost use Rattle.norprog_device.specs.FailureLine.{other_line};
 ghost use Rattle.norprog_player.specs.Line.{done_line, ending_line, exchange_line, mismatch_line};
-ghost use Rattle.norprog_player.specs.Line.{registers_line, status_line, unlike_line};
+ghost use Rattle.norprog_player.specs.Line.{unlike_line};
 
 use crate::ending::{Ending, Unlike};
 use itoa::Buffer;
-use nor_base::{ByteOut, Failed, put_all, put_parts};
+use nor_base::{ByteOut, Failed, Part, put_all, put_parts};
 use nor_check::Verdict;
-use nor_reader::{Difference, Mismatch};
-use nor_script::{hex_number, hex_pair};
+use nor_reader::Mismatch;
+use nor_script::hex_pair;
 use nor_serprog::Fault;
 use norprog_check::write_verdict;
 use norprog_common::wrong_number;
-use norprog_device::{word, write_failure, write_wrong};
+use norprog_device::{word, write_difference, write_failure, write_status, write_wrong};
+
+/// What comes before a status.
+const STATUS: &[u8] = b"unlike status ";
 
 /// Writes the line of an ending (docs/FORMATS.md, section 14), closed by LF, with counts in
 /// decimal, addresses in eight and bytes in two lower-case hexadecimal digits. It takes no memory.
@@ -61,8 +63,8 @@ fn write_unlike<W: ByteOut>(why: Unlike, writer: &mut W) -> Result<(), Failed>
     match why {
         Unlike::Busy => put_all(writer, b"unlike busy\n"),
         Unlike::Asking(fault) => write_exchange(fault, writer),
-        Unlike::Status(status) => write_status(status, writer),
-        Unlike::Registers(status) => write_registers(status, writer),
+        Unlike::Status(status) => write_status(STATUS, Part::Generic, status, writer),
+        Unlike::Registers(status) => write_status(STATUS, Part::W25q256jv, status, writer),
         Unlike::Tables(why) => write_mismatch(b"unlike tables at ", b" file ", why, writer),
         Unlike::Moved(value) => {
             put_parts(writer, &[b"unlike register ", &hex_pair(value), b"\n"])
@@ -77,35 +79,6 @@ fn write_exchange<W: ByteOut>(fault: Fault, writer: &mut W) -> Result<(), Failed
     ensures count { Counts (W.count writer.old) (W.count writer.new) result }
 {
     put_parts(writer, &[b"unlike ", word(fault), b"\n"])
-}
-
-/// Writes `unlike status` and S7 to S0.
-fn write_status<W: ByteOut>(status: u32, writer: &mut W) -> Result<(), Failed>
-    ensures bytes { Writes (W.held writer.old) (W.held writer.new) result (status_line status) }
-    ensures count { Counts (W.count writer.old) (W.count writer.new) result }
-{
-    let low = (status % 256) as u8;
-    put_parts(writer, &[b"unlike status ", &hex_pair(low), b"\n"])
-}
-
-/// Writes `unlike status` and S23 to S0.
-fn write_registers<W: ByteOut>(status: u32, writer: &mut W) -> Result<(), Failed>
-    ensures bytes { Writes (W.held writer.old) (W.held writer.new) result (registers_line status) }
-    ensures count { Counts (W.count writer.old) (W.count writer.new) result }
-{
-    let high = (status / 65536 % 256) as u8;
-    let middle = (status / 256 % 256) as u8;
-    let low = (status % 256) as u8;
-    put_parts(
-        writer,
-        &[
-            b"unlike status ",
-            &hex_pair(high),
-            &hex_pair(middle),
-            &hex_pair(low),
-            b"\n",
-        ],
-    )
 }
 
 /// Writes the first byte that is another, behind and between these texts, or `unlike` and the word
@@ -124,29 +97,4 @@ fn write_mismatch<W: ByteOut>(
         Mismatch::Exchange(fault) => write_exchange(fault, writer),
         Mismatch::Differs(d) => write_difference(front, last, d, writer),
     }
-}
-
-/// Writes the first byte that is another, behind and between these texts.
-fn write_difference<W: ByteOut>(
-    front: &[u8],
-    last: &[u8],
-    d: Difference,
-    writer: &mut W,
-) -> Result<(), Failed>
-    ensures bytes { Writes (W.held writer.old) (W.held writer.new) result
-        (other_line front.now last.now d) }
-    ensures count { Counts (W.count writer.old) (W.count writer.new) result }
-{
-    put_parts(
-        writer,
-        &[
-            front,
-            &hex_number(d.address),
-            b" chip ",
-            &hex_pair(d.chip),
-            last,
-            &hex_pair(d.want),
-            b"\n",
-        ],
-    )
 }

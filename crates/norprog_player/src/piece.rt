@@ -2,6 +2,7 @@
 
 ghost use Rattle.std.specs.Prelude.{◌≡◌, ◌<◌, ◌+◌, ◌^◌, length};
 ghost use Rattle.nor_base.specs.Wire.{wire};
+ghost use Rattle.nor_reader.specs.Reads.{chunk};
 ghost use Rattle.norprog_player.specs.Access.{far_way, way_at};
 ghost use Rattle.norprog_player.specs.Compared.{ReadsAt};
 
@@ -23,7 +24,7 @@ pub(crate) fn compare_piece<R: ByteIn, W: ByteOut>(
 ) -> Result<(), Mismatch>
     requires size { length piece.now < 2 ^ 24 }
     requires end { address + length piece.now < 2 ^ 32 + 1 }
-    ensures { ReadsAt (way_at access address) address piece.now
+    ensures { ReadsAt (way_at access address) (chunk address piece.now)
         (wire (W.held to.old) (R.ahead from.old)) (wire (W.held to.new) (R.ahead from.new))
         result }
 {

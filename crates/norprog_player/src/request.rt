@@ -3,7 +3,7 @@
 ghost use Rattle.std.specs.Prelude.{◌≡◌, is_some, IfSome};
 ghost use Rattle.norprog_player.specs.Request.{is_well_formed, AsksFor};
 
-use norprog_common::{PlayArgs, Setup, limit, setup_of};
+use norprog_common::{PlayArgs, Setup, limit, optional_number, setup_of};
 
 /// What `play` is asked for: each value is of its form.
 #[derive(Clone, Copy)]
@@ -24,8 +24,10 @@ pub fn request_of<'a>(given: PlayArgs<'a>) -> Option<PlayRequest<'a>>
     ensures forms { is_some result ≡ is_well_formed given.entry }
     ensures values { IfSome result (λ request. AsksFor given.entry request) }
 {
+    let setup = setup_of(given.setup)?;
+    let page = optional_number(given.page)?;
     Some(PlayRequest {
-        setup: setup_of(given.setup)?,
+        setup: Setup { page, ..setup },
         content: given.content?,
         script: given.script?,
         device: given.device?,

@@ -27,7 +27,7 @@ use Rattle.norprog_read.specs.Size as size
 use Rattle.norprog_read.specs.Size.{AsksRegister, IsUnmoved, StopsMoved}
 use Rattle.norprog_read.specs.Stops as stops
 use Rattle.norprog_read.specs.Stops.{IsEnded, IsHeld, IsIdentified, IsKnown, IsMade, IsReady, StopsAsked, StopsChip, StopsContent}
-use Rattle.norprog_read.specs.Way.{first_of, second_of, Way}
+use Rattle.norprog_read.specs.Way.{twice_of, Way}
 use Rattle.norprog_read.proofs.ChipLemmas as came
 
 -- between two moments of the wire
@@ -62,17 +62,17 @@ gives_tables most u v by chip (Unsigned of none) = tables_none most u.held v.hel
 
 gives_content : (how : Way) (u v : Wire) (wanted : Bool) (content : List ℕ) → GivesContent how u v wanted content → Sent u v
 gives_content how u v true content p =
-    twice_sent how.most u.held v.held u.ahead v.ahead (first_of how) (second_of how) content p.twice
+    twice_sent (twice_of how) u.held v.held u.ahead v.ahead content p.twice
 gives_content how u v false content p = stays u v p.1
 
 gives_past : (u v : Wire) (p : Past) (any : Bool) → GivesPast u v p any → Sent u v
-gives_past u v p false gives = past_sent p.most u.held v.held u.ahead v.ahead p.by p.content gives
+gives_past u v p false gives = past_sent p.reads u.held v.held u.ahead v.ahead p.content gives
 gives_past u v p true gives = stays u v gives
 
 stops_end : (u v : Wire) (p : Past) (ask : Ask) (why : Unread) → StopsEnd u v p ask why → Sends u v
 stops_end u v p ask why (end.Alike none many repeats) = whole u v (stays u v none)
-stops_end u v p ask why (end.Lost fault sized is) = past_sends p.most u.held v.held u.ahead v.ahead p.by p.content (Exchange fault) is
-stops_end u v p ask why (end.Other d sized is) = past_sends p.most u.held v.held u.ahead v.ahead p.by p.content (Differs d) is
+stops_end u v p ask why (end.Lost fault sized is) = past_sends p.reads u.held v.held u.ahead v.ahead p.content (Exchange fault) is
+stops_end u v p ask why (end.Other d sized is) = past_sends p.reads u.held v.held u.ahead v.ahead p.content (Differs d) is
 
 -- the mode is made by operations that change nothing
 to_harmless : (said : Bool) → is_harmless (opcode_to said ∷ []) ≡ true
@@ -134,11 +134,11 @@ stops_content : (how : Way) (u v : Wire) (why : Unread) → StopsContent how u v
 stops_content how u v why (stops.Unreadable un none) = whole u v (stays u v none)
 stops_content how u v why (stops.NoMemory none) = whole u v (stays u v none)
 stops_content how u v why (stops.Lost content fault p) =
-    twice_sends how.most u.held v.held u.ahead v.ahead (first_of how) (second_of how) content (Exchange fault) p
+    twice_sends (twice_of how) u.held v.held u.ahead v.ahead content (Exchange fault) p
 stops_content how u v why (stops.Other content d p) =
-    twice_sends how.most u.held v.held u.ahead v.ahead (first_of how) (second_of how) content (Differs d) p
+    twice_sends (twice_of how) u.held v.held u.ahead v.ahead content (Differs d) p
 stops_content how u v why (stops.Hidden content unsure twice hides) =
-    whole u v (twice_sent how.most u.held v.held u.ahead v.ahead (first_of how) (second_of how) content twice)
+    whole u v (twice_sent (twice_of how) u.held v.held u.ahead v.ahead content twice)
 
 -- ---- how far it came
 identified : (u w : Wire) (ask : Ask) → IsIdentified u w ask → Sent u w

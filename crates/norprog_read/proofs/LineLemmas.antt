@@ -1,19 +1,9 @@
 -- The parts of a line, joined.
-use Rattle.std.proofs.Common.{◌≡◌, refl, ℕ, ◌%◌, List, ◌++◌, true, length, Some}
+use Rattle.std.proofs.Common.{◌≡◌, refl, ℕ, List, ◌++◌, true, length, Some}
 use Rattle.std.specs.Prelude.{codes, decimal}
-use Rattle.nor_base.specs.declared.meaning.Part.TheVariants.{Generic}
 use Rattle.nor_base.specs.Script.{hex_pair}
-use Rattle.nor_reader.specs.declared.difference.Difference.{Difference}
-use Rattle.nor_script.specs.Hexadecimal.{hex_number}
 use Rattle.norprog_read.specs.declared.fault.Unlike.TheVariants.{Moved, Size}
-use Rattle.norprog_read.specs.Line.{content_line, note_line, status_line, tables_line, unlike_line}
-
-pub status_parts : (status : ℕ) (digits : List ℕ) → digits ≡ hex_pair (status % 256) → codes "status " ++ (digits ++ codes "\n") ≡ status_line Generic status
-status_parts status digits d = rw d refl
-
-pub tables_parts : (d : Difference) (address chip want : List ℕ) → address ≡ hex_number d.address → chip ≡ hex_pair d.chip → want ≡ hex_pair d.want
-    → codes "unlike tables at " ++ (address ++ (codes " chip " ++ (chip ++ (codes " file " ++ (want ++ codes "\n"))))) ≡ tables_line d
-tables_parts d address chip want a c w = rw (a, c, w) refl
+use Rattle.norprog_read.specs.Line.{content_line, note_line, unlike_line}
 
 pub count_parts : (content digits : List ℕ) → digits ≡ decimal (length content) → codes "read " ++ (digits ++ codes " twice alike\n") ≡ content_line true content
 count_parts content digits d = rw d refl

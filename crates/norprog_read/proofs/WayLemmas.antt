@@ -12,6 +12,7 @@ use Rattle.nor_reader.specs.declared.by.ReadBy.TheVariants.{Content, FourBytes, 
 use Rattle.nor_reader.specs.Cut.{ReadApart}
 use Rattle.nor_reader.specs.Laws.{GivesBy}
 use Rattle.nor_reader.specs.Telling.{ApartKnows, GivesSaid, KnowsMode, ShowsMode, SureKnows}
+use Rattle.nor_reader.specs.Twice.{twice}
 use Rattle.nor_base.specs.Wire.{Wire}
 use Rattle.norprog_read.specs.Way.{first_by, has_both, is_near, is_readable, is_small, may_enter, second_by, IsShownBy}
 
@@ -83,13 +84,13 @@ shown_near false mode4 enter leave most content shows = absurd shows
 -- so each chip that gave the content was in that mode, and has it
 pub mode_known : ApartKnows → SureKnows → (most : ℕ) (u v : Wire) (m : Parameters) (start : Start) (sure : Bool) (content : List ℕ)
     → length content ≤ 2 ^ 32 → is_readable m start ≡ true → (sure ≡ false → IsShownBy (first_by m start) most content)
-    → ReadApart most u v (first_by m start) (second_by m start sure) content
+    → ReadApart (twice most (first_by m start) (second_by m start sure)) u v content
     → KnowsMode u v sure (begins4 m start) content
 mode_known apart sure_ most u v m start true content fits readable shown read =
-    sure_ most u.held v.held u.ahead v.ahead (first_by m start) (second_by m start true) (begins4 m start) content fits
+    sure_ (twice most (first_by m start) (second_by m start true)) u.held v.held u.ahead v.ahead (begins4 m start) content fits
     (first_said m start readable) read
 mode_known apart sure_ most u v m start false content fits readable shown read =
     let near = shown_near (is_near m start) (begins4 m start) m.enter m.leave most content (shown refl) in
     let by : first_by m start ≡ Content (begins4 m start) = ap (λ (n : Bool). if n then Content (begins4 m start) else Entered m.enter m.leave) near.0 in
     apart most u.held v.held u.ahead v.ahead (begins4 m start) content fits near.1
-    (subst (λ (x : ReadBy). ReadApart most u v x x content) by read)
+    (subst (λ (x : ReadBy). ReadApart (twice most x x) u v content) by read)

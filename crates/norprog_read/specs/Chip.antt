@@ -45,6 +45,7 @@ chip_task ask tables = record {
   base = 0;
   verify = false;
   erased_only = ask.erased_only;
+  page = ask.page;
 }
 
 -- a chip may have no tables: it is known by its size or by its sheet

@@ -5,7 +5,7 @@ use Rattle.nor_reader.specs.Laws.{GivesBy, KnowsContent}
 use Rattle.nor_reader.specs.Telling.{KnowsMode}
 use Rattle.nor_reader.specs.Twice.{ReadTwice}
 use Rattle.nor_base.specs.Wire.{Wire}
-use Rattle.norprog_read.specs.Way.{first_of, second_of, Way}
+use Rattle.norprog_read.specs.Way.{first_of, twice_of, Way}
 
 -- a byte for each address, by just these two readings, each read of no more than so many bytes; what every ready chip of the meaning and
 -- the start holds, whatever its quad setting, that would have given these answers; and what every chip holds that gives them, in whichever
@@ -14,5 +14,5 @@ pub record HoldsWhole (w : Way) (before after : Wire) (content : List ℕ) : Typ
   pub whole : length content ≡ w.m.size
   pub way : GivesBy w.m w.start (first_of w)
   pub known : (quad : Bool) → KnowsContent before after w.m (record w.start { quad = quad }) content
-  pub twice : ReadTwice w.most before after (first_of w) (second_of w) content
+  pub twice : ReadTwice (twice_of w) before after content
   pub mode : KnowsMode before after w.sure (begins4 w.m w.start) content

@@ -6,6 +6,7 @@ use Rattle.nor_reader.specs.declared.difference.Mismatch.{Mismatch}
 use Rattle.nor_reader.specs.declared.difference.Mismatch.TheVariants.{Exchange, Differs}
 use Rattle.nor_reader.specs.declared.by.ReadBy.{ReadBy}
 use Rattle.nor_reader.specs.Past.{ReadsPast}
+use Rattle.nor_reader.specs.Reads.{reads, Reads}
 use Rattle.nor_serprog.specs.declared.fault.Fault.{Fault}
 use Rattle.nor_base.specs.Wire.{Wire}
 use Rattle.norprog_read.specs.declared.asked.Ask.{Ask}
@@ -30,18 +31,17 @@ pub record Repeats (content : List ℕ) : Type 0 where
 abbrev pub IsOnce : Ask → List ℕ → Type 0
 IsOnce ask content = ask.repeats ≡ false → Repeats content → ⊥
 
--- how a chip of just this content is read past its end, by reads of no more than so many bytes
+-- how a chip of just this content is read past its end
 pub record Past : Type 0 where
-  pub most : ℕ
-  pub by : ReadBy
+  pub reads : Reads
   pub content : List ℕ
 
 abbrev pub past : ℕ → ReadBy → List ℕ → Past
-past most by content = record { most = most; by = by; content = content }
+past most by content = record { reads = reads most by; content = content }
 
 -- and this came of it
 abbrev pub EndsPast : Wire → Wire → Past → Result (Unit {0}) Mismatch → Type 0
-EndsPast before after p result = ReadsPast p.most before after result p.by p.content
+EndsPast before after p result = ReadsPast p.reads before after result p.content
 
 -- past its end the chip gave what one of just this content gives there; where it may be larger nothing was asked
 abbrev pub GivesPast : Wire → Wire → Past → Bool → Type 0

@@ -1,31 +1,15 @@
 -- The lines of a chip that was read, and of one that wasn't (this project's).
 use Rattle.std.specs.Prelude.{ℕ, Bool, true, false, List, [], ◌∷◌, ◌++◌, length, codes, decimal, ◌/◌, ◌%◌, Option, Some, None}
-use Rattle.nor_base.specs.declared.meaning.Part.{Part}
-use Rattle.nor_base.specs.declared.meaning.Part.TheVariants.{Generic, W25q256jv}
 use Rattle.nor_base.specs.Script.{hex_pair}
-use Rattle.nor_reader.specs.declared.difference.Difference.{Difference}
 use Rattle.nor_script.specs.Hexadecimal.{hex_number}
 use Rattle.norprog.specs.ChipText.{meaning_text}
 use Rattle.norprog_device.specs.Line.{fault_word}
+use Rattle.norprog_device.specs.Shown.{digits_line, other_line, registers, status_line}
 use Rattle.norprog_read.specs.declared.fault.Unlike.{Unlike}
 use Rattle.nor_sfdp.specs.declared.fault.SfdpFault.{SfdpFault}
 use Rattle.nor_sfdp.specs.declared.fault.SfdpFault.TheVariants as sfdp
 use Rattle.norprog_read.specs.declared.fault.Unlike.TheVariants.{Busy, Asking, Mode, At, Tables, NoTables, Size, Moved, Id, Repeats, Line, Unreadable, Hidden}
 use Rattle.norprog_read.specs.declared.asked.Reading.{Reading}
-
--- a text, three bytes in six digits, and LF
-abbrev pub digits_line : List ℕ → List ℕ → List ℕ
-digits_line front (a ∷ b ∷ c ∷ []) = front ++ (hex_pair a ++ (hex_pair b ++ (hex_pair c ++ codes "\n")))
-digits_line front other = []
-
--- S23 to S16, S15 to S8 and S7 to S0
-abbrev pub registers : ℕ → List ℕ
-registers status = status / 65536 % 256 ∷ status / 256 % 256 ∷ status % 256 ∷ []
-
--- S7 to S0, or of a part whose registers are known S23 to S0
-abbrev pub status_line : Part → ℕ → List ℕ
-status_line Generic status = codes "status " ++ (hex_pair (status % 256) ++ codes "\n")
-status_line W25q256jv status = digits_line (codes "status ") (registers status)
 
 -- how many bytes came twice alike, where they were wanted
 abbrev pub content_line : Bool → List ℕ → List ℕ
@@ -41,13 +25,7 @@ note_line None = []
 abbrev pub reading_text : Reading → List ℕ
 reading_text r =
     digits_line (codes "id ") r.id
-    ++ (note_line r.note ++ (status_line r.part r.status ++ (meaning_text r.meaning ++ content_line r.whole r.content.items)))
-
--- the first byte that is another than the file's
-abbrev pub tables_line : Difference → List ℕ
-tables_line d =
-    codes "unlike tables at "
-    ++ (hex_number d.address ++ (codes " chip " ++ (hex_pair d.chip ++ (codes " file " ++ (hex_pair d.want ++ codes "\n")))))
+    ++ (note_line r.note ++ (status_line (codes "status ") r.part r.status ++ (meaning_text r.meaning ++ content_line r.whole r.content.items)))
 
 -- the number of a cause for which SFDP bytes aren't accepted
 abbrev pub fault_number : SfdpFault → ℕ
@@ -76,7 +54,7 @@ unlike_line Busy = codes "unlike busy\n"
 unlike_line (Asking why) = codes "unlike " ++ (fault_word why ++ codes "\n")
 unlike_line (Mode status) = digits_line (codes "unlike status ") (registers status)
 unlike_line (At address) = codes "unlike at " ++ (hex_number address ++ codes "\n")
-unlike_line (Tables d) = tables_line d
+unlike_line (Tables d) = other_line (codes "unlike tables at ") (codes " file ") d
 unlike_line (NoTables id fault) = no_tables_lines id fault
 unlike_line (Size size) = codes "unlike size: the chip's tables say " ++ (decimal size ++ codes " bytes\n")
 unlike_line (Moved value) = codes "unlike register " ++ (hex_pair value ++ codes "\n")

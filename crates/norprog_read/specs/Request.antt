@@ -3,14 +3,14 @@ use Rattle.std.specs.Prelude.{◌≡◌, ℕ, Bool, false, not, ◌&&◌, ◌||�
 use Rattle.std.specs.Str.{bytes_eq}
 use Rattle.norprog_common.specs.Chip.{Origin, Sfdp, Sheet, Uniform, origin_of}
 use Rattle.norprog_common.specs.Setup.{chip_asked, family_asked}
-use Rattle.norprog_common.specs.Values.{limit_of, part_of, said_status}
+use Rattle.norprog_common.specs.Values.{limit_of, part_of, said_number, said_status}
 use Rattle.norprog_common.specs.declared.given.ChipArgs.{ChipArgs}
 use Rattle.norprog_common.specs.declared.given.ReadArgs.{ReadArgs}
 use Rattle.norprog_read.specs.declared.asked.Ask.{Ask}
 use Rattle.norprog_read.specs.declared.asked.Known.{Known}
 use Rattle.norprog_read.specs.declared.asked.Known.TheVariants.{Own, Tables, Uniform as OfSize, Sheet as OfSheet}
 use Rattle.norprog_read.specs.declared.request.ReadRequest.{ReadRequest}
-use Rattle.norprog_read.specs.Line.{registers}
+use Rattle.norprog_device.specs.Shown.{registers}
 
 -- the chip that is named, or that none is; None where it isn't of its form
 abbrev pub named_chip : ChipArgs → Option (Option Origin)
@@ -44,13 +44,14 @@ are_apart given =
 abbrev pub is_well_formed : ReadArgs → Bool
 is_well_formed given =
     are_apart given && is_some (expected_id (option_map (λ t. t.now) given.expect_id)) && is_some (named_chip given.chip)
-    && is_some (part_of (family_asked given.chip)) && is_some given.device && is_some (limit_of (asked_limit given))
+    && is_some (part_of (family_asked given.chip)) && is_some (said_number (option_map (λ t. t.now) given.page)) && is_some given.device && is_some (limit_of (asked_limit given))
 
 -- each value is the one that its text spells
 pub record AsksFor (given : ReadArgs) (request : ReadRequest) : Type 0 where
   pub chip : named_chip given.chip ≡ Some (option_map origin_of request.chip)
   pub bits : request.bits.now ≡ asked_bits given.chip
   pub part : part_of (family_asked given.chip) ≡ Some request.part
+  pub page : said_number (option_map (λ t. t.now) given.page) ≡ Some request.page
   pub mode4 : request.mode4 ≡ given.mode4
   pub device : given.device ≡ Some request.device
   pub limit : limit_of (asked_limit given) ≡ Some request.limit
@@ -76,6 +77,7 @@ pub record IsAskOf (request : ReadRequest) (file : List ℕ) (ask : Ask) : Type 
   pub known : IsKnownBy (option_map origin_of request.chip) file ask.known
   pub bits : ask.bits.now ≡ request.bits.now
   pub part : ask.part ≡ request.part
+  pub page : ask.page ≡ request.page
   pub mode4 : ask.mode4 ≡ request.mode4
   pub turns : ask.turns ≡ request.limit
   pub content : ask.content ≡ is_some request.out

@@ -28,7 +28,7 @@ use Rattle.norprog_read.specs.Chip.{both_go, chip_task, lacks_tables, is_unsigne
 use Rattle.norprog_read.specs.End.{GivesPast, IsOnce, StopsEnd}
 use Rattle.norprog_read.specs.Modes.{MakesMode, StopsMode}
 use Rattle.norprog_read.specs.Size.{asked_register, other_size, IsUnmoved, StopsMoved, TellsSize}
-use Rattle.norprog_read.specs.Way.{first_of, is_readable, second_of, IsShownBy, Way}
+use Rattle.norprog_read.specs.Way.{first_of, is_readable, twice_of, IsShownBy, Way}
 
 -- a file of tables or a sheet has no meaning
 pub data RefusesFile (ask : Ask) : Unread → Type 0 where
@@ -71,8 +71,7 @@ pub data StopsAsked (most : ℕ) (before after : Wire) (by : Known) (id : List �
 
 -- the two readings stopped so
 abbrev pub ReadsUnlike : Way → Wire → Wire → List ℕ → Mismatch → Type 0
-ReadsUnlike w before after content why =
-    StopsTwice w.most before after (first_of w) (second_of w) content why
+ReadsUnlike w before after content why = StopsTwice (twice_of w) before after content why
 
 -- the content can't be read whole, didn't come twice alike, or doesn't show the mode, which isn't sure
 pub data StopsContent (w : Way) (before after : Wire) : Unread → Type 0 where
@@ -83,7 +82,7 @@ pub data StopsContent (w : Way) (before after : Wire) : Unread → Type 0 where
   Other : (content : List ℕ) (d : Difference) → ReadsUnlike w before after content (Differs d)
       → StopsContent w before after (Unlike (unlike.At d.address))
   Hidden : (content : List ℕ) → w.sure ≡ false
-      → ReadTwice w.most before after (first_of w) (second_of w) content
+      → ReadTwice (twice_of w) before after content
       → (IsShownBy (first_of w) w.most content → ⊥) → StopsContent w before after (Unlike unlike.Hidden)
 
 -- the status came, of an idle chip; then the identification, of a line that a chip drives, which was the one that is expected

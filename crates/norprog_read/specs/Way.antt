@@ -9,6 +9,7 @@ use Rattle.nor_base.specs.Parameters.{Parameters}
 use Rattle.nor_reader.specs.declared.by.ReadBy.{ReadBy}
 use Rattle.nor_reader.specs.declared.by.ReadBy.TheVariants.{Content, FourBytes, Entered}
 use Rattle.nor_reader.specs.Telling.{ShowsMode}
+use Rattle.nor_reader.specs.Twice.{twice, Twice}
 
 -- how a content is read: by reads of no more than so many bytes, of a chip of this meaning that begins so, in a mode that is sure or isn't
 pub record Way : Type 0 where
@@ -60,6 +61,9 @@ first_of w = first_by w.m w.start
 
 abbrev pub second_of : Way → ReadBy
 second_of w = second_by w.m w.start w.sure
+
+abbrev pub twice_of : Way → Twice
+twice_of w = twice w.most (first_of w) (second_of w)
 
 -- past its end by 13h where it has that, else as the first time
 abbrev pub past_by : Parameters → Start → ReadBy

@@ -34,6 +34,8 @@ pub struct Ask<'a> {
     pub content: bool,
     /// Whether its meaning is that of the profile that programs only erased bytes.
     pub erased_only: bool,
+    /// Bytes of its page, where its meaning only says the least that they may be.
+    pub page: Option<u32>,
     /// Whether the terminal is said to hand on each byte as it comes. Else what comes with the
     /// content has to show that the terminal changed nothing of what is read.
     pub raw: bool,

@@ -40,12 +40,11 @@ use nor_sfdp::SfdpFault;
 use norprog_common::{Refusal, known_chip};
 use std::alloc::Global;
 
-/// Has the chip behind a device get idle, say what it is, give its tables and its content, each
-/// byte twice, show that it ends there, and say again what it is. A content has to show the line,
-/// unless `ask` is `raw`. How far each reading of it is goes to `progress`.
+/// Has a chip get idle, say what it is, give its tables and content, each byte twice, show that it
+/// ends there, and say again what it is. A content has to show the line, unless `ask` is `raw`. How
+/// far a reading is goes to `progress`.
 ///
-/// `Unlike` where it doesn't do so; `Refused` where its tables, size or sheet have no meaning, and
-/// for `Memory`.
+/// `Unlike` where it doesn't do so; `Refused` where it has no meaning, and for `Memory`.
 pub fn read_chip<R: ByteIn, W: ByteOut, P: ByteOut>(
     alloc: Global,
     from: &mut R,
@@ -382,6 +381,7 @@ fn meaning_of(ask: &Ask<'_>, tables: &[u8]) -> Result<(Meaning, Start), Refusal>
         base: 0,
         verify: false,
         erased_only: ask.erased_only,
+        page: ask.page,
     };
     known_chip(&inputs)
 }

@@ -6,9 +6,11 @@ ghost use Rattle.norprog_read.specs.Request.{are_apart, are_same, expected_id, i
 ghost use Rattle.norprog_read.specs.Request.{named_chip, AsksFor, IsAskOf};
 
 use crate::asked::{Ask, Known};
-use crate::line::registers;
 use nor_base::Part;
-use norprog_common::{Chip, ChipArgs, ReadArgs, chip_of, limit, optional_status, part};
+use norprog_common::{
+    Chip, ChipArgs, ReadArgs, chip_of, limit, optional_number, optional_status, part,
+};
+use norprog_device::registers;
 
 /// What `read` is asked for: each value is of its form.
 #[derive(Clone, Copy)]
@@ -17,6 +19,8 @@ pub struct ReadRequest<'a> {
     pub chip: Option<Chip<'a>>,
     pub bits: &'a str,
     pub part: Part,
+    /// Bytes of the chip's page, where its meaning only says the least that they may be.
+    pub page: Option<u32>,
     pub mode4: bool,
     pub device: &'a str,
     /// Most status reads until the chip is idle, 1 or more.
@@ -52,6 +56,7 @@ pub fn request_of<'a>(given: ReadArgs<'a>) -> Option<ReadRequest<'a>>
         chip: named_chip(given.chip)?,
         bits: given.chip.bits.unwrap_or(""),
         part: part(given.chip.part.unwrap_or("generic"))?,
+        page: optional_number(given.page)?,
         mode4: given.mode4,
         device: given.device?,
         limit: limit(given.limit.unwrap_or("1000000"))?,
@@ -123,6 +128,7 @@ pub fn ask_of<'a>(request: ReadRequest<'a>, file: &'a [u8]) -> Ask<'a>
         turns: request.limit,
         content: request.out.is_some(),
         erased_only: false,
+        page: request.page,
         raw: request.raw,
         fresh: request.fresh,
         any_size: request.any_size,

@@ -14,7 +14,7 @@ use Rattle.nor_script.proofs.TextLaws.{script_of}
 use Rattle.norprog_run.specs.declared.verdict.Verdict.{Verdict}
 use Rattle.norprog_run.specs.declared.verdict.Verdict.TheVariants.{Done, Wrong}
 use Rattle.norprog_run.specs.Play.{EndsSo, run_of}
-use Rattle.norprog_run.specs.Steps.{Steps, Ends}
+use Rattle.norprog_run.specs.Steps.{Steps, Ends, playing}
 use Rattle.norprog_run.specs.Stream.{PlaysText}
 
 -- how it stands after these steps: a player was fed them; or the chip went wrong, and whatever follows them, the play ends so
@@ -23,14 +23,14 @@ Stands before now limit above player None = IsFed before now limit above player
 Stands before now limit above player (Some verdict) = (rest : List Step) → EndsSo (run_of before.setting before.chip limit) (above ++ rest) verdict now.chip
 
 pub stands_next : (before now after : Shown) (limit : ℕ) (above : List Step) (x shown : Step) (player player' : Player) (wrong : Option Verdict) → shown ≡ x
-    → IsFed before now limit above player → Steps now after player player' shown (Ok wrong) → Stands before after limit (above ++ x ∷ []) player' wrong
+    → IsFed before now limit above player → Steps (playing player now) (playing player' after) shown (Ok wrong) → Stands before after limit (above ++ x ∷ []) player' wrong
 stands_next before now after limit above x shown player player' None is fed (turns, told, next) =
     subst (λ (p : Player). IsFed before after limit (above ++ x ∷ []) p) (sym next)
     (subst (λ (y : Step). IsFed before after limit (above ++ y ∷ []) (past player (Ok turns))) is (fed_more before now after limit above player fed shown turns told))
 stands_next before now after limit above x shown player player' (Some (Wrong at why)) is fed told =
     λ rest. subst (λ (l : List Step). EndsSo (run_of before.setting before.chip limit) l (Wrong at why) after.chip)
     (ap (λ (y : Step). above ++ y ∷ rest) is ∙ sym (append_assoc above (x ∷ []) rest))
-    (fed_halts before now after limit above player fed shown rest (fault.Wrong at why) told).stops
+    (fed_halts before now after limit above player fed shown rest (fault.Wrong at why) told).1
 stands_next before now after limit above x shown player player' (Some (Done transactions)) is fed told = absurd told
 
 stands_still : (before now : Shown) (limit : ℕ) (above : List Step) (x : Step) (player : Player) (verdict : Verdict) → Stands before now limit above player (Some verdict)
@@ -44,7 +44,7 @@ ends_so : (before now : Shown) (limit : ℕ) (steps : List Step) (r : Result ℕ
 ends_so before now limit steps (Ok n) verdict plays is =
     subst (λ (v : Verdict). EndsSo (run_of before.setting before.chip limit) steps v now.chip) (sym is) (plays.ends, plays.counted)
 ends_so before now limit steps (Err (fault.Wrong at why)) verdict plays is =
-    subst (λ (v : Verdict). EndsSo (run_of before.setting before.chip limit) steps v now.chip) (sym is) plays.stops
+    subst (λ (v : Verdict). EndsSo (run_of before.setting before.chip limit) steps v now.chip) (sym is) plays.1
 ends_so before now limit steps (Err (fault.PortFailed at)) verdict plays is = absurd is
 ends_so before now limit steps (Err fault.Memory) verdict plays is = absurd is
 

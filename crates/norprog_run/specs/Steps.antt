@@ -12,13 +12,21 @@ use Rattle.nor_script.specs.declared.fault.ScriptFault.TheVariants.{Memory}
 use Rattle.norprog_run.specs.declared.verdict.Verdict.{Verdict}
 use Rattle.norprog_run.specs.declared.verdict.Verdict.TheVariants.{Done, Wrong}
 
+-- a player, and the chip that it plays on
+pub record Playing : Type 0 where
+  pub player : Player
+  pub chip : Shown
+
+abbrev pub playing : Player → Shown → Playing
+playing player chip = record { player = player; chip = chip }
+
 -- a player was fed a step: it goes on, or the chip goes wrong, which is the verdict; or memory was refused
-abbrev pub Steps : Shown → Shown → Player → Player → Step → Result (Option Verdict) ReadFault → Type 0
-Steps before after player player' x (Ok None) =
-    (turns : ℕ) × PlaysNumbered before after player.limit player.number x (Ok turns) × (player' ≡ past player (Ok turns))
-Steps before after player player' x (Ok (Some (Wrong at why))) = PlaysNumbered before after player.limit player.number x (Err (fault.Wrong at why))
-Steps before after player player' x (Ok (Some (Done transactions))) = ⊥
-Steps before after player player' x (Err why) = why ≡ Script Memory
+abbrev pub Steps : Playing → Playing → Step → Result (Option Verdict) ReadFault → Type 0
+Steps before after x (Ok None) =
+    (turns : ℕ) × PlaysNumbered before.chip after.chip before.player x (Ok turns) × (after.player ≡ past before.player (Ok turns))
+Steps before after x (Ok (Some (Wrong at why))) = PlaysNumbered before.chip after.chip before.player x (Err (fault.Wrong at why))
+Steps before after x (Ok (Some (Done transactions))) = ⊥
+Steps before after x (Err why) = why ≡ Script Memory
 
 -- what a player answers at the end is this verdict
 abbrev pub Ends : Result ℕ PlayFault → Verdict → Type 0

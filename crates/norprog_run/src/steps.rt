@@ -7,7 +7,7 @@ ghost use Rattle.nor_play.specs.Play.{CountsPlay};
 ghost use Rattle.nor_script.specs.Stream.{CountsRead, HadText, StopsReader};
 ghost use Rattle.nor_script.specs.View.{step_of};
 ghost use Rattle.norprog_common.specs.Reading.{GivesSome};
-ghost use Rattle.norprog_run.specs.Steps.{Steps, Ends};
+ghost use Rattle.norprog_run.specs.Steps.{Steps, Ends, playing};
 ghost use Rattle.norprog_run.specs.Play.{run_of};
 ghost use Rattle.norprog_run.specs.Stream.{PlaysText};
 
@@ -59,7 +59,8 @@ fn play_step(
     chip: &mut Chip<'_>,
 ) -> Result<Option<Verdict>, ReadFault>
     requires { player.old.number < 2 ^ 64 - 1 }
-    ensures { Steps chip.old chip.new player.old player.new (step_of step.entry) result }
+    ensures { Steps (playing player.old chip.old) (playing player.new chip.new)
+        (step_of step.entry) result }
 {
     match feed(alloc, step, player, chip) {
         Ok(_) => Ok(None),
@@ -78,8 +79,7 @@ fn feed(
 ) -> Result<u64, PlayFault>
     requires { player.old.number < 2 ^ 64 - 1 }
     ensures player { player.new ≡ past player.old result }
-    ensures played { PlaysNumbered chip.old chip.new player.old.limit player.old.number
-        (step_of step.entry) result }
+    ensures played { PlaysNumbered chip.old chip.new player.old (step_of step.entry) result }
     ensures count { CountsPlay 0 0 result }
 {
     match step {

@@ -187,6 +187,7 @@ fn given(row: &Row) -> PlayArgs<'static> {
         },
         content: Some("content"),
         script: Some("script"),
+        page: None,
         device: Some("device"),
         limit: Some(row.limit),
         trust: row.trust,

@@ -131,6 +131,7 @@ pub(crate) fn inputs(hex: &str) -> Inputs<'_> {
         base: 0,
         verify: false,
         erased_only: false,
+        page: None,
     }
 }
 

@@ -117,6 +117,7 @@ fn gives_the_job(rt: &impl Abort, alloc: Global) -> Result<(), AllocError> {
         base: 0x100,
         verify: true,
         erased_only: false,
+        page: None,
     };
     match job_of(alloc, &inputs, 8192) {
         Ok(job) => holds(rt, "a job", job.verify),

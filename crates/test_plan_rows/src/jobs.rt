@@ -51,6 +51,7 @@ fn inputs<'x>(asked: &Asked<'x, 'x>, texts: &'x Texts) -> io::Result<Inputs<'x>>
         base: asked.value("base").map_or(Ok(0), hexadecimal)?,
         verify: asked.has("verify"),
         erased_only: asked.has("erased-only"),
+        page: asked.value("page").map(number).transpose()?,
     })
 }
 

@@ -6,19 +6,20 @@ use Rattle.nor_base.specs.Operations.{Op, unit_ops}
 use Rattle.nor_base.specs.Units.{WorkUnit, units_over, units_of, pages}
 use Rattle.nor_job.specs.declared.fault.BuildFault.{BuildFault}
 use Rattle.nor_job.specs.declared.fault.BuildFault.TheVariants as fault
+use Rattle.nor_job.specs.declared.job.Job.{Job}
+use Rattle.nor_job.specs.Filled.{target_from}
 use Rattle.nor_outline.specs.Told.{unit_outline}
 use Rattle.nor_outline.proofs.PlanText.{text_lines, text_begun}
-use Rattle.nor_steps.specs.Stretch.{stretch}
+use Rattle.nor_steps.specs.Stretch.{stretch, extent}
 use Rattle.nor_steps.specs.declared.fault.StepsFault.{StepsFault}
 use Rattle.nor_steps.specs.declared.fault.StepsFault.TheVariants as steps
 use Rattle.nor_steps.specs.Faults.{IsOfWriting}
 use Rattle.nor_steps.specs.Texts.{UnitText, unit_steps, units_text, IsText, IsTextOf, IsBegunText, IsBegunTextOf}
-use Rattle.nor_steps.specs.Work.{stretch_units, IsWork, IsWorkOf, IsBegun}
+use Rattle.nor_steps.specs.Work.{stretch_units, IsWork, IsWorkOf}
 use Rattle.nor_steps.specs.Writing.{Writing, written_on}
 use Rattle.nor_steps.proofs.OpLemmas.{more_on, done_none}
-use Rattle.nor_steps.proofs.TextLemmas.{units_steps}
 use Rattle.norprog.specs.PlanWindows.{TellsWindows}
-use Rattle.norprog.specs.Windows.{lifted_steps, BeginsText}
+use Rattle.norprog.specs.Windows.{first_writing, lifted_steps, job_update, BeginsText, IsKnown}
 use Rattle.norprog.proofs.Content.Stretches.{stretch_units_join, sound_join}
 use Rattle.norprog.proofs.Content.Targets.{part_left, part_right}
 
@@ -56,15 +57,15 @@ text_join unit_text w v at xs ys txs tys p these more some whole upto upto' stat
     let by = w.streaming.by in
     let here = part_left content xs ys has in
     let here' = part_left target txs tys has' in
-    let its : IsWorkOf w 0 at content target p = subst (λ n. IsWorkOf w 0 n content target p) upto (work content target here here') in
-    let left : IsTextOf unit_text w 0 at content target these = subst (λ n. IsTextOf unit_text w 0 n content target these) upto (first content target here here') in
-    let right : IsTextOf unit_text (written_on w p) at (length ys) content target more =
-    subst (λ (u : Writing). IsTextOf unit_text u at (length ys) content target more) state
+    let its : IsWorkOf w (extent 0 at content target) p = subst (λ n. IsWorkOf w (extent 0 n content target) p) upto (work content target here here') in
+    let left : IsTextOf unit_text w (extent 0 at content target) these = subst (λ n. IsTextOf unit_text w (extent 0 n content target) these) upto (first content target here here') in
+    let right : IsTextOf unit_text (written_on w p) (extent at (length ys) content target) more =
+    subst (λ (u : Writing). IsTextOf unit_text u (extent at (length ys) content target) more) state
     (second content target (part_right content xs ys at upto has) (part_right target txs tys at upto' has')) in
     let count : at + length ys ≡ length (xs ++ ys) = omega (arith, length-append xs ys, upto) in
-    let us = stretch_units m by 0 at content target in
-    let vs = stretch_units m by at (length ys) content target in
-    subst (λ n. IsTextOf unit_text w 0 n content target (these ++ more)) count (record {
+    let us = stretch_units m by (extent 0 at content target) in
+    let vs = stretch_units m by (extent at (length ys) content target) in
+    subst (λ n. IsTextOf unit_text w (extent 0 n content target) (these ++ more)) count (record {
       are = ap (units_text unit_text w content target) (stretch_units_join m by at (length ys) content target some whole)
           ∙ units_text_join unit_text w content target us vs
           ∙ ap (λ front. front ++ units_text unit_text (written_on w (flat_map (unit_ops m w.verify target) us)) content target vs) left.are
@@ -82,15 +83,15 @@ begun_join unit_text w v at xs ys txs tys p these front some whole upto upto' st
     let by = w.streaming.by in
     let here = part_left content xs ys has in
     let here' = part_left target txs tys has' in
-    let its : IsWorkOf w 0 at content target p = subst (λ n. IsWorkOf w 0 n content target p) upto (work content target here here') in
-    let left : IsTextOf unit_text w 0 at content target these = subst (λ n. IsTextOf unit_text w 0 n content target these) upto (first content target here here') in
-    let right : IsBegunTextOf unit_text (written_on w p) at (length ys) content target front =
-    subst (λ (u : Writing). IsBegunTextOf unit_text u at (length ys) content target front) state
+    let its : IsWorkOf w (extent 0 at content target) p = subst (λ n. IsWorkOf w (extent 0 n content target) p) upto (work content target here here') in
+    let left : IsTextOf unit_text w (extent 0 at content target) these = subst (λ n. IsTextOf unit_text w (extent 0 n content target) these) upto (first content target here here') in
+    let right : IsBegunTextOf unit_text (written_on w p) (extent at (length ys) content target) front =
+    subst (λ (u : Writing). IsBegunTextOf unit_text u (extent at (length ys) content target) front) state
     (second content target (part_right content xs ys at upto has) (part_right target txs tys at upto' has')) in
     let count : at + length ys ≡ length (xs ++ ys) = omega (arith, length-append xs ys, upto) in
-    let us = stretch_units m by 0 at content target in
-    let vs = stretch_units m by at (length ys) content target in
-    subst (λ n. IsBegunTextOf unit_text w 0 n content target (these ++ front)) count (record {
+    let us = stretch_units m by (extent 0 at content target) in
+    let vs = stretch_units m by (extent at (length ys) content target) in
+    subst (λ n. IsBegunTextOf unit_text w (extent 0 n content target) (these ++ front)) count (record {
       rest = right.rest;
       whole = ap (units_text unit_text w content target) (stretch_units_join m by at (length ys) content target some whole)
           ∙ units_text_join unit_text w content target us vs
@@ -107,35 +108,25 @@ all_begun unit_text w have want these is content target has has' =
     record { rest = []; whole = its.are ∙ sym (append-nil these); sound = its.sound }
 
 pub text_begins : (unit_text : UnitText) (w : Writing) (have want these : List ℕ) (why : BuildFault) → IsText unit_text w (stretch 0 have want) these
-    → BeginsText unit_text w have want these why
+    → BeginsText unit_text w (stretch 0 have want) these why
 text_begins unit_text w have want these fault.Write is = all_begun unit_text w have want these is
 text_begins unit_text w have want these fault.Memory is = all_begun unit_text w have want these is
 text_begins unit_text w have want these other is = is
 
 pub begun_begins : (unit_text : UnitText) (w : Writing) (have want front : List ℕ) (why : StepsFault) → IsOfWriting why → IsBegunText unit_text w (stretch 0 have want) front
-    → BeginsText unit_text w have want front (lifted_steps why)
+    → BeginsText unit_text w (stretch 0 have want) front (lifted_steps why)
 begun_begins unit_text w have want front steps.Write of begun = begun
 begun_begins unit_text w have want front steps.Memory of begun = begun
 begun_begins unit_text w have want front (steps.Plan why) of begun = absurd of
 
 -- of the steps some were written
-begun_steps : (w : Writing) (have want front : List ℕ) → IsBegunText unit_steps w (stretch 0 have want) front → IsBegun w (stretch 0 have want) front
-begun_steps w have want front begun content target has has' =
-    let is = begun content target has has' in
-    record {
-      rest = is.rest;
-      whole = sym (units_steps w content target (stretch_units w.streaming.meaning w.streaming.by 0 (length have) content target)) ∙ is.whole;
-      sound = is.sound;
-    }
-
-pub steps_begun : (w : Writing) (have want front : List ℕ) (why : BuildFault) → BeginsText unit_steps w have want front why → IsBegun w (stretch 0 have want) front
-steps_begun w have want front fault.Write begun = begun_steps w have want front begun
-steps_begun w have want front fault.Memory begun = begun_steps w have want front begun
-steps_begun w have want front other is = begun_steps w have want front (all_begun unit_steps w have want front is)
+pub steps_begun : (w : Writing) (have want front : List ℕ) (why : BuildFault) → BeginsText unit_steps w (stretch 0 have want) front why → IsBegunText unit_steps w (stretch 0 have want) front
+steps_begun w have want front fault.Write begun = begun
+steps_begun w have want front fault.Memory begun = begun
+steps_begun w have want front other is = all_begun unit_steps w have want front is
 
 -- of the lines as many as why it ended says
-pub lines_tell : (w : Writing) (have want front : List ℕ) (why : BuildFault) → BeginsText unit_outline w have want front why
-    → TellsWindows w.streaming.meaning w.streaming.by have want front why
-lines_tell w have want front fault.Write begun = text_begun w 0 have want front begun
-lines_tell w have want front fault.Memory begun = text_begun w 0 have want front begun
-lines_tell w have want front other is = text_lines w 0 have want front is
+pub lines_tell : (job : Job) (known front : List ℕ) (why : BuildFault) → IsKnown unit_outline job known front why → TellsWindows (job_update job known) front why
+lines_tell job known front fault.Write is = text_begun (first_writing job) 0 known (target_from job 0 known) front is.begun
+lines_tell job known front fault.Memory is = text_begun (first_writing job) 0 known (target_from job 0 known) front is.begun
+lines_tell job known front other is = text_lines (first_writing job) 0 known (target_from job 0 known) front is.begun

@@ -3,7 +3,6 @@ use Rattle.std.proofs.Common.{◌≡◌, ◌⊎◌, ℕ, ◌+◌, ◌/◌, ◌%�
 use Rattle.std.specs.Prelude.{flat_map}
 use Rattle.std.specs.Io.KnownBytes.{Appends}
 use Rattle.std.proofs.Math.Nat.{zero-div}
-use Rattle.std.proofs.lemmas.Bool.{cases_lt}
 use Rattle.std.proofs.lemmas.Grind.{flat_map-append}
 use Rattle.std.proofs.lemmas.List.{length-take-le, take_all, take-append-drop, append_assoc}
 use Rattle.nor_base.specs.declared.meaning.Strategy.{Strategy}
@@ -14,7 +13,6 @@ use Rattle.nor_base.specs.Script.{closed}
 use Rattle.nor_base.specs.Strategies.{strategy}
 use Rattle.nor_base.specs.Units.{units_over, units_of, pages}
 use Rattle.nor_base.proofs.DeviceLaws.{Appends-append, Appends-none, Gives-append}
-use Rattle.nor_geometry.proofs.WindowLemmas.{multiple_of}
 use Rattle.nor_job.specs.Filled.{target_from, FillsWindow}
 use Rattle.nor_job.specs.Written.{AreBytes, of_writer}
 use Rattle.nor_job.specs.declared.fault.BuildFault.{BuildFault}
@@ -26,7 +24,7 @@ use Rattle.nor_outline.specs.Told.{unit_outline}
 use Rattle.nor_outline.proofs.PlanText.{plan_text, lines_wrote, refused}
 use Rattle.nor_outline.specs.Lines.{line_words, lines_text}
 use Rattle.nor_outline.specs.declared.line.PlanLine.{PlanLine}
-use Rattle.nor_steps.specs.Stretch.{stretch}
+use Rattle.nor_steps.specs.Stretch.{stretch, extent}
 use Rattle.nor_steps.specs.Tally.{nothing_told, sum_of, IsFew}
 use Rattle.nor_steps.specs.Texts.{IsTold, IsBegunText}
 use Rattle.nor_steps.specs.Work.{stretch_units}
@@ -35,9 +33,10 @@ use Rattle.nor_steps.specs.declared.fault.StepsFault.{StepsFault}
 use Rattle.nor_steps.specs.declared.fault.StepsFault.TheVariants as steps
 use Rattle.nor_steps.specs.declared.tally.Tally.{Tally}
 use Rattle.nor_base.specs.Wire.{wire}
-use Rattle.norprog.specs.Planner.{Planning, IsReady, IsPlannedPart, HasTold, GoesOn, CutsPlan, StopsPlanning}
-use Rattle.norprog.specs.Windows.{first_writing, lifted_steps, AreRecent, CutCause, IsDone, IsCutPlan, BeginsText, range}
-use Rattle.norprog.proofs.Content.Places.{IsPlace, place_is, chip_pages, window_pages}
+use Rattle.norprog.specs.Planner.{Planning, IsReady, IsPlannedPart, outlined, HasTold, GoesOn, CutsPlan, StopsPlanning}
+use Rattle.norprog.specs.Update.{WorkCause}
+use Rattle.norprog.specs.Windows.{first_writing, lifted_steps, progress, window_of, job_update, AreRecent, IsDone, IsKnown, IsCutPlan, BeginsText}
+use Rattle.norprog.proofs.Content.Places.{IsPlace, place_is}
 use Rattle.norprog.proofs.Content.Stretches.{stretch_units_join, sound_join, work_none}
 use Rattle.norprog.proofs.Content.Targets.{part_left, part_right, target_of_parts, bytes_of_parts}
 use Rattle.norprog.proofs.Content.Windows.{steps_join, few_join, done_then_cut, ended}
@@ -56,23 +55,23 @@ plan_none m by content target has has' =
 plan_join : (m : Parameters) (by : Strategy) (at : ℕ) (xs ys txs tys : List ℕ) (these more : List PlanLine) → 0 < m.page → at % m.page ≡ 0 → length xs ≡ at → length txs ≡ at
     → IsStretchPlan m by (stretch 0 xs txs) these → IsStretchPlan m by (stretch at ys tys) more → IsStretchPlan m by (stretch 0 (xs ++ ys) (txs ++ tys)) (these ++ more)
 plan_join m by at xs ys txs tys these more some whole upto upto' first second content target has has' =
-    let left : IsStretchPlanOf m by 0 at content target these =
-    subst (λ n. IsStretchPlanOf m by 0 n content target these) upto (first content target (part_left content xs ys has) (part_left target txs tys has')) in
-    let right : IsStretchPlanOf m by at (length ys) content target more =
+    let left : IsStretchPlanOf m by (extent 0 at content target) these =
+    subst (λ n. IsStretchPlanOf m by (extent 0 n content target) these) upto (first content target (part_left content xs ys has) (part_left target txs tys has')) in
+    let right : IsStretchPlanOf m by (extent at (length ys) content target) more =
     second content target (part_right content xs ys at upto has) (part_right target txs tys at upto' has') in
     let count : at + length ys ≡ length (xs ++ ys) = omega (arith, length-append xs ys, upto) in
     let plan = unit_plan m by (is_due m content target) in
-    let later = stretch_units m by at (length ys) content target in
-    subst (λ n. IsStretchPlanOf m by 0 n content target (these ++ more)) count (record {
+    let later = stretch_units m by (extent at (length ys) content target) in
+    subst (λ n. IsStretchPlanOf m by (extent 0 n content target) (these ++ more)) count (record {
       are = ap (flat_map plan) (stretch_units_join m by at (length ys) content target some whole)
-          ∙ flat_map-append plan (stretch_units m by 0 at content target) later
+          ∙ flat_map-append plan (stretch_units m by (extent 0 at content target)) later
           ∙ ap (λ front. front ++ flat_map plan later) left.are
           ∙ ap (λ rest. these ++ rest) right.are;
       sound = sound_join m by at (length ys) content target left.sound right.sound;
     })
 
 -- before the first window
-pub none_told : (job : Job) (v : Writing) (ahead : Ahead) → v ≡ first_writing job → IsPlannedPart job (first_writing job) v (range 0 0) ahead ahead nothing_told []
+pub none_told : (job : Job) (v : Writing) (ahead : Ahead) → v ≡ first_writing job → IsPlannedPart (window_of job 0 0) (first_writing job) ahead ahead (outlined v nothing_told [])
 none_told job v ahead is = record {
   part = [];
   size = refl;
@@ -91,7 +90,7 @@ none_told job v ahead is = record {
 -- a window that was read and planned
 pub planned_part : (job : Job) (w v : Writing) (at n : ℕ) (a b : Ahead) (part want : List ℕ) (told : Tally) (lines : List PlanLine) → length part ≡ n → Gives a part b
     → AreBytes (target_from job at part) → want ≡ target_from job at part → w.streaming.meaning ≡ job.meaning → w.streaming.by ≡ strategy job.meaning job.start
-    → IsTold w v (stretch at part want) told → IsStretchPlan w.streaming.meaning w.streaming.by (stretch at part want) lines → IsPlannedPart job w v (range at n) a b told lines
+    → IsTold w v (stretch at part want) told → IsStretchPlan w.streaming.meaning w.streaming.by (stretch at part want) lines → IsPlannedPart (window_of job at n) w a b (outlined v told lines)
 planned_part job w v at n a b part want told lines size given bytes target meaning driven steps plan = record {
   part = part;
   size = size;
@@ -116,8 +115,8 @@ unplanned_count m by at have want steps.Write is = absurd is
 
 -- what was planned up to an address, and then a window
 pub told_then : (job : Job) (v u : Writing) (at n window : ℕ) (a b c : Ahead) (told more : Tally) (these lines : List PlanLine) → IsPlace job.meaning window at n
-    → IsPlannedPart job (first_writing job) v (range 0 at) a b told these → IsPlannedPart job v u (range at n) b c more lines
-    → IsPlannedPart job (first_writing job) u (range 0 (at + n)) a c (sum_of told more) (these ++ lines)
+    → IsPlannedPart (window_of job 0 at) (first_writing job) a b (outlined v told these) → IsPlannedPart (window_of job at n) v b c (outlined u more lines)
+    → IsPlannedPart (window_of job 0 (at + n)) (first_writing job) a c (outlined u (sum_of told more) (these ++ lines))
 told_then job v u at n window a b c told more these lines place first second =
     let w = first_writing job in
     let m = job.meaning in
@@ -141,7 +140,7 @@ told_then job v u at n window a b c told more these lines place first second =
 
 -- a writer that took the lines so far has done their part
 unfoldable pub told_done : (job : Job) (v : Writing) (at : ℕ) (a b : Ahead) (x y : Option (List ℕ)) (told : Tally) (lines : List PlanLine)
-    → IsPlannedPart job (first_writing job) v (range 0 at) a b told lines → Appends x y (lines_text lines) → IsDone unit_outline job (first_writing job) v (range 0 at) (wire x a) (wire y b) told
+    → IsPlannedPart (window_of job 0 at) (first_writing job) a b (outlined v told lines) → Appends x y (lines_text lines) → IsDone unit_outline (window_of job 0 at) (progress (first_writing job) x a) (progress v y b) told
 told_done job v at a b x y told lines its put = record {
   part = its.part;
   size = its.size;
@@ -152,7 +151,7 @@ told_done job v at a b x y told lines its put = record {
 
 -- a window that wasn't read
 pub unread : (job : Job) (w : Writing) (at n : ℕ) (a b : Ahead) (window : List ℕ) (why : BuildFault) → length window ≡ n → FillsWindow a b (Err why) window
-    → StopsPlanning job w at n a b why
+    → StopsPlanning (window_of job at n) w a b why
 unread job w at n a b window fault.ContentShort size is x =
     (record { part = is.0; few = omega (arith, size, is.1); given = is.2; put = Appends-none x }, is.3)
 unread job w at n a b window fault.Read size is x = record { part = is.0; few = omega (arith, size, is.1); given = is.2; put = Appends-none x }
@@ -161,7 +160,7 @@ unread job w at n a b window other size is x = absurd is.3
 -- a window that was read, and has no lines
 pub unplanned : (job : Job) (w : Writing) (at n : ℕ) (a b : Ahead) (part : List ℕ) (why : StepsFault) → length part ≡ n
     → AreBytes (target_from job at part) → Gives a part b → RefusesLines w.streaming.meaning w.streaming.by (stretch at part (target_from job at part)) why
-    → StopsPlanning job w at n a b (lifted_steps why)
+    → StopsPlanning (window_of job at n) w a b (lifted_steps why)
 unplanned job w at n a b part why size bytes given is x = ended unit_outline job w at n a b x x why (record {
   part = part;
   size = size;
@@ -172,7 +171,7 @@ unplanned job w at n a b part why size bytes given is x = ended unit_outline job
 
 -- then a writer that took the lines so far is cut short
 pub told_then_cut : (job : Job) (v : Writing) (at n window : ℕ) (a b c : Ahead) (x y : Option (List ℕ)) (told : Tally) (lines : List PlanLine) (why : BuildFault)
-    → IsPlace job.meaning window at n → IsPlannedPart job (first_writing job) v (range 0 at) a b told lines → Appends x y (lines_text lines) → StopsPlanning job v at n b c why
+    → IsPlace job.meaning window at n → IsPlannedPart (window_of job 0 at) (first_writing job) a b (outlined v told lines) → Appends x y (lines_text lines) → StopsPlanning (window_of job at n) v b c why
     → IsCutPlan job (wire x a) (wire y c) why
 told_then_cut job v at n window a b c x y told lines why place its put stops =
     done_then_cut unit_outline job v at n window a b c x y y told why place (told_done job v at a b x y told lines its put) (stops y)
@@ -188,7 +187,7 @@ pub next_place : (p : Planning) (n : ℕ) → IsReady p → p.at < p.job.meaning
 next_place p n ready before is = place_is p.job.meaning p.window p.at n ready.accepted ready.window before (ready.aligned before) is
 
 pub goes_on : (p : Planning) (job : Job) (v : Writing) (window room at n : ℕ) (b c : Ahead) (more told : Tally) (lines : List PlanLine) → IsReady p
-    → IsPlace p.job.meaning p.window p.at n → IsPlannedPart p.job p.work v (range p.at n) b c more lines → job ≡ p.job → window ≡ p.window → room ≡ p.room → at ≡ p.at + n
+    → IsPlace p.job.meaning p.window p.at n → IsPlannedPart (window_of p.job p.at n) p.work b c (outlined v more lines) → job ≡ p.job → window ≡ p.window → room ≡ p.room → at ≡ p.at + n
     → told ≡ sum_of p.told more → GoesOn p (record { job = job; work = v; window = window; room = room; at = at; told = told }) b c (Some lines)
 goes_on p job v window room at n b c more told lines ready place its one two three four five =
     subst (λ (j : Job). GoesOn p (record { job = j; work = v; window = window; room = room; at = at; told = told }) b c (Some lines)) (sym one)
@@ -218,18 +217,9 @@ ends_on items p q b c None none goes = goes
 ends_on items p q b c (Some x) none goes = absurd (none x refl)
 
 -- or why there is none
-pub no_window : (p : Planning) (n : ℕ) (b c : Ahead) (why : BuildFault) → IsPlace p.job.meaning p.window p.at n → StopsPlanning p.job p.work p.at n b c why → CutsPlan p b c why
+pub no_window : (p : Planning) (n : ℕ) (b c : Ahead) (why : BuildFault) → IsPlace p.job.meaning p.window p.at n → StopsPlanning (window_of p.job p.at n) p.work b c why → CutsPlan p b c why
 no_window p n b c why place stops first these x y has put =
     told_then_cut p.job p.work p.at n p.window first b c x y p.told these why place has put stops
-
--- a window's start, and the chip's end, are whole pages
-ready_pages : (p : Planning) → IsReady p → p.at % p.job.meaning.page ≡ 0
-ready_pages p ready =
-    let m = p.job.meaning in
-    elim (cases_lt p.at m.size) [
-      | inl before ↦ multiple_of p.at p.window m.page (window_pages m p.window ready.accepted ready.window) (ready.aligned before)
-      | inr past ↦ let last : p.at ≡ m.size = omega (arith, past, ready.within) in ap (λ n. n % m.page) last ∙ chip_pages m ready.accepted
-    ]
 
 pub lines_two : (these more : List PlanLine) → lines_text (these ++ more) ≡ lines_text these ++ lines_text more
 lines_two these more = flat_map-append (λ (l : PlanLine). closed (line_words l)) these more
@@ -243,8 +233,8 @@ begun_lines w have want lines front rest plan is content target has has' =
 
 -- a writer stopped in the text of the lines so far
 cut_at : (p : Planning) (a b : Ahead) (x y : Option (List ℕ)) (lines : List PlanLine) (front rest : List ℕ) (why : BuildFault) → IsReady p → (its : HasTold p a b lines)
-    → lines_text lines ≡ front ++ rest → Appends x y front → CutCause p.job its.part b why → AreRecent p.job.meaning.size p.window (length its.part) (length its.part) why
-    → ((have want : List ℕ) → IsBegunText unit_outline (first_writing p.job) (stretch 0 have want) front → BeginsText unit_outline (first_writing p.job) have want front why)
+    → lines_text lines ≡ front ++ rest → Appends x y front → WorkCause (job_update p.job its.part) b why → AreRecent p.job.meaning.size p.window (length its.part) (length its.part) why
+    → ((have want : List ℕ) → IsBegunText unit_outline (first_writing p.job) (stretch 0 have want) front → BeginsText unit_outline (first_writing p.job) (stretch 0 have want) front why)
     → IsCutPlan p.job (wire x a) (wire y b) why
 cut_at p a b x y lines front rest why ready its is put cause recent begins =
     let job = p.job in
@@ -266,12 +256,8 @@ cut_at p a b x y lines front rest why ready its is put cause recent begins =
         recent = recent;
       };
       bytes = front;
-      front = record {
-        pages = ap (λ n. n % job.meaning.page) its.size ∙ ready_pages p ready;
-        bytes = subst (λ (part : List ℕ). AreBytes (target_from job 0 part)) all its.bytes;
-        begun = subst (λ (part : List ℕ). BeginsText unit_outline w part (target_from job 0 part) front why) all
-            (begins part (target_from job 0 part) (begun_lines w part (target_from job 0 part) lines front rest its.plan is));
-      };
+      front = subst (λ (part : List ℕ). IsKnown unit_outline job part front why) all
+          (record { bytes = its.bytes; begun = begins part (target_from job 0 part) (begun_lines w part (target_from job 0 part) lines front rest its.plan is) });
       put = put;
     }
 

@@ -13,7 +13,7 @@ use Rattle.nor_geometry.specs.declared.fault.PlanFault.{PlanFault}
 use Rattle.nor_geometry.specs.declared.fault.PlanFault.TheVariants as plan
 use Rattle.nor_geometry.specs.Plan.{HasPart, IsLowestAt, IsFault, IsFaultOf}
 use Rattle.nor_outline.specs.Outline.{IsFaultless}
-use Rattle.nor_steps.specs.Stretch.{stretch}
+use Rattle.nor_steps.specs.Stretch.{stretch, extent}
 use Rattle.nor_steps.specs.Work.{stretch_units, stretch_ops, IsWork, IsWorkOf}
 use Rattle.nor_steps.specs.Writing.{Writing, written_on}
 use Rattle.nor_plan_laws.proofs.Erased.Needed.{units_join}
@@ -42,7 +42,7 @@ pages_split page at n some whole =
 
 -- the units of two stretches side by side
 pub stretch_units_join : (m : Parameters) (by : Strategy) (at n : ℕ) (content target : List ℕ) → 0 < m.page → at % m.page ≡ 0
-    → stretch_units m by 0 (at + n) content target ≡ stretch_units m by 0 at content target ++ stretch_units m by at n content target
+    → stretch_units m by (extent 0 (at + n) content target) ≡ stretch_units m by (extent 0 at content target) ++ stretch_units m by (extent at n content target)
 stretch_units_join m by at n content target some whole =
     let due = is_due m content target in
     let level = levelled m by due content in
@@ -51,15 +51,15 @@ stretch_units_join m by at n content target some whole =
     ∙ units_join m level target erased (pages m.page 0 (at / m.page)) (pages m.page at (n / m.page))
 
 pub stretch_join : (w : Writing) (at n : ℕ) (content target : List ℕ) → 0 < w.streaming.meaning.page → at % w.streaming.meaning.page ≡ 0
-    → stretch_ops w 0 (at + n) content target ≡ stretch_ops w 0 at content target ++ stretch_ops w at n content target
+    → stretch_ops w (extent 0 (at + n) content target) ≡ stretch_ops w (extent 0 at content target) ++ stretch_ops w (extent at n content target)
 stretch_join w at n content target some whole =
     let m = w.streaming.meaning in
     let by = w.streaming.by in
     ap (flat_map (unit_ops m w.verify target)) (stretch_units_join m by at n content target some whole)
-    ∙ flat_map-append (unit_ops m w.verify target) (stretch_units m by 0 at content target) (stretch_units m by at n content target)
+    ∙ flat_map-append (unit_ops m w.verify target) (stretch_units m by (extent 0 at content target)) (stretch_units m by (extent at n content target))
 
-pub sound_join : (m : Parameters) (by : Strategy) (at n : ℕ) (content target : List ℕ) → IsFaultless m by 0 at content target → IsFaultless m by at n content target
-    → IsFaultless m by 0 (at + n) content target
+pub sound_join : (m : Parameters) (by : Strategy) (at n : ℕ) (content target : List ℕ) → IsFaultless m by (extent 0 at content target) → IsFaultless m by (extent at n content target)
+    → IsFaultless m by (extent 0 (at + n) content target)
 sound_join m by at n content target first second x from upto = elim (cases_lt x at) [
   | inl less ↦ first x from (omega (arith, less))
   | inr past ↦ second x past (omega (arith, upto))
@@ -70,14 +70,14 @@ pub work_join : (w v : Writing) (at : ℕ) (xs ys txs tys : List ℕ) (p q : Lis
     → length xs ≡ at → length txs ≡ at → v ≡ written_on w p → IsWork w (stretch 0 xs txs) p → IsWork v (stretch at ys tys) q
     → IsWork w (stretch 0 (xs ++ ys) (txs ++ tys)) (p ++ q)
 work_join w v at xs ys txs tys p q some whole upto upto' state first second content target has has' =
-    let left : IsWorkOf w 0 at content target p =
-    subst (λ n. IsWorkOf w 0 n content target p) upto (first content target (part_left content xs ys has) (part_left target txs tys has')) in
-    let right : IsWorkOf (written_on w p) at (length ys) content target q =
-    subst (λ (u : Writing). IsWorkOf u at (length ys) content target q) state
+    let left : IsWorkOf w (extent 0 at content target) p =
+    subst (λ n. IsWorkOf w (extent 0 n content target) p) upto (first content target (part_left content xs ys has) (part_left target txs tys has')) in
+    let right : IsWorkOf (written_on w p) (extent at (length ys) content target) q =
+    subst (λ (u : Writing). IsWorkOf u (extent at (length ys) content target) q) state
     (second content target (part_right content xs ys at upto has) (part_right target txs tys at upto' has')) in
     let count : at + length ys ≡ length (xs ++ ys) = omega (arith, length-append xs ys, upto) in
-    subst (λ n. IsWorkOf w 0 n content target (p ++ q)) count (record {
-      are = stretch_join w at (length ys) content target some whole ∙ ap (λ ops. ops ++ stretch_ops w at (length ys) content target) left.are
+    subst (λ n. IsWorkOf w (extent 0 n content target) (p ++ q)) count (record {
+      are = stretch_join w at (length ys) content target some whole ∙ ap (λ ops. ops ++ stretch_ops w (extent at (length ys) content target)) left.are
           ∙ ap (λ ops. p ++ ops) right.are;
       sound = sound_join w.streaming.meaning w.streaming.by at (length ys) content target left.sound right.sound;
     })
@@ -110,8 +110,8 @@ fault_join_all : (w v : Writing) (at : ℕ) (xs ys txs tys : List ℕ) (p : List
 fault_join_all w v at xs ys txs tys p why upto upto' state first second content target has has' =
     let m = w.streaming.meaning in
     let by = w.streaming.by in
-    let left : IsWorkOf w 0 at content target p =
-    subst (λ n. IsWorkOf w 0 n content target p) upto (first content target (part_left content xs ys has) (part_left target txs tys has')) in
+    let left : IsWorkOf w (extent 0 at content target) p =
+    subst (λ n. IsWorkOf w (extent 0 n content target) p) upto (first content target (part_left content xs ys has) (part_left target txs tys has')) in
     let right : IsFaultOf m by at content target (length ys) why =
     subst (λ (u : Writing). IsFaultOf u.streaming.meaning u.streaming.by at content target (length ys) why) state
     (second content target (part_right content xs ys at upto has) (part_right target txs tys at upto' has')) in

@@ -22,12 +22,13 @@ use Rattle.nor_steps.specs.declared.tally.Tally.{Tally}
 use Rattle.nor_steps.specs.Faults.{IsOfWriting}
 use Rattle.nor_steps.specs.Tally.{tally_of, sum_of, nothing_told, IsFew, erases_of, erased_of, programs_of}
 use Rattle.nor_steps.specs.Texts.{UnitText, IsTold, WroteText, HasText}
-use Rattle.nor_steps.specs.Writing.{Writing, written_on}
+use Rattle.nor_steps.specs.Writing.{Writing, written_on, output}
 use Rattle.nor_steps.proofs.OpLemmas.{more_steps, more_on}
 use Rattle.nor_steps.proofs.TallyLemmas.{same_tally}
 use Rattle.nor_job.specs.Filled.{target_from}
 use Rattle.nor_base.specs.Wire.{wire}
-use Rattle.norprog.specs.Windows.{first_writing, lifted_steps, StopsWindow, IsUndone, IsDone, IsAllDone, CutCause, AreRecent, BeginsText, IsKnown, IsCut, range}
+use Rattle.norprog.specs.Update.{Update, WorkCause}
+use Rattle.norprog.specs.Windows.{first_writing, lifted_steps, progress, window_of, job_update, StopsWindow, IsUndone, IsDone, IsAllDone, AreRecent, BeginsText, IsKnown, IsCut}
 use Rattle.nor_job.specs.Written.{AreBytes}
 use Rattle.norprog.proofs.Content.Joined.{none_text, text_join, begun_join, text_begins, begun_begins}
 use Rattle.norprog.proofs.Content.Places.{IsPlace}
@@ -37,7 +38,7 @@ use Rattle.norprog.proofs.Content.Targets.{target_of_parts, bytes_of_parts}
 
 -- at the beginning nothing has been read or written
 pub none_done : (unit_text : UnitText) (job : Job) (v : Writing) (before : Ahead) (held : Option (List ℕ)) → v ≡ first_writing job
-    → IsDone unit_text job (first_writing job) v (range 0 0) (wire held before) (wire held before) nothing_told
+    → IsDone unit_text (window_of job 0 0) (progress (first_writing job) held before) (progress v held before) nothing_told
 none_done unit_text job v before held is = record {
   part = [];
   size = refl;
@@ -85,8 +86,8 @@ steps_join w v u at xs ys txs tys told more some whole upto upto' first second =
 
 -- what was done up to an address, and then a window
 pub done_then : (unit_text : UnitText) (job : Job) (v u : Writing) (at n window : ℕ) (a b c : Ahead) (x y z : Option (List ℕ)) (told more : Tally) → IsPlace job.meaning window at n
-    → IsDone unit_text job (first_writing job) v (range 0 at) (wire x a) (wire y b) told → IsDone unit_text job v u (range at n) (wire y b) (wire z c) more
-    → IsDone unit_text job (first_writing job) u (range 0 (at + n)) (wire x a) (wire z c) (sum_of told more)
+    → IsDone unit_text (window_of job 0 at) (progress (first_writing job) x a) (progress v y b) told → IsDone unit_text (window_of job at n) (progress v y b) (progress u z c) more
+    → IsDone unit_text (window_of job 0 (at + n)) (progress (first_writing job) x a) (progress u z c) (sum_of told more)
 unfolding steps_join
 done_then unit_text job v u at n window a b c x y z told more place done next =
     let w = first_writing job in
@@ -103,7 +104,7 @@ done_then unit_text job v u at n window a b c x y z told more place done next =
       size = omega (arith, length-append xs ys, done.size, next.size);
       given = Gives-append a b c xs ys done.given next.given;
       bytes = subst AreBytes (sym goal) (bytes_of_parts txs tys done.bytes next.bytes);
-      wrote = subst (λ (goal : List ℕ). WroteText unit_text w u x z (stretch 0 (xs ++ ys) goal) (sum_of told more)) (sym goal) (record {
+      wrote = subst (λ (goal : List ℕ). WroteText unit_text (output w x) (output u z) (stretch 0 (xs ++ ys) goal) (sum_of told more)) (sym goal) (record {
         steps = steps_join w v u at xs ys txs tys told more place.page place.pages done.size upto' first.steps second.steps;
         these = first.these ++ second.these;
         is = text_join unit_text w v at xs ys txs tys first.steps.ops first.these second.these place.page place.pages done.size upto' first.steps.state first.steps.work first.is second.is;
@@ -113,8 +114,8 @@ done_then unit_text job v u at n window a b c x y z told more place done next =
 
 -- what was done, and then nothing more was written
 cut_between : (unit_text : UnitText) (job : Job) (v : Writing) (at n window : ℕ) (a b c : Ahead) (x y z : Option (List ℕ)) (told : Tally) (ys : List ℕ) (why : BuildFault)
-    → IsPlace job.meaning window at n → length ys ≤ n → (done : IsDone unit_text job (first_writing job) v (range 0 at) (wire x a) (wire y b) told) → Gives b ys c × Appends y z []
-    → CutCause job (done.part ++ ys) c why → AreRecent job.meaning.size window at (at + length ys) why → IsCut (IsKnown unit_text job) job (wire x a) (wire z c) why
+    → IsPlace job.meaning window at n → length ys ≤ n → (done : IsDone unit_text (window_of job 0 at) (progress (first_writing job) x a) (progress v y b) told) → Gives b ys c × Appends y z []
+    → WorkCause (job_update job (done.part ++ ys)) c why → AreRecent job.meaning.size window at (at + length ys) why → IsCut (IsKnown unit_text job) job (wire x a) (wire z c) why
 cut_between unit_text job v at n window a b c x y z told ys why place size done next cause recent =
     let w = first_writing job in
     let xs = done.part in
@@ -131,19 +132,15 @@ cut_between unit_text job v at n window a b c x y z told ys why place size done 
       known = at;
       windows = record { within = omega (arith, count); whole = λ less. place.here; recent = subst (λ k. AreRecent job.meaning.size window at k why) count recent };
       bytes = first.these;
-      front = record {
-        pages = place.pages;
-        bytes = subst (λ (part : List ℕ). AreBytes (target_from job 0 part)) (sym front) done.bytes;
-        begun = subst (λ (part : List ℕ). BeginsText unit_text w part (target_from job 0 part) first.these why) (sym front)
-            (text_begins unit_text w xs (target_from job 0 xs) first.these why first.is);
-      };
+      front = subst (λ (part : List ℕ). IsKnown unit_text job part first.these why) (sym front)
+          (record { bytes = done.bytes; begun = text_begins unit_text w xs (target_from job 0 xs) first.these why first.is });
       put = subst (Appends x z) (append-nil first.these) (Appends-append x y z first.these [] first.put next.1);
     }
 
 -- or some of the window's text was
 cut_within : (unit_text : UnitText) (job : Job) (v : Writing) (at n window : ℕ) (a b c : Ahead) (x y z : Option (List ℕ)) (told : Tally) (ys : List ℕ) (why : StepsFault)
-    → IsPlace job.meaning window at n → length ys ≡ n → AreBytes (target_from job at ys) → (done : IsDone unit_text job (first_writing job) v (range 0 at) (wire x a) (wire y b) told) → Gives b ys c
-    → HasText unit_text v y z (stretch at ys (target_from job at ys)) → IsOfWriting why → CutCause job (done.part ++ ys) c (lifted_steps why)
+    → IsPlace job.meaning window at n → length ys ≡ n → AreBytes (target_from job at ys) → (done : IsDone unit_text (window_of job 0 at) (progress (first_writing job) x a) (progress v y b) told) → Gives b ys c
+    → HasText unit_text v y z (stretch at ys (target_from job at ys)) → IsOfWriting why → WorkCause (job_update job (done.part ++ ys)) c (lifted_steps why)
     → AreRecent job.meaning.size window (at + n) (at + n) (lifted_steps why) → IsCut (IsKnown unit_text job) job (wire x a) (wire z c) (lifted_steps why)
 cut_within unit_text job v at n window a b c x y z told ys why place size small done given has of cause recent =
     let w = first_writing job in
@@ -171,25 +168,24 @@ cut_within unit_text job v at n window a b c x y z told ys why place size small 
         recent = subst (λ k. AreRecent job.meaning.size window (at + n) k (lifted_steps why)) count recent;
       };
       bytes = text;
-      front = record {
-        pages = place.whole;
-        bytes = subst (λ (part : List ℕ). AreBytes (target_from job 0 part)) (sym all) (subst AreBytes (sym goal) (bytes_of_parts txs tys done.bytes small));
-        begun = subst (λ (part : List ℕ). BeginsText unit_text w part (target_from job 0 part) text (lifted_steps why)) (sym all)
-            (subst (λ (goal : List ℕ). BeginsText unit_text w (xs ++ ys) goal text (lifted_steps why)) (sym goal) (begun_begins unit_text w (xs ++ ys) (txs ++ tys) text why of begun));
-      };
+      front = subst (λ (part : List ℕ). IsKnown unit_text job part text (lifted_steps why)) (sym all) (record {
+        bytes = subst AreBytes (sym goal) (bytes_of_parts txs tys done.bytes small);
+        begun = subst (λ (goal : List ℕ). BeginsText unit_text w (stretch 0 (xs ++ ys) goal) text (lifted_steps why)) (sym goal)
+            (begun_begins unit_text w (xs ++ ys) (txs ++ tys) text why of begun);
+      });
       put = Appends-append x y z first.these has.front first.put has.put;
     }
 
 -- a window that was read, and ended early
 pub ended : (unit_text : UnitText) (job : Job) (w : Writing) (at count : ℕ) (before after : Ahead) (x y : Option (List ℕ)) (why : StepsFault)
-    → IsUndone unit_text job w at count (wire x before) (wire y after) why → StopsWindow unit_text job w at count (wire x before) (wire y after) (lifted_steps why)
+    → IsUndone unit_text (window_of job at count) (progress w x before) (wire y after) why → StopsWindow unit_text (window_of job at count) (progress w x before) (wire y after) (lifted_steps why)
 ended unit_text job w at count before after x y (steps.Plan why) is = is
 ended unit_text job w at count before after x y steps.Write is = is
 ended unit_text job w at count before after x y steps.Memory is = is
 
 -- what was done up to an address, and then it ended early
 pub done_then_cut : (unit_text : UnitText) (job : Job) (v : Writing) (at n window : ℕ) (a b c : Ahead) (x y z : Option (List ℕ)) (told : Tally) (why : BuildFault)
-    → IsPlace job.meaning window at n → IsDone unit_text job (first_writing job) v (range 0 at) (wire x a) (wire y b) told → StopsWindow unit_text job v at n (wire y b) (wire z c) why
+    → IsPlace job.meaning window at n → IsDone unit_text (window_of job 0 at) (progress (first_writing job) x a) (progress v y b) told → StopsWindow unit_text (window_of job at n) (progress v y b) (wire z c) why
     → IsCut (IsKnown unit_text job) job (wire x a) (wire z c) why
 done_then_cut unit_text job v at n window a b c x y z told fault.ContentShort place done stops =
     let unread = stops.0 in
@@ -217,10 +213,10 @@ done_then_cut unit_text job v at n window a b c x y z told fault.Memory place do
 ]
 done_then_cut unit_text job v at n window a b c x y z told other place done stops = absurd stops
 
-of_writing : (job : Job) (part : List ℕ) (after : Ahead) (why : StepsFault) → IsOfWriting why → CutCause job part after (lifted_steps why)
-of_writing job part after steps.Write is = tt
-of_writing job part after steps.Memory is = tt
-of_writing job part after (steps.Plan why) is = absurd is
+of_writing : (u : Update) (after : Ahead) (why : StepsFault) → IsOfWriting why → WorkCause u after (lifted_steps why)
+of_writing u after steps.Write is = tt
+of_writing u after steps.Memory is = tt
+of_writing u after (steps.Plan why) is = absurd is
 
 recent_none : (size window read : ℕ) (why : StepsFault) → IsOfWriting why → AreRecent size window read read (lifted_steps why)
 recent_none size window read steps.Write is = refl
@@ -228,13 +224,13 @@ recent_none size window read steps.Memory is = inl refl
 recent_none size window read (steps.Plan why) is = absurd is
 
 -- it ended before anything was read
-pub cut_before : (IsFront : ℕ → List ℕ → List ℕ → BuildFault → Type 0) (job : Job) (window : ℕ) (a : Ahead) (x y : Option (List ℕ)) (bytes : List ℕ) (why : StepsFault)
-    → IsWindowSize job.meaning window → IsOfWriting why → IsFront 0 [] bytes (lifted_steps why) → Appends x y bytes → IsCut IsFront job (wire x a) (wire y a) (lifted_steps why)
+pub cut_before : (IsFront : List ℕ → List ℕ → BuildFault → Type 0) (job : Job) (window : ℕ) (a : Ahead) (x y : Option (List ℕ)) (bytes : List ℕ) (why : StepsFault)
+    → IsWindowSize job.meaning window → IsOfWriting why → IsFront [] bytes (lifted_steps why) → Appends x y bytes → IsCut IsFront job (wire x a) (wire y a) (lifted_steps why)
 cut_before IsFront job window a x y bytes why size of front put = record {
   part = [];
   within = omega arith;
   given = gives_none a;
-  cause = of_writing job [] a why of;
+  cause = of_writing (job_update job []) a why of;
   window = window;
   its_size = size;
   known = 0;
@@ -248,28 +244,25 @@ cut_before IsFront job window a x y bytes why size of front put = record {
 pub none_cut : (unit_text : UnitText) (job : Job) (window : ℕ) (a : Ahead) (x : Option (List ℕ)) → IsWindowSize job.meaning window → IsCut (IsKnown unit_text job) job (wire x a) (wire x a) fault.Memory
 none_cut unit_text job window a x size =
     let w = first_writing job in
-    cut_before (IsKnown unit_text job) job window a x x [] steps.Memory size tt (record {
-      pages = zero-mod job.meaning.page;
-      bytes = λ k. omega arith;
-      begun = text_begins unit_text w [] [] [] fault.Memory (none_text unit_text w);
-    }) (Appends-none x)
+    cut_before (IsKnown unit_text job) job window a x x [] steps.Memory size tt
+    (record { bytes = λ k. omega arith; begun = text_begins unit_text w [] [] [] fault.Memory (none_text unit_text w) }) (Appends-none x)
 
 -- it ended after all windows
-pub cut_after : (IsFront : ℕ → List ℕ → List ℕ → BuildFault → Type 0) (unit_text : UnitText) (job : Job) (v : Writing) (window : ℕ) (a b : Ahead) (x y s t : Option (List ℕ)) (told : Tally)
-    (bytes : List ℕ) (why : StepsFault) → IsWindowSize job.meaning window → (done : IsAllDone unit_text job v (wire x a) (wire y b) told) → IsOfWriting why
-    → IsFront (length done.part) done.part bytes (lifted_steps why) → Appends s t bytes → IsCut IsFront job (wire s a) (wire t b) (lifted_steps why)
+pub cut_after : (IsFront : List ℕ → List ℕ → BuildFault → Type 0) (unit_text : UnitText) (job : Job) (v : Writing) (window : ℕ) (a b : Ahead) (x y s t : Option (List ℕ)) (told : Tally)
+    (bytes : List ℕ) (why : StepsFault) → IsWindowSize job.meaning window → (done : IsAllDone unit_text job (wire x a) (progress v y b) told) → IsOfWriting why
+    → IsFront done.part bytes (lifted_steps why) → Appends s t bytes → IsCut IsFront job (wire s a) (wire t b) (lifted_steps why)
 cut_after IsFront unit_text job v window a b x y s t told bytes why size done of front put =
     let read = length done.part in
     record {
       part = done.part;
       within = omega (arith, done.size);
       given = done.given;
-      cause = of_writing job done.part b why of;
+      cause = of_writing (job_update job done.part) b why of;
       window = window;
       its_size = size;
       known = read;
       windows = record { within = omega arith; whole = λ less. absurd (omega (arith, less, done.size)); recent = recent_none job.meaning.size window read why of };
       bytes = bytes;
-      front = front;
+      front = subst (λ (known : List ℕ). IsFront known bytes (lifted_steps why)) (sym (take_all read done.part (omega arith))) front;
       put = put;
     }

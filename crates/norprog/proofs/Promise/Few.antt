@@ -19,6 +19,7 @@ use Rattle.nor_outline.specs.declared.line.PlanLine.{PlanLine}
 use Rattle.nor_outline.specs.declared.line.PlanLine.TheVariants as line
 use Rattle.nor_steps.specs.Tally.{erases_of, programs_of}
 use Rattle.nor_steps.specs.Work.{stretch_units, IsWorkOf}
+use Rattle.nor_steps.specs.Stretch.{extent}
 use Rattle.norprog.specs.Planner.{Planning, IsReady, HasTold}
 use Rattle.norprog.specs.Windows.{first_writing}
 use Rattle.norprog.proofs.Content.Targets.{part_whole}
@@ -93,9 +94,9 @@ few_lines p first now lines tells none ready its =
     let by = strategy m job.start in
     let part = its.part in
     let goal = target_from job 0 part in
-    let us = stretch_units m by 0 (length part) part goal in
-    let plan : IsStretchPlanOf m by 0 (length part) part goal lines = its.plan part goal (part_whole part) (part_whole goal) in
-    let work : IsWorkOf (first_writing job) 0 (length part) part goal its.steps.ops = its.steps.work part goal (part_whole part) (part_whole goal) in
+    let us = stretch_units m by (extent 0 (length part) part goal) in
+    let plan : IsStretchPlanOf m by (extent 0 (length part) part goal) lines = its.plan part goal (part_whole part) (part_whole goal) in
+    let work : IsWorkOf (first_writing job) (extent 0 (length part) part goal) its.steps.ops = its.steps.work part goal (part_whole part) (part_whole goal) in
     let few = few_units tells none m by (is_due m part goal) us in
     let erases : p.told.erases ≡ count_by (λ (u : WorkUnit). is_some u.erase) us =
     ap (λ t. t.erases) its.steps.its_tally ∙ ap (sum_by erases_of) (sym work.are) ∙ erases_told m job.verify goal us in

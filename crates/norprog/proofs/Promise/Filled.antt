@@ -64,18 +64,18 @@ pub record IsFilled (job : Job) (known : ℕ) (part : List ℕ) : Type 0 where
   pub has : HasPart (filled job known part) (take known part) 0
   pub has' : HasPart (target_from job 0 (filled job known part)) (target_from job 0 (take known part)) 0
 
-pub filled_is : (job : Job) (known : ℕ) (part bytes : List ℕ) → IsAccepted job.meaning → GivesBytes job.image → length part ≤ job.meaning.size
-    → IsScriptFront job known part bytes → IsFilled job known part
-filled_is job known part bytes accepted gives fits front =
+pub filled_is : (job : Job) (known : ℕ) (part bytes : List ℕ) → IsAccepted job.meaning → GivesBytes job.image → known ≤ length part → length part ≤ job.meaning.size
+    → IsScriptFront job (take known part) bytes → IsFilled job known part
+filled_is job known part bytes accepted gives within fits front =
     let xs = take known part in
     let ys = filler job known in
     let txs = target_from job 0 xs in
-    let took : length xs ≡ known = length-take-le known part front.within in
+    let took : length xs ≡ known = length-take-le known part within in
     let rest : length ys ≡ job.meaning.size - known = length-target job known (replicate (job.meaning.size - known) 0) ∙ length-replicate (job.meaning.size - known) 0 in
     let goal : target_from job 0 (xs ++ ys) ≡ txs ++ ys =
     target_of_parts job 0 known xs ys (omega (arith, took)) ∙ ap (λ zs. txs ++ zs) (twice job known (replicate (job.meaning.size - known) 0)) in
     let long : length txs ≡ known = length-target job 0 xs ∙ took in
-    let size : length (xs ++ ys) ≡ job.meaning.size = omega (arith, length-append xs ys, took, rest, fits, front.within) in
+    let size : length (xs ++ ys) ≡ job.meaning.size = omega (arith, length-append xs ys, took, rest, fits, within) in
     let has : HasPart (xs ++ ys) xs 0 = part_front xs ys in
     let has' : HasPart (target_from job 0 (xs ++ ys)) txs 0 = subst (λ (zs : List ℕ). HasPart zs txs 0) (sym goal) (part_front txs ys) in
     record {
@@ -87,7 +87,7 @@ filled_is job known part bytes accepted gives fits front =
         want_size = length-target job 0 (xs ++ ys) ∙ size;
         bytes = subst AreBytes (sym goal) (bytes_of_parts txs ys front.small (zeros_small job gives (job.meaning.size - known) known));
         sound = λ a inside. elim (cases_lt a known) [
-          | inl less ↦ front.sound (xs ++ ys) (target_from job 0 (xs ++ ys)) has has' a (omega arith) (omega (arith, less))
+          | inl less ↦ front.sound (xs ++ ys) (target_from job 0 (xs ++ ys)) has has' a (omega arith) (omega (arith, less, took))
           | inr past ↦
               let left = get_or-append_right xs ys a 0 (omega (arith, past, took)) in
               let right = ap (λ (zs : List ℕ). slice_index zs a) goal ∙ get_or-append_right txs ys a 0 (omega (arith, past, long)) in

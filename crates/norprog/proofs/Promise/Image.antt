@@ -8,7 +8,7 @@ use Rattle.std.proofs.lemmas.Option.{get_or_from_slice_get}
 use Rattle.nor_hex.specs.declared.fault.HexFault.{HexFault}
 use Rattle.nor_hex.specs.declared.fault.HexFault.TheVariants.{NoColon, BadDigit, BadLength, BadSum, BadType}
 use Rattle.nor_hex.specs.Faults.{IsImage}
-use Rattle.nor_hex.specs.Image.{GivesBytes, Pairs, byte_at}
+use Rattle.nor_hex.specs.Image.{GivesBytes, Pairs}
 use Rattle.nor_hex.specs.Record.{Record, digit, pair_bytes, has_length, has_sum, type_field, length_field, fields, record_of}
 use Rattle.nor_hex.specs.Records.{record_at}
 use Rattle.nor_job.specs.Causes.{ImageSays}

@@ -1,12 +1,11 @@
 -- The end of a plan, and from a job to what a plan promises of its inputs.
-use Rattle.std.proofs.Common.{◌≡◌, ℕ, ◌+◌, ◌%◌, List, [], ◌⊎◌, length, take, Option, Some, Result, Ok, Err, IfOk, IfErr, inr, refl, sym, ◌∙◌, ap, subst, arith}
+use Rattle.std.proofs.Common.{◌≡◌, ℕ, ◌+◌, List, [], ◌⊎◌, length, take, Option, Some, Result, Ok, Err, IfOk, IfErr, inr, refl, sym, ◌∙◌, ap, subst, arith}
 use Rattle.std.specs.Io.KnownBytes.{Appends}
-use Rattle.std.proofs.lemmas.List.{take_all}
 use Rattle.nor_base.specs.declared.meaning.Start.{Start}
 use Rattle.nor_base.specs.Accepted.{IsAccepted}
 use Rattle.nor_base.specs.Device.{Ahead}
 use Rattle.nor_base.proofs.DeviceLaws.{Appends-none}
-use Rattle.nor_base.specs.Planned.{planned, planned_units, ArePlanned, IsWorkable}
+use Rattle.nor_base.specs.Planned.{planned_units}
 use Rattle.nor_base.specs.Strategies.{strategy}
 use Rattle.nor_geometry.specs.Window.{IsWindowSize}
 use Rattle.nor_job.specs.declared.fault.BuildFault.{BuildFault}
@@ -24,25 +23,22 @@ use Rattle.nor_job.specs.Status.{start_of}
 use Rattle.nor_job.specs.Task.{Task}
 use Rattle.nor_select.specs.Streamed.{last}
 use Rattle.nor_laws.specs.Spelling.{HasSpelling}
-use Rattle.nor_steps.specs.Stretch.{stretch}
+use Rattle.nor_steps.specs.Stretch.{stretch, extent}
 use Rattle.nor_steps.specs.declared.fault.StepsFault.TheVariants as steps
 use Rattle.nor_steps.specs.declared.tally.Tally.{Tally}
-use Rattle.nor_steps.specs.Lines.{steps_of}
 use Rattle.nor_steps.specs.Writing.{Writing}
 use Rattle.nor_plan_laws.specs.Exists.{PlannedCanBeSpelled}
 use Rattle.nor_job.specs.Wanted.{wanted, ReadsWithin}
 use Rattle.nor_base.specs.Wire.{wire}
 use Rattle.norprog.specs.Plan.{IsPlanOf, StopsPlan}
-use Rattle.norprog.specs.Planner.{Planning, IsReady, IsPlannedPart, HasTold, CutsPlan, IsPlanned, EndsPlan, PlansJob, PutsPlan}
+use Rattle.norprog.specs.Planner.{Planning, IsReady, IsPlannedPart, outlined, HasTold, CutsPlan, IsPlanned, told_plan, EndsPlan, PlansJob, PutsPlan}
 use Rattle.norprog.specs.declared.report.Report.{Report}
 use Rattle.norprog.specs.PlanWindows.{TellsWindows}
 use Rattle.nor_job.specs.Filled.{target_from}
-use Rattle.norprog.specs.Windows.{first_writing, IsAllDone, IsDone, BeginsText, IsKnown, IsCut, IsCutPlan, IsWorked, job_report, range}
-use Rattle.nor_job.specs.Written.{AreBytes}
-use Rattle.nor_job.proofs.TargetLemmas.{target_is}
-use Rattle.norprog.proofs.Promise.Build.{workable_is, spelled_is, report_is, work_cause}
+use Rattle.norprog.specs.Update.{Update, CanBeDone, IsDoneBy, WorkCause}
+use Rattle.norprog.specs.Windows.{first_writing, progress, window_of, job_update, IsAllDone, IsDone, IsKnown, IsCut, IsCutPlan, IsWorked, job_report}
+use Rattle.norprog.proofs.Promise.Build.{asked_is, steps_by, workable_is, spelled_is, report_is}
 use Rattle.norprog.proofs.Content.Joined.{text_begins, lines_tell}
-use Rattle.norprog.proofs.Content.Places.{chip_pages}
 use Rattle.norprog.proofs.Script.Written.{whole_work}
 use Rattle.norprog.proofs.Content.Targets.{part_whole}
 use Rattle.norprog.proofs.Content.Plans.{told_done}
@@ -53,40 +49,33 @@ whole_lines : (m : Parameters) (start : Start) (part goal : List ℕ) (lines : L
     → lines ≡ plan_of m start part goal
 unfolding units
 whole_lines m start part goal lines upto plan =
-    sym ((plan part goal (part_whole part) (part_whole goal)).are) ∙ ap (λ n. stretch_plan m (strategy m start) 0 n part goal) upto
+    sym ((plan part goal (part_whole part) (part_whole goal)).are) ∙ ap (λ n. stretch_plan m (strategy m start) (extent 0 n part goal)) upto
 
 -- where its steps aren't all told
-pub close_untold : (job : Job) (v : Writing) (window : ℕ) (a b : Ahead) (x y : Option (List ℕ)) (told : Tally) → IsAccepted job.meaning → IsWindowSize job.meaning window
-    → IsAllDone unit_outline job v (wire x a) (wire y b) told → IsCut (IsKnown unit_outline job) job (wire x a) (wire y b) fault.Memory
-close_untold job v window a b x y told accepted size done =
+pub close_untold : (job : Job) (v : Writing) (window : ℕ) (a b : Ahead) (x y : Option (List ℕ)) (told : Tally) → IsWindowSize job.meaning window
+    → IsAllDone unit_outline job (wire x a) (progress v y b) told → IsCut (IsKnown unit_outline job) job (wire x a) (wire y b) fault.Memory
+close_untold job v window a b x y told size done =
     let xs = done.part in
     let its = done.wrote in
-    let all = sym (take_all (length xs) xs (omega arith)) in
-    cut_after (IsKnown unit_outline job) unit_outline job v window a b x y x y told its.these steps.Memory size done tt (record {
-      pages = ap (λ n. n % job.meaning.page) done.size ∙ chip_pages job.meaning accepted;
-      bytes = subst (λ (part : List ℕ). AreBytes (target_from job 0 part)) all done.bytes;
-      begun = subst (λ (part : List ℕ). BeginsText unit_outline (first_writing job) part (target_from job 0 part) its.these fault.Memory) all
-          (text_begins unit_outline (first_writing job) xs (target_from job 0 xs) its.these fault.Memory its.is);
-    }) its.put
+    cut_after (IsKnown unit_outline job) unit_outline job v window a b x y x y told its.these steps.Memory size done tt
+    (record { bytes = done.bytes; begun = text_begins unit_outline (first_writing job) xs (target_from job 0 xs) its.these fault.Memory its.is }) its.put
 
 pub close_uncounted : (p : Planning) (a : Ahead) → IsReady p → p.at ≡ p.job.meaning.size → CutsPlan p a a fault.Memory
 close_uncounted p a ready whole first told x y its put =
-    close_untold p.job p.work p.window first a x y p.told ready.accepted ready.window
-    (subst (λ n. IsDone unit_outline p.job (first_writing p.job) p.work (range 0 n) (wire x first) (wire y a) p.told) whole (told_done p.job p.work p.at first a x y p.told told its put))
+    close_untold p.job p.work p.window first a x y p.told ready.window
+    (subst (λ n. IsDone unit_outline (window_of p.job 0 n) (progress (first_writing p.job) x first) (progress p.work y a) p.told) whole (told_done p.job p.work p.at first a x y p.told told its put))
 
 -- a job that was planned, of which so much is told
 pub planned_is : (t : Task) (len : ℕ) (job : Job) (before after : Ahead) (told : Tally) (lines : List PlanLine) → PlannedCanBeSpelled → HasSpelling
     → IsAccepted job.meaning → IsJob t len job → (done : IsWorked job before after told) → lines ≡ plan_of job.meaning job.start done.part (target_from job 0 done.part)
-    → IsPlanned t len before after lines (job_report job told)
+    → IsPlanned t len before after (told_plan lines (job_report job told))
 planned_is t len job before after told lines can spelling accepted is done plan =
     let m = job.meaning in
     let part = done.part in
-    let own = target_from job 0 part in
-    let goal = wanted t job.image is.regions part in
-    let steps = steps_of (planned m job.start job.verify part own) in
-    let same : own ≡ goal = target_is t len job is part in
-    let w : IsWorkable m job.start part own = workable_is job before after told accepted done in
-    let spelled = spelled_is can spelling m job.start job.verify part own w in
+    let u = job_update job part in
+    let same = asked_is t len job is part in
+    let w = workable_is job before after told accepted done in
+    let spelled = spelled_is can spelling u w in
     record {
       image = job.image;
       regions = is.regions;
@@ -95,11 +84,10 @@ planned_is t len job before after told lines can spelling accepted is done plan 
       content = part;
       whole = done.upto ∙ sym is.accepted.size;
       given = done.given;
-      workable = subst (IsWorkable m (start_of t) part) same (subst (λ (s : Start). IsWorkable m s part own) is.start w);
-      are = subst (λ (wish : List ℕ). lines ≡ plan_of m (start_of t) part wish) same (subst (λ (s : Start). lines ≡ plan_of m s part own) is.start plan);
-      steps = steps;
-      planned = subst (λ (wish : List ℕ). ArePlanned m (start_of t) t.verify part wish steps) same
-          (subst (λ v. ArePlanned m (start_of t) v part own steps) is.verify (subst (λ (s : Start). ArePlanned m s job.verify part own steps) is.start spelled.planned));
+      workable = subst CanBeDone same w;
+      are = subst (λ (v : Update). lines ≡ plan_of v.m v.start v.have v.want) same plan;
+      steps = steps_by u;
+      planned = subst (λ (v : Update). IsDoneBy v (steps_by u)) same spelled.planned;
       told = report_is t len job is part told done.its_tally;
     }
 
@@ -109,7 +97,7 @@ pub ends_plan : (p : Planning) (last_steps : ℕ) → PlannedCanBeSpelled → Ha
 unfolding told_done
 ends_plan p last_steps can spelling ready whole count t len first now lines is its =
     let job = p.job in
-    let all = subst (λ n. IsPlannedPart job (first_writing job) p.work (range 0 n) first now p.told lines) whole its in
+    let all = subst (λ n. IsPlannedPart (window_of job 0 n) (first_writing job) first now (outlined p.work p.told lines)) whole its in
     let part = all.part in
     let done = told_done job p.work job.meaning.size first now (Some []) (Some (lines_text lines)) p.told lines all refl in
     let work = whole_work unit_outline job p.work first now (Some []) (Some (lines_text lines)) p.told last_steps done count in
@@ -118,7 +106,7 @@ ends_plan p last_steps can spelling ready whole count t len first now lines is i
     (whole_lines job.meaning job.start part (target_from job 0 part) lines all.size all.plan))
 
 -- a writer that took the lines of a plan has its text
-pub plan_put : (t : Task) (len : ℕ) (before after : Ahead) (x y : Option (List ℕ)) (lines : List PlanLine) (report : Report) → IsPlanned t len before after lines report
+pub plan_put : (t : Task) (len : ℕ) (before after : Ahead) (x y : Option (List ℕ)) (lines : List PlanLine) (report : Report) → IsPlanned t len before after (told_plan lines report)
     → Appends x y (lines_text lines) → IsPlanOf t len (wire x before) (wire y after) report
 plan_put t len before after x y lines report is put =
     let goal = wanted t is.image is.regions is.content in
@@ -151,14 +139,13 @@ plan_stops t len job before after x y why is cut =
       part = cut.part;
       within = omega (arith, cut.within, is.accepted.size);
       given = cut.given;
-      cause = work_cause t len job is cut.part after why cut.cause;
+      cause = subst (λ (u : Update). WorkCause u after why) (asked_is t len job is cut.part) cut.cause;
       window = cut.window;
       its_size = cut.its_size;
       known = cut.known;
       windows = cut.windows;
       bytes = cut.bytes;
-      lines = subst (λ (goal : List ℕ). TellsWindows m (strategy m (start_of t)) front goal cut.bytes why) (target_is t len job is front)
-          (subst (λ (s : Start). TellsWindows m (strategy m s) front (target_from job 0 front) cut.bytes why) is.start (lines_tell (first_writing job) front (target_from job 0 front) cut.bytes why cut.front.begun));
+      lines = subst (λ (u : Update). TellsWindows u cut.bytes why) (asked_is t len job is front) (lines_tell job front cut.bytes why cut.front);
       put = cut.put;
     }
 

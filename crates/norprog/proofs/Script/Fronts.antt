@@ -1,7 +1,7 @@
 -- The text of a script, and its fronts.
-use Rattle.std.proofs.Common.{◌≡◌, ◌≢◌, ℕ, ◌+◌, ◌-◌, ◌<◌, ◌≤◌, false, List, [], ◌∷◌, ◌++◌, length, take, drop, Option, refl, sym, ◌∙◌, ap, subst, arith, append_assoc, length-append, length-drop}
+use Rattle.std.proofs.Common.{◌≡◌, ◌≢◌, ℕ, ◌+◌, ◌-◌, ◌%◌, ◌<◌, ◌≤◌, false, List, [], ◌∷◌, ◌++◌, length, take, drop, Option, refl, sym, ◌∙◌, ap, arith, append_assoc, length-append, length-drop}
 use Rattle.std.specs.Prelude.{flat_map}
-use Rattle.std.proofs.lemmas.List.{length-map, take-append-drop, length-take-le, take_all}
+use Rattle.std.proofs.lemmas.List.{length-map, take-append-drop}
 use Rattle.nor_base.specs.declared.meaning.Start.{Start}
 use Rattle.nor_base.specs.declared.meaning.Strategy.{Strategy}
 use Rattle.nor_base.specs.Device.{Ahead}
@@ -17,14 +17,16 @@ use Rattle.nor_job.specs.declared.job.Job.{Job}
 use Rattle.nor_select.specs.Streamed.{Streaming, next, last, onward}
 use Rattle.nor_steps.specs.declared.tally.Tally.{Tally}
 use Rattle.nor_steps.specs.Lines.{step_of, steps_of}
-use Rattle.nor_steps.specs.Texts.{UnitText, unit_steps}
-use Rattle.nor_steps.specs.Work.{stretch_ops, IsSound, IsBegunOf}
+use Rattle.nor_steps.specs.Texts.{UnitText, unit_steps, IsBegunTextOf}
+use Rattle.nor_steps.specs.Work.{stretch_ops, stretch_units, IsSound}
 use Rattle.nor_steps.specs.Writing.{Writing, lines_of, next_lines, written_on}
+use Rattle.nor_steps.specs.Stretch.{extent}
 use Rattle.nor_steps.proofs.LineLemmas.{lines_append}
 use Rattle.nor_steps.proofs.OpLemmas.{lines_join}
+use Rattle.nor_steps.proofs.TextLemmas.{units_steps}
 use Rattle.nor_job.specs.Filled.{target_from}
 use Rattle.nor_base.specs.Wire.{wire}
-use Rattle.norprog.specs.Windows.{first_writing, IsAllDone, IsKnown, IsTextFront, IsScriptFront}
+use Rattle.norprog.specs.Windows.{first_writing, progress, IsAllDone, IsKnown, IsTextFront, IsScriptFront}
 use Rattle.nor_job.specs.Written.{AreBytes}
 use Rattle.norprog.proofs.Content.Joined.{steps_begun}
 use Rattle.norprog.proofs.Content.Stretches.{stretch_join}
@@ -74,9 +76,9 @@ text_is job content target ops is =
     ∙ sym (append_assoc header (next_lines w ops ++ closing_lines w ops) (end_line (length these)))
 
 pub ops_are : (job : Job) (content target : List ℕ) → length content ≡ job.meaning.size
-    → job_ops job content target ≡ stretch_ops (first_writing job) 0 (length content) content target
+    → job_ops job content target ≡ stretch_ops (first_writing job) (extent 0 (length content) content target)
 unfolding units
-ops_are job content target size = ap (λ n. stretch_ops (first_writing job) 0 n content target) (sym size)
+ops_are job content target size = ap (λ n. stretch_ops (first_writing job) (extent 0 n content target)) (sym size)
 
 ended : (xs : List ℕ) (n : ℕ) → xs ++ end_line n ≢ []
 unfolding end_line
@@ -105,9 +107,8 @@ front_end job content target ops n k is count inside =
     }
 
 -- where nothing was read: some of the header
-pub header_front : (job : Job) (k : ℕ) → IsScriptFront job 0 [] (take k header)
+pub header_front : (job : Job) (k : ℕ) → IsScriptFront job [] (take k header)
 header_front job k = record {
-  within = omega arith;
   small = λ i. omega arith;
   front = λ content target size has has'.
       let w = first_writing job in
@@ -123,27 +124,27 @@ join_texts xs ys front rest later close =
     ap (λ text. xs ++ text) (append_assoc (front ++ rest) later close ∙ append_assoc front rest (later ++ close)) ∙ sym (append_assoc xs front (rest ++ (later ++ close)))
 
 -- windows that were begun
-pub known_front : (job : Job) (known : ℕ) (part front : List ℕ) (why : BuildFault) → 0 < job.meaning.page → known ≤ length part → length part ≤ job.meaning.size
-    → IsKnown unit_steps job known part front why → IsScriptFront job known part (header ++ front)
-known_front job known part front why some within fits is =
+pub known_front : (job : Job) (known front : List ℕ) (why : BuildFault) → 0 < job.meaning.page → length known % job.meaning.page ≡ 0 → length known ≤ job.meaning.size
+    → IsKnown unit_steps job known front why → IsScriptFront job known (header ++ front)
+known_front job known front why some pages fits is =
     let w = first_writing job in
-    let took : length (take known part) ≡ known = length-take-le known part within in
+    let n = length known in
     record {
-      within = within;
       small = is.bytes;
       front = λ content target size has has'.
-          let begun : IsBegunOf w 0 known content target front = subst (λ n. IsBegunOf w 0 n content target front) took (steps_begun w _ _ front why is.begun content target has has') in
-          let p = stretch_ops w 0 known content target in
-          let q = stretch_ops w known (job.meaning.size - known) content target in
-          let all : known + (job.meaning.size - known) ≡ length content = omega (arith, within, fits, size) in
+          let begun : IsBegunTextOf unit_steps w (extent 0 n content target) front = steps_begun w _ _ front why is.begun content target has has' in
+          let p = stretch_ops w (extent 0 n content target) in
+          let q = stretch_ops w (extent n (job.meaning.size - n) content target) in
+          let all : n + (job.meaning.size - n) ≡ length content = omega (arith, fits, size) in
           let ops : job_ops job content target ≡ p ++ q =
-          ops_are job content target size ∙ ap (λ n. stretch_ops w 0 n content target) (sym all) ∙ stretch_join w known (job.meaning.size - known) content target some is.pages in
+          ops_are job content target size ∙ ap (λ k. stretch_ops w (extent 0 k content target)) (sym all) ∙ stretch_join w n (job.meaning.size - n) content target some pages in
           let later = next_lines (written_on w p) q in
           let close = closing_lines w (p ++ q) in
-          let lines : next_lines w (p ++ q) ≡ (front ++ begun.rest) ++ later = lines_join w p q ∙ ap (λ text. text ++ later) begun.whole in
+          let lines : next_lines w (p ++ q) ≡ (front ++ begun.rest) ++ later =
+          lines_join w p q ∙ ap (λ text. text ++ later) (sym (units_steps w content target (stretch_units w.streaming.meaning w.streaming.by (extent 0 n content target))) ∙ begun.whole) in
           front_body job content target (header ++ front) (begun.rest ++ (later ++ close))
           (ap (body job) ops ∙ ap (λ text. header ++ (text ++ close)) lines ∙ join_texts header [] front begun.rest later close);
-      sound = λ content target has has'. subst (λ n. IsSound w 0 n content target) took (steps_begun w _ _ front why is.begun content target has has').sound;
+      sound = λ content target has has'. (steps_begun w _ _ front why is.begun content target has has').sound;
     }
 
 -- all windows were written
@@ -151,35 +152,29 @@ pub record IsWhole (job : Job) (part : List ℕ) (ops : List Op) : Type 0 where
   pub size : length part ≡ job.meaning.size
   pub small : AreBytes (target_from job 0 part)
   pub are : (content target : List ℕ) → length content ≡ job.meaning.size → HasPart content part 0 → HasPart target (target_from job 0 part) 0 → job_ops job content target ≡ ops
-  pub sound : (content target : List ℕ) → HasPart content part 0 → HasPart target (target_from job 0 part) 0 → IsSound (first_writing job) 0 (length part) content target
+  pub sound : (content target : List ℕ) → HasPart content part 0 → HasPart target (target_from job 0 part) 0 → IsSound (first_writing job) (extent 0 (length part) content target)
 
-pub whole_is : (unit_text : UnitText) (job : Job) (v : Writing) (a b : Ahead) (x y : Option (List ℕ)) (told : Tally) → (done : IsAllDone unit_text job v (wire x a) (wire y b) told)
+pub whole_is : (unit_text : UnitText) (job : Job) (v : Writing) (a b : Ahead) (x y : Option (List ℕ)) (told : Tally) → (done : IsAllDone unit_text job (wire x a) (progress v y b) told)
     → IsWhole job done.part done.wrote.steps.ops
 whole_is unit_text job v a b x y told done = record {
   size = done.size;
   small = done.bytes;
   are = λ content target size has has'.
-      ops_are job content target size ∙ ap (λ n. stretch_ops (first_writing job) 0 n content target) (size ∙ sym done.size) ∙ (done.wrote.steps.work content target has has').are;
+      ops_are job content target size ∙ ap (λ n. stretch_ops (first_writing job) (extent 0 n content target)) (size ∙ sym done.size) ∙ (done.wrote.steps.work content target has has').are;
   sound = λ content target has has'. (done.wrote.steps.work content target has has').sound;
 }
 
 whole_front : (job : Job) (part bytes : List ℕ) (ops : List Op) → IsWhole job part ops
-    → ((content target : List ℕ) → job_ops job content target ≡ ops → IsTextFront job content target bytes) → IsScriptFront job (length part) part bytes
-whole_front job part bytes ops is each =
-    let all : take (length part) part ≡ part = take_all (length part) part (omega arith) in
-    record {
-      within = omega arith;
-      small = subst (λ (xs : List ℕ). AreBytes (target_from job 0 xs)) (sym all) is.small;
-      front = λ content target size has has'.
-          each content target
-          (is.are content target size (subst (λ (xs : List ℕ). HasPart content xs 0) all has) (subst (λ (xs : List ℕ). HasPart target (target_from job 0 xs) 0) all has'));
-      sound = λ content target has has'.
-          is.sound content target (subst (λ (xs : List ℕ). HasPart content xs 0) all has) (subst (λ (xs : List ℕ). HasPart target (target_from job 0 xs) 0) all has');
-    }
+    → ((content target : List ℕ) → job_ops job content target ≡ ops → IsTextFront job content target bytes) → IsScriptFront job part bytes
+whole_front job part bytes ops is each = record {
+  small = is.small;
+  front = λ content target size has has'. each content target (is.are content target size has has');
+  sound = is.sound;
+}
 
 -- and some of the lines that leave the mode
 pub closing_front : (job : Job) (part front rest : List ℕ) (ops : List Op) → IsWhole job part ops → closing_lines (first_writing job) ops ≡ front ++ rest
-    → IsScriptFront job (length part) part (header ++ (next_lines (first_writing job) ops ++ front))
+    → IsScriptFront job part (header ++ (next_lines (first_writing job) ops ++ front))
 closing_front job part front rest ops is cut =
     let w = first_writing job in
     let text = next_lines w ops in
@@ -190,7 +185,7 @@ closing_front job part front rest ops is cut =
 -- and some of the end line
 pub end_front : (job : Job) (part : List ℕ) (ops : List Op) (n k : ℕ) → IsWhole job part ops
     → n ≡ length (next (first_writing job).streaming ops ++ last (onward (first_writing job).streaming ops)) → k < length (end_line n)
-    → IsScriptFront job (length part) part (body job ops ++ take k (end_line n))
+    → IsScriptFront job part (body job ops ++ take k (end_line n))
 end_front job part ops n k is count inside =
     whole_front job part (body job ops ++ take k (end_line n)) ops is
     (λ content target are. front_end job content target ops n k are (count ∙ sym (ap length (planned_parts job content target ops are))) inside)

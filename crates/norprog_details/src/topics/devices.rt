@@ -206,10 +206,11 @@ pub(crate) const TOPICS: &[Topic] = &[
         "Steps were sent to the chip, and not all of them are known to be done. So the\n\
          chip may hold neither what it held nor what it must hold, and may be in another\n\
          address mode: power it off and on. After flash or erase give the command that\n\
-         the line prints: it takes the dump of the first try as --resume. After play what\n\
-         it must hold is what norprog run --out want.bin leaves, from the old dump and\n\
-         script. Read the chip again, and give build --bin want.bin, without regions, and\n\
-         the new dump. The old image would leave FF what was erased around it.",
+         the line prints: it takes the dump of the first try as --resume. If it has a\n\
+         --page, leave that out: too large a page does this. After play what it must\n\
+         hold is what norprog run --out want.bin leaves, from the old dump and script.\n\
+         Read the chip again, and give build --bin want.bin, without regions, and the\n\
+         new dump. The old image would leave FF what was erased around it.",
     ),
 ];
 

@@ -145,9 +145,15 @@ pub(crate) const TOPICS: &[Topic] = &[
          --all), or leave --layout out.",
     ),
     (
+        "contradiction 6",
+        "No chip of these tables has the page of --page: they say another, or an erase\n\
+         of fewer bytes. Where `sfdp` prints `page 64 up`, take the page that the chip's\n\
+         data sheet has; else leave the option out.",
+    ),
+    (
         "contradiction",
         "Two parts of the command line exclude each other; the number says which. Ask\n\
-         for the word with its number, 1 to 5.",
+         for the word with its number, 1 to 6.",
     ),
     (
         "status 1",
@@ -264,7 +270,9 @@ pub(crate) const TOPICS: &[Topic] = &[
         "page",
         "As a refusal: no chip with these tables has the page of --page. Leave the\n\
          option out. As a line of sfdp: the number of bytes of the chip's page. With\n\
-         `up` after it the chip may have a larger page, a power of two up to 4096.",
+         `up` after it the chip may have a larger page, a power of two up to 4096: with\n\
+         that of its data sheet, mostly --page 256, it is programmed in fewer steps. Too\n\
+         large a page doesn't end as `ok`: what was written is read back.",
     ),
     (
         "read",

@@ -8,12 +8,13 @@ use Rattle.nor_base.specs.declared.step.Step.{Step}
 use Rattle.nor_check.specs.declared.verdict.Verdict.{Verdict}
 use Rattle.nor_check.specs.declared.verdict.Verdict.TheVariants.{Yes}
 use Rattle.nor_check.specs.Fed.{to_come}
+use Rattle.nor_check.specs.Outcome.{trial}
 use Rattle.nor_check.specs.Worst.{IsWorst}
 use Rattle.nor_check.proofs.checker.check.Goals as goal
 
 pub loop-step-init : goal.loop-step-init
 loop-step-init c = record {
-  worst = subst (λ (have : List ℕ). IsWorst c.args.meaning.now c.args.start.now have c.args.want.now c.args.steps.now (to_come c.new-checker.result c.args.steps.now))
+  worst = subst (λ (have : List ℕ). IsWorst (trial c.args.meaning.now c.args.start.now have c.args.want.now c.args.steps.now) (to_come c.new-checker.result c.args.steps.now))
       c.in_ok-array.ensures.items (c.new-checker.ensures.worst c.args.steps.now);
   yes = subst (λ (have : List ℕ). (to_come c.new-checker.result c.args.steps.now ≡ Yes)
       ↔ DoesTaskOnEvery c.args.meaning.now c.args.start.now have c.args.want.now c.args.steps.now) c.in_ok-array.ensures.items (c.new-checker.ensures.yes c.args.steps.now);
@@ -27,7 +28,7 @@ loop-step-preserved c =
     at_drop_more (to_come c.loop-step.checker) c.args.steps.now c.loop-step.step-index c.step-item.result c.loop-step-test.true
     ∙ ap (λ (x : Step). to_come c.loop-step.checker (x ∷ rest)) (sym c.step-item.is) ∙ sym (c.in_ok-step.ensures.fed rest) in
     record {
-      worst = subst (IsWorst c.args.meaning.now c.args.start.now c.args.have.now c.args.want.now c.args.steps.now) same c.loop-step.invariant.worst;
+      worst = subst (IsWorst (trial c.args.meaning.now c.args.start.now c.args.have.now c.args.want.now c.args.steps.now)) same c.loop-step.invariant.worst;
       yes = subst (λ (v : Verdict). (v ≡ Yes) ↔ DoesTaskOnEvery c.args.meaning.now c.args.start.now c.args.have.now c.args.want.now c.args.steps.now) same c.loop-step.invariant.yes;
       number = c.in_ok-step.ensures.number ∙ ap (λ n. n + 1) c.loop-step.invariant.number;
     }

@@ -4,17 +4,20 @@ use Rattle.std.proofs.Math.ListN.{drop_of_length-le}
 use Rattle.std.proofs.lemmas.List.{at_drop_more, drop_more}
 use Rattle.nor_base.specs.declared.step.Step.{Step}
 use Rattle.nor_check.specs.declared.verdict.Why.{Why}
+use Rattle.nor_check.specs.declared.verdict.Verdict.TheVariants.{No}
+use Rattle.nor_check.specs.declared.verdict.Witness.{Witness}
 use Rattle.nor_check.specs.Fed.{IsShown, to_come}
 use Rattle.nor_check.specs.Witness.{Witnesses, even}
+use Rattle.nor_check.specs.Outcome.{trial}
 use Rattle.nor_check.specs.Worst.{IsWorst}
 use Rattle.nor_check.proofs.checker.check_shown.Goals as goal
 
 pub loop-step-init : goal.loop-step-init
 loop-step-init c = record {
-  worst = subst (λ (have : List ℕ). IsWorst c.args.meaning.now c.args.start.now have c.args.want.now c.args.steps.now (to_come c.new-checker.result c.args.steps.now))
+  worst = subst (λ (have : List ℕ). IsWorst (trial c.args.meaning.now c.args.start.now have c.args.want.now c.args.steps.now) (to_come c.new-checker.result c.args.steps.now))
       c.in_ok-array.ensures.items (c.new-checker.ensures.worst c.args.steps.now);
-  shown = subst (λ (have : List ℕ). (step : ℕ) (why : Why) (page reads : ℕ) → IsShown c.new-checker.result c.args.steps.now step why page reads → (n : ℕ) → reads < n
-      → Witnesses c.args.meaning.now c.args.start.now have c.args.want.now c.args.steps.now step why (even n (step == length c.args.steps.now) page))
+  shown = subst (λ (have : List ℕ). (step : ℕ) (why : Why) (w : Witness) → IsShown c.new-checker.result c.args.steps.now (No step why) w → (n : ℕ) → w.reads < n
+      → Witnesses (trial c.args.meaning.now c.args.start.now have c.args.want.now c.args.steps.now) step why (even n (step == length c.args.steps.now) w.page))
       c.in_ok-array.ensures.items (c.new-checker.ensures.shown c.args.steps.now);
   number = c.new-checker.ensures.number;
 }
@@ -28,20 +31,20 @@ loop-step-preserved c =
     at_drop_more (to_come c.loop-step.checker) c.args.steps.now c.loop-step.step-index c.step-item.result c.loop-step-test.true
     ∙ ap (λ (x : Step). to_come c.loop-step.checker (x ∷ rest)) (sym c.step-item.is) ∙ sym (c.in_ok-step.ensures.fed rest) in
     record {
-      worst = subst (IsWorst c.args.meaning.now c.args.start.now c.args.have.now c.args.want.now c.args.steps.now) same c.loop-step.invariant.worst;
-      shown = λ step why page reads h n low.
-          c.loop-step.invariant.shown step why page reads
-          (subst (λ (xs : List Step). IsShown c.loop-step.checker xs step why page reads) (sym whole) (c.in_ok-step.ensures.shown rest step why page reads h)) n low;
+      worst = subst (IsWorst (trial c.args.meaning.now c.args.start.now c.args.have.now c.args.want.now c.args.steps.now)) same c.loop-step.invariant.worst;
+      shown = λ step why w h n low.
+          c.loop-step.invariant.shown step why w
+          (subst (λ (xs : List Step). IsShown c.loop-step.checker xs (No step why) w) (sym whole) (c.in_ok-step.ensures.shown rest (No step why) w h)) n low;
       number = c.in_ok-step.ensures.number ∙ ap (λ n. n + 1) c.loop-step.invariant.number;
     }
 
 pub returns-clause-worst : goal.returns-clause-worst
 returns-clause-worst c =
-    subst (IsWorst c.args.meaning.now c.args.start.now c.args.have.now c.args.want.now c.args.steps.now)
+    subst (IsWorst (trial c.args.meaning.now c.args.start.now c.args.have.now c.args.want.now c.args.steps.now))
     (ap (to_come c.loop-step.checker) (drop_of_length-le c.args.steps.now c.loop-step-test.false) ∙ sym c.verdict-verdict.ensures) c.loop-step.invariant.worst
 
 pub returns-clause-shown : goal.returns-clause-shown
 returns-clause-shown c = λ step why is n low.
-    c.loop-step.invariant.shown step why c.witness-witness.result.page c.witness-witness.result.reads
-    (subst (λ (xs : List Step). IsShown c.loop-step.checker xs step why c.witness-witness.result.page c.witness-witness.result.reads)
+    c.loop-step.invariant.shown step why c.witness-witness.result
+    (subst (λ (xs : List Step). IsShown c.loop-step.checker xs (No step why) c.witness-witness.result)
     (sym (drop_of_length-le c.args.steps.now c.loop-step-test.false)) (c.witness-witness.ensures step why (sym c.verdict-verdict.ensures ∙ is))) n low

@@ -1,5 +1,5 @@
 -- The text's fault, or memory.
-use Rattle.std.proofs.Common.{◌≡◌, ◌∙◌, ap, rules, subst, sym, None}
+use Rattle.std.proofs.Common.{◌≡◌, ap, rules, subst, None}
 use Rattle.nor_hex.specs.Faults.{IsFault}
 use Rattle.nor_job.specs.Causes.{OutOfMemory}
 use Rattle.nor_job.specs.Task.{Task}

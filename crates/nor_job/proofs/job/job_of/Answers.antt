@@ -1,5 +1,5 @@
 -- Each stage's refusal.
-use Rattle.std.proofs.Common.{◌≡◌, false, true, sym, ap, subst}
+use Rattle.std.proofs.Common.{◌≡◌, false, true, ap}
 use Rattle.nor_job.specs.Task.{Task}
 use Rattle.nor_base.proofs.FaultLaws.{handed_on}
 use Rattle.nor_job.proofs.FaultLemmas.{has_image, refuses_image}

@@ -1,11 +1,10 @@
 -- The job's first region without a byte is the only one.
-use Rattle.std.proofs.Common.{◌≡◌, ◌∙◌, ap, ℕ, Option}
+use Rattle.std.proofs.Common.{◌≡◌, ◌∙◌, ap}
 use Rattle.nor_base.proofs.FaultLaws.{handed_on}
 use Rattle.nor_hex.specs.Image.{byte_at}
 use Rattle.nor_target.specs.Shares.{chosen_regions, first_empty}
 use Rattle.nor_job.proofs.OneLemmas.{one_first, only_first}
 use Rattle.nor_job.specs.declared.job.Job.{Job}
-use Rattle.nor_job.specs.Shares.{HasFirstEmpty}
 use Rattle.nor_job.proofs.shares.empty_region.Goals as goal
 
 pub returns-in_err-job-clause-only_memory : goal.returns-in_err-job-clause-only_memory

@@ -17,17 +17,18 @@ pub loop-line-preserved : goal.loop-line-preserved
 loop-line-preserved c =
     let m = c.args.meaning.now in
     let steps = c.loop-line.steps.items in
-    let x = c.in-Some-2.read.step in
+    let read = c.in-Some-2.read in
+    let x = read.step in
     let count : c.len.result ≡ length steps = omega (arith, c.loop-line.steps.ok.0) in
-    let says : SaysLine m c.len.result c.loop-line.mode4 c.in-Some.line.now x c.in-Some-2.read.after = search rules in
-    let here : SaysLine m (length steps) c.loop-line.mode4 c.in-Some.line.now x c.in-Some-2.read.after =
-    subst (λ n. SaysLine m n c.loop-line.mode4 c.in-Some.line.now x c.in-Some-2.read.after) count says in
+    let says : SaysLine m c.len.result c.loop-line.mode4 c.in-Some.line.now read = search rules in
+    let here : SaysLine m (length steps) c.loop-line.mode4 c.in-Some.line.now read =
+    subst (λ n. SaysLine m n c.loop-line.mode4 c.in-Some.line.now read) count says in
     let more : c.push.new.self.items ≡ steps ++ x ∷ [] = c.in_ok-push.ensures.items in
     record {
       read = subst (λ (l : List Step). AreRead m c.args.first c.args.text.now l c.in-Some.more.now) (sym more)
-          (one_read m c.args.first c.args.text.now steps c.loop-line.rest.now x c.loop-line.mode4 c.in-Some-2.read.after c.in-Some.line.now c.in-Some.more.now
+          (one_read m c.args.first c.args.text.now steps c.loop-line.rest.now read c.loop-line.mode4 c.in-Some.line.now c.in-Some.more.now
           c.loop-line.invariant.read c.loop-line.invariant.mode c.in-Some.ensures.whole here);
-      mode = mode_read m c.args.first c.args.text.now steps c.loop-line.rest.now x c.loop-line.mode4 c.in-Some-2.read.after c.in-Some.line.now c.loop-line.invariant.mode here
+      mode = mode_read m c.args.first c.args.text.now steps c.loop-line.rest.now read c.loop-line.mode4 c.in-Some.line.now c.loop-line.invariant.mode here
           ∙ ap (mode_through m c.args.first) (sym more);
     }
 

@@ -1,6 +1,7 @@
 -- Each step takes the play further, or ends it.
 use Rattle.std.proofs.Common.{◌+◌, ◌++◌, List, [], ◌∷◌, Ok, Err, take, drop, refl, sym, ◌∙◌, subst}
 use Rattle.nor_base.specs.declared.step.Step.{Step}
+use Rattle.nor_chip.specs.Asked.{AsksMore}
 use Rattle.nor_play.specs.Fed.{Player, past}
 use Rattle.nor_play.specs.Play.{Plays}
 use Rattle.nor_play.specs.Asks.{AsksPlay}
@@ -40,8 +41,8 @@ returns-in_err-step-clause-asked g c =
     let P = g.P.Port.asked c.args.port.now in
     let Q = g.P.Port.asked c.loop-step.port in
     let R = g.P.Port.asked c.step.new.port in
-    answered c.from_residual.result (AsksPlay before P R c.args.limit c.args.steps.now) c.in_err-step.field-0.0
-    (subst (λ (l : List Step). AsksPlay before P R c.args.limit l (Err c.in_err-step.field-0.0)) (at_one c.args.steps.now c.loop-step.step-index c.step-item.result c.loop-step-test.true c.step-item.is)
+    answered c.from_residual.result (AsksPlay before (AsksMore P R) c.args.limit c.args.steps.now) c.in_err-step.field-0.0
+    (subst (λ (l : List Step). AsksPlay before (AsksMore P R) c.args.limit l (Err c.in_err-step.field-0.0)) (at_one c.args.steps.now c.loop-step.step-index c.step-item.result c.loop-step-test.true c.step-item.is)
     (fed_halts_asks before now after c.args.limit (take c.loop-step.step-index c.args.steps.now) c.loop-step.player c.loop-step.invariant.fed c.step-item.result
     (drop (c.loop-step.step-index + 1) c.args.steps.now) c.in_err-step.field-0.0 c.in_err-step.ensures.played P Q R c.loop-step.invariant.asked c.in_err-step.ensures.asked))
     c.from_residual.ensures.1

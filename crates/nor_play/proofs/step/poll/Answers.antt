@@ -8,6 +8,7 @@ use Rattle.nor_play.specs.Turns.{PlaysStep}
 use Rattle.nor_play.proofs.PollLemmas.{IsPolling, waits, goes_on, ends, halts, never, idle_says, busy_says}
 use Rattle.nor_base.proofs.FaultLaws.{answered}
 use Rattle.nor_play.proofs.StepLemmas.{poll_unknown}
+use Rattle.nor_chip.specs.Asked.{AsksMore}
 use Rattle.nor_play.specs.Asks.{AsksStep}
 use Rattle.nor_play.proofs.AskLemmas.{IsAsking, waits_asking, asks_on, asks_enough, asks_halts, asks_all, poll_none, as_many, never_asked}
 use Rattle.nor_play.proofs.step.poll.Goals as goal
@@ -65,7 +66,7 @@ pub returns-in_err-transact-clause-asked : goal.returns-in_err-transact-clause-a
 returns-in_err-transact-clause-asked g c =
     let is : bytes_eq c.args.clocks.now poll_clocks ≡ true = search rules in
     answered c.from_residual.result
-    (AsksStep (g.P.Port.shown c.args.port.now) (g.P.Port.asked c.args.port.now) (g.P.Port.asked c.transact.new.self) c.args.limit (Poll c.args.clocks.now))
+    (AsksStep (g.P.Port.shown c.args.port.now) (AsksMore (g.P.Port.asked c.args.port.now) (g.P.Port.asked c.transact.new.self)) c.args.limit (Poll c.args.clocks.now))
     (halt_of c.in_err-transact.field-0.0)
     (asks_halts (g.P.Port.shown c.args.port.now) (g.P.Port.shown c.loop-turn.port) (g.P.Port.shown c.transact.new.self) (g.P.Port.asked c.args.port.now) (g.P.Port.asked c.loop-turn.port) (g.P.Port.asked c.transact.new.self) c.args.limit c.loop-turn.turn c.loop-turn.invariant.polling c.loop-turn.invariant.asking c.loop-turn-test.true
     c.args.clocks.now _ c.in_err-transact.field-0.0 is c.in_err-transact.ensures.effect c.in_err-transact.ensures.asked) c.from_residual.ensures.1

@@ -6,6 +6,7 @@ use Rattle.nor_base.specs.Run.{is_verify}
 use Rattle.nor_play.specs.Turns.{PlaysStep}
 use Rattle.nor_base.proofs.FaultLaws.{answered}
 use Rattle.nor_play.proofs.StepLemmas.{verify_ends, verify_differs, verify_unknown, verify_halts}
+use Rattle.nor_chip.specs.Asked.{AsksMore}
 use Rattle.nor_play.specs.Asks.{AsksStep}
 use Rattle.nor_play.proofs.AskLemmas.{of_one, verify_one, verify_none, as_many, never_asked}
 use Rattle.nor_play.proofs.step.verify.Goals as goal
@@ -17,7 +18,7 @@ pub returns-in_err-bytes-clause-played : goal.returns-in_err-bytes-clause-played
 returns-in_err-bytes-clause-played g c =
     let is : is_verify c.args.clocks.now ≡ true = search rules in
     answered c.from_residual.result (PlaysStep (g.P.Port.shown c.args.port.now) (g.P.Port.shown c.transact.new.port) c.args.limit (Verify c.args.clocks.now c.args.expect.now)) c.in_err-bytes.field-0.0
-    (verify_halts {A = Vec ℕ Global} (λ v. v.items) _ _ c.args.limit c.args.clocks.now c.args.expect.now c.in_err-bytes.field-0.0 is c.in_err-bytes.ensures.given) c.from_residual.ensures.1
+    (verify_halts _ _ c.args.limit c.args.clocks.now c.args.expect.now c.in_err-bytes.field-0.0 is c.in_err-bytes.ensures.given) c.from_residual.ensures.1
 
 pub returns-then-ne-clause-played : goal.returns-then-ne-clause-played
 returns-then-ne-clause-played g c =
@@ -39,7 +40,7 @@ pub returns-in_err-bytes-clause-asked : goal.returns-in_err-bytes-clause-asked
 returns-in_err-bytes-clause-asked g c =
     let is : is_verify c.args.clocks.now ≡ true = search rules in
     let shown = g.P.Port.shown c.args.port.now in
-    answered c.from_residual.result (AsksStep shown (g.P.Port.asked c.args.port.now) (g.P.Port.asked c.transact.new.port) c.args.limit (Verify c.args.clocks.now c.args.expect.now))
+    answered c.from_residual.result (AsksStep shown (AsksMore (g.P.Port.asked c.args.port.now) (g.P.Port.asked c.transact.new.port)) c.args.limit (Verify c.args.clocks.now c.args.expect.now))
     c.in_err-bytes.field-0.0
     (of_one (Vec ℕ Global) shown (g.P.Port.asked c.args.port.now) (g.P.Port.asked c.transact.new.port) c.args.limit (Verify c.args.clocks.now c.args.expect.now) c.in_err-bytes.field-0.0
     (verify_one shown c.args.limit c.args.clocks.now c.args.expect.now is) c.in_err-bytes.ensures.asked) c.from_residual.ensures.1

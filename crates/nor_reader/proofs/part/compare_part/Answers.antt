@@ -4,6 +4,7 @@ use Rattle.nor_base.specs.Wire.{wire}
 use Rattle.nor_loop.proofs.DeviceLemmas.{logged_both}
 use Rattle.nor_reader.specs.declared.difference.Mismatch.TheVariants.{Exchange}
 use Rattle.nor_reader.specs.Part.{AllCame, Differed, NotEntered, NotLeft, NotLeftOther, NotRead, ReadsPart}
+use Rattle.nor_reader.specs.Reads.{chunk}
 use Rattle.nor_reader.proofs.part.compare_part.Goals as goal
 
 pub returns-in_err-switch_mode : goal.returns-in_err-switch_mode
@@ -11,7 +12,7 @@ returns-in_err-switch_mode g c =
     let before = wire (g.W.ByteOut.held c.args.to.now) (g.R.ByteIn.ahead c.args.from.now) in
     let after = wire (g.W.ByteOut.held c.switch_mode.new.to) (g.R.ByteIn.ahead c.switch_mode.new.from) in
     let why = c.in_err-switch_mode.field-0.0 in
-    answered _ (ReadsPart c.args.by c.args.address c.args.part.now before after) (Exchange why)
+    answered _ (ReadsPart c.args.by (chunk c.args.address c.args.part.now) before after) (Exchange why)
     (NotEntered why (rw c.enter_of.ensures at c.in_err-switch_mode.ensures.switches)) c.from_residual.ensures.1
 
 pub returns-in_err-switch_mode-in-Ok : goal.returns-in_err-switch_mode-in-Ok
@@ -19,7 +20,7 @@ returns-in_err-switch_mode-in-Ok g c =
     let before = wire (g.W.ByteOut.held c.args.to.now) (g.R.ByteIn.ahead c.args.from.now) in
     let after = wire (g.W.ByteOut.held c.switch_mode-in-Ok.new.to) (g.R.ByteIn.ahead c.switch_mode-in-Ok.new.from) in
     let why = c.in_err-switch_mode-in-Ok.field-0.0 in
-    answered _ (ReadsPart c.args.by c.args.address c.args.part.now before after) (Exchange why)
+    answered _ (ReadsPart c.args.by (chunk c.args.address c.args.part.now) before after) (Exchange why)
     (NotLeft why (record {
       held = _;
       ahead = _;
@@ -32,7 +33,7 @@ returns-in_err-switch_mode-in-Err-Differs g c =
     let before = wire (g.W.ByteOut.held c.args.to.now) (g.R.ByteIn.ahead c.args.from.now) in
     let after = wire (g.W.ByteOut.held c.switch_mode-in-Err-Differs.new.to) (g.R.ByteIn.ahead c.switch_mode-in-Err-Differs.new.from) in
     let why = c.in_err-switch_mode-in-Err-Differs.field-0.0 in
-    answered _ (ReadsPart c.args.by c.args.address c.args.part.now before after) (Exchange why)
+    answered _ (ReadsPart c.args.by (chunk c.args.address c.args.part.now) before after) (Exchange why)
     (NotLeftOther c.in-Err-Differs.difference why (record {
       held = _;
       ahead = _;

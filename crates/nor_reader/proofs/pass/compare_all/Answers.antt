@@ -1,5 +1,6 @@
 -- Piece by piece.
 use Rattle.std.proofs.Common.{◌≤◌, ◌<◌, ◌+◌, [], length, refl, ◌∙◌, arith}
+use Rattle.nor_reader.specs.Reads.{reads}
 use Rattle.nor_reader.proofs.PassLemmas.{nothing_read}
 use Rattle.nor_reader.proofs.AgainLemmas.{again_more, again_not}
 use Rattle.nor_reader.proofs.CutLemmas.{cut_begins, again_cut}
@@ -8,7 +9,7 @@ use Rattle.nor_reader.proofs.pass.compare_all.Goals as goal
 pub loop-done-init : goal.loop-done-init
 loop-done-init g c = record {
   within = omega arith;
-  alike = nothing_read c.args.limits.now.asked (g.W.ByteOut.held c.args.to.now) (g.R.ByteIn.ahead c.args.from.now) c.args.by [];
+  alike = nothing_read (reads c.args.limits.now.asked c.args.by) (g.W.ByteOut.held c.args.to.now) (g.R.ByteIn.ahead c.args.from.now) [];
   cut = cut_begins c.args.first c.args.limits.now.asked (length c.args.bytes.now) (g.W.ByteOut.held c.args.to.now) (g.R.ByteIn.ahead c.args.from.now)
       c.args.by 0 0 [] c.requires.some c.requires.few refl;
   reads = refl;
@@ -23,13 +24,9 @@ loop-done-preserved g c =
     let ok = c.in_default.ensures in
     record {
       within = within;
-      alike = again_more c.args.limits.now.asked (g.W.ByteOut.held c.args.to.now) (g.W.ByteOut.held c.loop-done.to)
-          (g.W.ByteOut.held c.compare_piece.new.to) (g.R.ByteIn.ahead c.args.from.now) (g.R.ByteIn.ahead c.loop-done.from)
-          (g.R.ByteIn.ahead c.compare_piece.new.from) c.args.by c.args.bytes.now
-          c.loop-done.done c.min-len.result within some few c.loop-done.invariant.alike ok.read;
-      cut = again_cut c.args.first c.args.limits.now.asked c.loop-done.next (g.W.ByteOut.held c.args.to.now) (g.W.ByteOut.held c.loop-done.to)
-          (g.W.ByteOut.held c.compare_piece.new.to) (g.R.ByteIn.ahead c.args.from.now) (g.R.ByteIn.ahead c.loop-done.from)
-          (g.R.ByteIn.ahead c.compare_piece.new.from) c.args.by c.args.bytes.now c.loop-done.done c.min-len.result c.loop-done-test.true
+      alike = again_more (reads c.args.limits.now.asked c.args.by) _ _ _ _ _ _ c.args.bytes.now c.loop-done.done c.min-len.result within some few
+          c.loop-done.invariant.alike ok.read;
+      cut = again_cut c.args.first c.args.limits.now.asked c.loop-done.next _ _ _ _ _ _ c.args.by c.args.bytes.now c.loop-done.done c.min-len.result c.loop-done-test.true
           c.min-len.ensures c.args.limits.now.some_asked c.loop-done.invariant.cut ok.read;
       reads = ok.counts.0 ∙ c.loop-done.invariant.reads;
       writes = ok.counts.1 ∙ c.loop-done.invariant.writes;
@@ -40,6 +37,5 @@ returns-in-Err-clause-again g c =
     let within : c.loop-done.done + c.min-len.result ≤ length c.args.bytes.now = omega arith in
     let some : 0 < c.min-len.result = omega (arith, c.loop-done.invariant.cut.some) in
     let few : c.min-len.result ≤ c.args.limits.now.asked = omega (arith, c.loop-done.invariant.cut.few) in
-    again_not c.args.limits.now.asked (g.W.ByteOut.held c.args.to.now) (g.W.ByteOut.held c.loop-done.to) (g.W.ByteOut.held c.compare_piece.new.to)
-    (g.R.ByteIn.ahead c.args.from.now) (g.R.ByteIn.ahead c.loop-done.from) (g.R.ByteIn.ahead c.compare_piece.new.from) c.args.by c.args.bytes.now
-    c.loop-done.done c.min-len.result c.in-Err.why within some few c.loop-done.invariant.alike c.in-Err.ensures.read
+    again_not (reads c.args.limits.now.asked c.args.by) _ _ _ _ _ _ c.args.bytes.now c.loop-done.done c.min-len.result c.in-Err.why within some few
+    c.loop-done.invariant.alike c.in-Err.ensures.read

@@ -2,7 +2,7 @@
 use Rattle.std.proofs.Common.{◌≡◌, ◌≤◌, ◌+◌, ◌-◌, length, take, drop, refl, ◌∙◌, ap, subst, arith, length-take, length-drop}
 use borrow.Rule.Slice.PartMut.{put_mid}
 use Rattle.nor_base.specs.Wire.{wire}
-use Rattle.nor_reader.specs.Reads.{HasReadOn}
+use Rattle.nor_reader.specs.Reads.{reads, HasReadOn}
 use Rattle.nor_reader.proofs.CutLemmas.{IsCutTo, cut_begins, nothing_cut, read_cut}
 use Rattle.nor_reader.proofs.PassLemmas.{nothing_read, piece_more, piece_stops, put_piece}
 use Rattle.nor_reader.proofs.pass.read_on.Goals as goal
@@ -12,7 +12,7 @@ loop-done-init g c = record {
   after = omega arith;
   within = c.requires.start;
   size = refl;
-  read = nothing_read c.args.limits.now.asked (g.W.ByteOut.held c.args.to.now) (g.R.ByteIn.ahead c.args.from.now) c.args.by
+  read = nothing_read (reads c.args.limits.now.asked c.args.by) (g.W.ByteOut.held c.args.to.now) (g.R.ByteIn.ahead c.args.from.now)
       (take c.args.start c.args.bytes.now);
   cut = cut_begins c.args.limits.now.asked c.args.limits.now.asked (length c.args.bytes.now) (g.W.ByteOut.held c.args.to.now)
       (g.R.ByteIn.ahead c.args.from.now) c.args.by c.args.start c.args.start (drop c.args.start (take c.args.start c.args.bytes.now))
@@ -43,10 +43,10 @@ loop-done-preserved g c =
       after = omega arith;
       within = omega (arith, put.size, fits);
       size = put.size ∙ size;
-      read = subst (λ n. HasReadOn most (wire (g.W.ByteOut.held c.args.to.now) (g.R.ByteIn.ahead c.args.from.now)) (wire (g.W.ByteOut.held c.read_piece.new.to) (g.R.ByteIn.ahead c.read_piece.new.from)) c.args.by (take c.args.start c.args.bytes.now) (take (done + n) new)) long
-          (piece_more most (g.W.ByteOut.held c.args.to.now) (g.W.ByteOut.held c.loop-done.to) (g.W.ByteOut.held c.read_piece.new.to)
+      read = subst (λ n. HasReadOn (reads most c.args.by) (wire (g.W.ByteOut.held c.args.to.now) (g.R.ByteIn.ahead c.args.from.now)) (wire (g.W.ByteOut.held c.read_piece.new.to) (g.R.ByteIn.ahead c.read_piece.new.from)) (take c.args.start c.args.bytes.now) (take (done + n) new)) long
+          (piece_more (reads most c.args.by) (g.W.ByteOut.held c.args.to.now) (g.W.ByteOut.held c.loop-done.to) (g.W.ByteOut.held c.read_piece.new.to)
           (g.R.ByteIn.ahead c.args.from.now)
-          (g.R.ByteIn.ahead c.loop-done.from) (g.R.ByteIn.ahead c.read_piece.new.from) c.args.by (take c.args.start c.args.bytes.now) old new piece done within
+          (g.R.ByteIn.ahead c.loop-done.from) (g.R.ByteIn.ahead c.read_piece.new.from) (take c.args.start c.args.bytes.now) old new piece done within
           (omega (arith, long, least, some_asked, goes, size)) (omega (arith, long, least)) (ap (λ n. take (done + n) new) long ∙ put.front)
           c.loop-done.invariant.read c.in_default.ensures.read);
       cut = subst (λ n. IsCutTo most most most (length c.args.bytes.now) (done + n) (g.W.ByteOut.held c.args.to.now) (g.W.ByteOut.held c.read_piece.new.to)
@@ -74,7 +74,7 @@ returns-in-Err-clause-read g c =
     let count : done + len - done ≡ len = omega arith in
     let long : length piece ≡ len =
     c.read_piece.auto.piece ∙ omega (arith, length-take (done + len - done) (drop done old), length-drop done old, fits, count) in
-    piece_stops most (g.W.ByteOut.held c.args.to.now) (g.W.ByteOut.held c.loop-done.to) (g.W.ByteOut.held c.read_piece.new.to)
-    (g.R.ByteIn.ahead c.args.from.now) (g.R.ByteIn.ahead c.loop-done.from) (g.R.ByteIn.ahead c.read_piece.new.from) c.args.by
+    piece_stops (reads most c.args.by) (g.W.ByteOut.held c.args.to.now) (g.W.ByteOut.held c.loop-done.to) (g.W.ByteOut.held c.read_piece.new.to)
+    (g.R.ByteIn.ahead c.args.from.now) (g.R.ByteIn.ahead c.loop-done.from) (g.R.ByteIn.ahead c.read_piece.new.from)
     (take c.args.start c.args.bytes.now) old piece done c.in-Err.why within (omega (arith, long, least)) c.loop-done.invariant.read
     c.in-Err.ensures.read

@@ -1,10 +1,9 @@
 -- The header, the parameter headers, and the tables.
-use Rattle.std.proofs.Common.{ℕ, List, [], Err, sym, ◌∙◌, subst}
+use Rattle.std.proofs.Common.{List, [], Err, sym, ◌∙◌, subst, ℕ}
 use Rattle.nor_base.specs.Wire.{wire}
-use Rattle.nor_reader.specs.declared.by.ReadBy.TheVariants.{Tables}
 use Rattle.nor_reader.specs.Again.{ReadsAgain}
 use Rattle.nor_reader.specs.Reads.{HasReadOn}
-use Rattle.nor_reader.specs.Tables.{HasSignature}
+use Rattle.nor_reader.specs.Tables.{table_reads, HasSignature}
 use Rattle.nor_reader.proofs.PassLemmas.{nothing_read, read_both}
 use Rattle.nor_reader.proofs.TwiceLemmas.{tables_twice, tables_missed}
 use Rattle.nor_reader.proofs.TablesLemmas.{grow_stops, from_none, these_tables}
@@ -15,69 +14,42 @@ returns-in-Err-clause-tables g c =
     let most = c.args.limits.now.asked in
     let h = g.W.ByteOut.held c.args.to.now in
     let a = g.R.ByteIn.ahead c.args.from.now in
-    grow_stops most h h (g.W.ByteOut.held c.grow.new.to) a a (g.R.ByteIn.ahead c.grow.new.from) c.new-bytes.result.items c.grow.new.bytes.items 8
-    c.in-Err.why
-    (subst (λ (old : List ℕ). HasReadOn most (wire h a) (wire h a) Tables [] old) (sym c.new-bytes.ensures.items) (nothing_read most h a Tables []))
+    grow_stops most _ _ _ _ _ _ c.new-bytes.result.items c.in-Err.why
+    (subst (λ (old : List ℕ). HasReadOn (table_reads most) (wire h a) (wire h a) [] old) (sym c.new-bytes.ensures.items) (nothing_read (table_reads most) h a []))
     c.in-Err.ensures.grows
 
 pub returns-in-Err-grow-clause-tables : goal.returns-in-Err-grow-clause-tables
 returns-in-Err-grow-clause-tables g c =
-    let most = c.args.limits.now.asked in
-    grow_stops most (g.W.ByteOut.held c.args.to.now) (g.W.ByteOut.held c.grow.new.to) (g.W.ByteOut.held c.grow-2.new.to)
-    (g.R.ByteIn.ahead c.args.from.now)
-    (g.R.ByteIn.ahead c.grow.new.from) (g.R.ByteIn.ahead c.grow-2.new.from) c.grow.new.bytes.items c.grow-2.new.bytes.items c.headers_end-headers.result c.in-Err-grow.why
-    (from_none c.new-bytes.result.items c.grow.new.bytes.items c.new-bytes.ensures.items c.in_default.ensures.grows.1) c.in-Err-grow.ensures.grows
+    let one = from_none c.new-bytes.result.items c.grow.new.bytes.items c.new-bytes.ensures.items c.in_default.ensures.grows in
+    grow_stops c.args.limits.now.asked _ _ _ _ _ _ c.grow.new.bytes.items c.in-Err-grow.why one c.in-Err-grow.ensures.grows
 
 pub returns-in-Err-grow-2-clause-tables : goal.returns-in-Err-grow-2-clause-tables
 returns-in-Err-grow-2-clause-tables g c =
-    let most = c.args.limits.now.asked in
-    let one = from_none c.new-bytes.result.items c.grow.new.bytes.items c.new-bytes.ensures.items c.in_default.ensures.grows.1 in
-    grow_stops most (g.W.ByteOut.held c.args.to.now) (g.W.ByteOut.held c.grow-2.new.to) (g.W.ByteOut.held c.grow-3.new.to)
-    (g.R.ByteIn.ahead c.args.from.now)
-    (g.R.ByteIn.ahead c.grow-2.new.from) (g.R.ByteIn.ahead c.grow-3.new.from) c.grow-2.new.bytes.items c.grow-3.new.bytes.items c.tables_size-size.result c.in-Err-grow-2.why
-    (read_both most (g.W.ByteOut.held c.args.to.now) (g.W.ByteOut.held c.grow.new.to) (g.W.ByteOut.held c.grow-2.new.to)
-    (g.R.ByteIn.ahead c.args.from.now)
-    (g.R.ByteIn.ahead c.grow.new.from) (g.R.ByteIn.ahead c.grow-2.new.from) Tables [] c.grow.new.bytes.items c.grow-2.new.bytes.items one c.in_default-grow.ensures.grows.1)
-    c.in-Err-grow-2.ensures.grows
+    let one = from_none c.new-bytes.result.items c.grow.new.bytes.items c.new-bytes.ensures.items c.in_default.ensures.grows in
+    let two = read_both _ _ _ _ _ _ _ _ _ _ one c.in_default-grow.ensures.grows in
+    grow_stops c.args.limits.now.asked _ _ _ _ _ _ c.grow-2.new.bytes.items c.in-Err-grow-2.why two c.in-Err-grow-2.ensures.grows
 
 pub returns-in-Ok-clause-tables : goal.returns-in-Ok-clause-tables
 returns-in-Ok-clause-tables g c =
-    let most = c.args.limits.now.asked in
-    let one = from_none c.new-bytes.result.items c.grow.new.bytes.items c.new-bytes.ensures.items c.in_default.ensures.grows.1 in
-    let two = read_both most (g.W.ByteOut.held c.args.to.now) (g.W.ByteOut.held c.grow.new.to) (g.W.ByteOut.held c.grow-2.new.to)
-    (g.R.ByteIn.ahead c.args.from.now)
-    (g.R.ByteIn.ahead c.grow.new.from) (g.R.ByteIn.ahead c.grow-2.new.from) Tables [] c.grow.new.bytes.items c.grow-2.new.bytes.items one c.in_default-grow.ensures.grows.1 in
-    let three = read_both most (g.W.ByteOut.held c.args.to.now) (g.W.ByteOut.held c.grow-2.new.to) (g.W.ByteOut.held c.grow-3.new.to)
-    (g.R.ByteIn.ahead c.args.from.now)
-    (g.R.ByteIn.ahead c.grow-2.new.from) (g.R.ByteIn.ahead c.grow-3.new.from) Tables [] c.grow-2.new.bytes.items c.grow-3.new.bytes.items two c.in_default-grow-2.ensures.grows.1 in
+    let one = from_none c.new-bytes.result.items c.grow.new.bytes.items c.new-bytes.ensures.items c.in_default.ensures.grows in
+    let two = read_both _ _ _ _ _ _ _ _ _ _ one c.in_default-grow.ensures.grows in
+    let three = read_both _ _ _ _ _ _ _ _ _ _ two c.in_default-grow-2.ensures.grows in
     record {
-      are = these_tables most (g.W.ByteOut.held c.grow.new.to) (g.W.ByteOut.held c.grow-2.new.to) (g.W.ByteOut.held c.grow-3.new.to)
-          (g.W.ByteOut.held c.grow-3.new.to)
-          (g.R.ByteIn.ahead c.grow.new.from) (g.R.ByteIn.ahead c.grow-2.new.from) (g.R.ByteIn.ahead c.grow-3.new.from) (g.R.ByteIn.ahead c.grow-3.new.from)
-          c.grow.new.bytes.items c.grow-2.new.bytes.items c.grow-3.new.bytes.items c.as_slice-2.result.now c.as_slice-3.result.now c.headers_end-headers.result c.tables_size-size.result
-          c.in_default.ensures.grows.0 c.as_slice-2.ensures.value
+      are = these_tables c.grow.new.bytes.items c.grow-2.new.bytes.items c.grow-3.new.bytes.items c.as_slice-2.result.now c.as_slice-3.result.now
+          c.headers_end-headers.result c.tables_size-size.result c.in_default.ensures.size c.as_slice-2.ensures.value
           (subst HasSignature (c.as_slice.ensures.value ∙ sym c.as_slice-2.ensures.value) (c.is_signed.ensures.0 c.if-not-is_signed.false))
-          c.in_default-grow.ensures.grows.1 c.in_default-grow.ensures.grows.0 c.headers_end-headers.ensures.is
-          c.as_slice-3.ensures.value c.in_default-grow-2.ensures.grows.1 c.in_default-grow-2.ensures.grows.0 c.tables_size-size.ensures.is;
-      twice = tables_twice most (g.W.ByteOut.held c.args.to.now) (g.W.ByteOut.held c.grow-3.new.to) (g.W.ByteOut.held c.compare_all.new.to)
-          (g.R.ByteIn.ahead c.args.from.now)
-          (g.R.ByteIn.ahead c.grow-3.new.from) (g.R.ByteIn.ahead c.compare_all.new.from) c.grow-3.new.bytes.items three
-          (subst (λ bytes. HasReadOn most (wire (g.W.ByteOut.held c.grow-3.new.to) (g.R.ByteIn.ahead c.grow-3.new.from)) (wire (g.W.ByteOut.held c.compare_all.new.to) (g.R.ByteIn.ahead c.compare_all.new.from)) Tables [] bytes) c.as_slice-tables.ensures.value c.in-Ok.ensures.again);
+          c.in_default-grow.ensures.grows c.in_default-grow.ensures.size c.headers_end-headers.ensures.is
+          c.as_slice-3.ensures.value c.in_default-grow-2.ensures.grows c.in_default-grow-2.ensures.size c.tables_size-size.ensures.is;
+      twice = tables_twice c.args.limits.now.asked _ _ _ _ _ _ c.grow-3.new.bytes.items three
+          (subst (λ bytes. HasReadOn (table_reads c.args.limits.now.asked) (wire (g.W.ByteOut.held c.grow-3.new.to) (g.R.ByteIn.ahead c.grow-3.new.from)) (wire (g.W.ByteOut.held c.compare_all.new.to) (g.R.ByteIn.ahead c.compare_all.new.from)) [] bytes) c.as_slice-tables.ensures.value c.in-Ok.ensures.again);
     }
 
 pub returns-in-Err-compare_all-clause-tables : goal.returns-in-Err-compare_all-clause-tables
 returns-in-Err-compare_all-clause-tables g c =
-    let most = c.args.limits.now.asked in
-    let one = from_none c.new-bytes.result.items c.grow.new.bytes.items c.new-bytes.ensures.items c.in_default.ensures.grows.1 in
-    let two = read_both most (g.W.ByteOut.held c.args.to.now) (g.W.ByteOut.held c.grow.new.to) (g.W.ByteOut.held c.grow-2.new.to)
-    (g.R.ByteIn.ahead c.args.from.now)
-    (g.R.ByteIn.ahead c.grow.new.from) (g.R.ByteIn.ahead c.grow-2.new.from) Tables [] c.grow.new.bytes.items c.grow-2.new.bytes.items one c.in_default-grow.ensures.grows.1 in
-    let three = read_both most (g.W.ByteOut.held c.args.to.now) (g.W.ByteOut.held c.grow-2.new.to) (g.W.ByteOut.held c.grow-3.new.to)
-    (g.R.ByteIn.ahead c.args.from.now)
-    (g.R.ByteIn.ahead c.grow-2.new.from) (g.R.ByteIn.ahead c.grow-3.new.from) Tables [] c.grow-2.new.bytes.items c.grow-3.new.bytes.items two c.in_default-grow-2.ensures.grows.1 in (
+    let one = from_none c.new-bytes.result.items c.grow.new.bytes.items c.new-bytes.ensures.items c.in_default.ensures.grows in
+    let two = read_both _ _ _ _ _ _ _ _ _ _ one c.in_default-grow.ensures.grows in
+    let three = read_both _ _ _ _ _ _ _ _ _ _ two c.in_default-grow-2.ensures.grows in (
       c.grow-3.new.bytes.items,
-      tables_missed most (g.W.ByteOut.held c.args.to.now) (g.W.ByteOut.held c.grow-3.new.to) (g.W.ByteOut.held c.compare_all.new.to)
-          (g.R.ByteIn.ahead c.args.from.now)
-          (g.R.ByteIn.ahead c.grow-3.new.from) (g.R.ByteIn.ahead c.compare_all.new.from) c.grow-3.new.bytes.items c.in-Err-compare_all.why three
-          (subst (λ bytes. ReadsAgain most (wire (g.W.ByteOut.held c.grow-3.new.to) (g.R.ByteIn.ahead c.grow-3.new.from)) (wire (g.W.ByteOut.held c.compare_all.new.to) (g.R.ByteIn.ahead c.compare_all.new.from)) (Err c.in-Err-compare_all.why) Tables bytes) c.as_slice-tables.ensures.value c.in-Err-compare_all.ensures.again),
+      tables_missed c.args.limits.now.asked _ _ _ _ _ _ c.grow-3.new.bytes.items c.in-Err-compare_all.why three
+          (subst (λ bytes. ReadsAgain (table_reads c.args.limits.now.asked) (wire (g.W.ByteOut.held c.grow-3.new.to) (g.R.ByteIn.ahead c.grow-3.new.from)) (wire (g.W.ByteOut.held c.compare_all.new.to) (g.R.ByteIn.ahead c.compare_all.new.from)) (Err c.in-Err-compare_all.why) bytes) c.as_slice-tables.ensures.value c.in-Err-compare_all.ensures.again),
     )

@@ -9,7 +9,7 @@ use Rattle.nor_sfdp.proofs.reader.completed.Goals as goal
 
 pub invariant_of-result : goal.invariant_of-result
 invariant_of-result c =
-    let taken : c.taken_opcodes-taken.result.items ≡ taken_opcodes c.args.kinds c.args.regions.items = c.taken_opcodes-taken.ensures ∙ ap (taken_opcodes c.args.kinds) c.deref.ensures.0 in
+    let taken : c.own_opcodes-taken.result.items ≡ taken_opcodes c.args.kinds c.args.regions.items = c.own_opcodes-taken.ensures ∙ ap (taken_opcodes c.args.kinds) c.deref.ensures.0 in
     let opcodes : c.deref-2.result.now ≡ taken_opcodes c.args.kinds c.args.regions.items = c.deref-2.ensures.0 ∙ taken in
     let others : c.deref-3.result.now ≡ taken_opcodes c.args.kinds c.args.regions.items = c.deref-3.ensures.0 ∙ taken in
     let distinct : are_distinct (taken_opcodes c.args.kinds c.args.regions.items) ≡ true = sym (c.if-not-are_distinct.ensures ∙ ap are_distinct opcodes) in

@@ -2,6 +2,7 @@
 use Rattle.std.proofs.Common.{inr, [], sym, subst, arith}
 use Rattle.nor_base.specs.Wire.{wire}
 use Rattle.norprog.specs.Build.{IsBuilt, IsLate}
+use Rattle.norprog.specs.Windows.{job_update}
 use Rattle.norprog.proofs.Promise.Build.{built_is, stops_is, cause_is_late}
 use Rattle.nor_base.proofs.FaultLaws.{handed_on}
 use Rattle.nor_job.proofs.TargetLemmas.{gives_none}
@@ -25,7 +26,7 @@ returns-in_err-job-clause-accepted g c = λ image regions m accepted.
 pub returns-in_err-told-clause-accepted : goal.returns-in_err-told-clause-accepted
 returns-in_err-told-clause-accepted g c = λ image regions m accepted.
     let cut = c.in_err-told.ensures.cut in
-    handed_on _ _ _ c.from_residual-in_err-told.ensures.1 (cause_is_late c.in_ok-job.job cut.part _ c.in_err-told.field-0.0 cut.cause)
+    handed_on _ _ _ c.from_residual-in_err-told.ensures.1 (cause_is_late (job_update c.in_ok-job.job cut.part) _ c.in_err-told.field-0.0 cut.cause)
 
 pub returns-in_err-job-clause-within : goal.returns-in_err-job-clause-within
 returns-in_err-job-clause-within g c = record { bytes = []; few = omega arith; given = gives_none (g.R.ByteIn.ahead c.args.content.now) }

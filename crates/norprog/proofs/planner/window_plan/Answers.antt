@@ -1,11 +1,12 @@
 -- A window that was read, and its lines.
-use Rattle.std.proofs.Common.{◌≡◌, ◌+◌, List, ℕ, rules, length, subst, sym}
+use Rattle.std.proofs.Common.{◌≡◌, List, ℕ, rules, length, subst, sym}
 use Rattle.nor_base.specs.Device.{raised}
 use Rattle.nor_job.specs.Written.{AreBytes, CountsWriter, of_writer}
 use Rattle.nor_outline.specs.Outline.{RefusesLines}
 use Rattle.nor_base.proofs.FaultLaws.{answered, handed_on}
 use Rattle.nor_steps.specs.Stretch.{stretch}
 use Rattle.norprog.specs.Planner.{StopsPlanning}
+use Rattle.norprog.specs.Windows.{window_of}
 use Rattle.norprog.proofs.Content.Plans.{unread, unread_count, unplanned, unplanned_count, planned_part}
 use Rattle.norprog.proofs.planner.window_plan.Goals as goal
 
@@ -25,7 +26,7 @@ pub returns-in-Err-clause-stopped : goal.returns-in-Err-clause-stopped
 returns-in-Err-clause-stopped g c =
     let have = c.fill_window.new.window in
     let target = c.fill.ensures.bytes in
-    subst (StopsPlanning c.args.job.now c.args.writer.now c.args.at (length c.args.have.now) (g.R.ByteIn.ahead c.args.content.now) (g.R.ByteIn.ahead c.fill_window.new.content)) (sym c.lifted.ensures)
+    subst (StopsPlanning (window_of c.args.job.now c.args.at (length c.args.have.now)) c.args.writer.now (g.R.ByteIn.ahead c.args.content.now) (g.R.ByteIn.ahead c.fill_window.new.content)) (sym c.lifted.ensures)
     (unplanned c.args.job.now c.args.writer.now c.args.at (length c.args.have.now) _ _ have c.in-Err.fault c.fill_window.auto.window (subst AreBytes target (search rules))
     c.in_ok-fill_window.ensures.bytes
     (subst (λ (want : List ℕ). RefusesLines c.args.writer.now.streaming.meaning c.args.writer.now.streaming.by (stretch c.args.at have want) c.in-Err.fault) target c.in-Err.ensures.stopped))

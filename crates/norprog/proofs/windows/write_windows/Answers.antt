@@ -5,7 +5,7 @@ use Rattle.std.proofs.Math.Nat.{zero-mod}
 use Rattle.nor_job.specs.declared.job.Job.{Job}
 use Rattle.nor_steps.specs.Texts.{UnitText}
 use Rattle.nor_base.specs.Wire.{wire}
-use Rattle.norprog.specs.Windows.{first_writing, IsDone, StopsWindow, range}
+use Rattle.norprog.specs.Windows.{first_writing, progress, window_of, IsDone, StopsWindow}
 use Rattle.nor_base.proofs.FaultLaws.{handed_on}
 use Rattle.norprog.proofs.Content.Places.{place_is}
 use Rattle.norprog.proofs.Content.Windows.{none_done, done_then, done_then_cut}
@@ -13,7 +13,7 @@ use Rattle.norprog.proofs.windows.write_windows.Goals as goal
 
 pub loop-at-init : goal.loop-at-init
 loop-at-init g c = record {
-  done = subst (IsDone (g.T.WorkWriter.unit_text c.args.writer.now) c.args.job.now (first_writing c.args.job.now) (g.T.WorkWriter.writing c.args.writer.now) (range 0 0) (wire (g.W.ByteOut.held c.args.out.now) (g.R.ByteIn.ahead c.args.content.now)) (wire (g.W.ByteOut.held c.args.out.now) (g.R.ByteIn.ahead c.args.content.now)))
+  done = subst (IsDone (g.T.WorkWriter.unit_text c.args.writer.now) (window_of c.args.job.now 0 0) (progress (first_writing c.args.job.now) (g.W.ByteOut.held c.args.out.now) (g.R.ByteIn.ahead c.args.content.now)) (progress (g.T.WorkWriter.writing c.args.writer.now) (g.W.ByteOut.held c.args.out.now) (g.R.ByteIn.ahead c.args.content.now)))
       (sym c.none-told.ensures) (none_done (g.T.WorkWriter.unit_text c.args.writer.now) c.args.job.now (g.T.WorkWriter.writing c.args.writer.now) (g.R.ByteIn.ahead c.args.content.now) (g.W.ByteOut.held c.args.out.now) c.requires.job.1);
   text = refl;
   room = refl;
@@ -34,8 +34,8 @@ returns-in_err-more-clause-cut g c =
     let took : length (take c.min-count.result c.loop-at.have) ≡ c.min-count.result = length-take-le c.min-count.result c.loop-at.have (omega (arith, place.few, c.loop-at.invariant.room)) in
     handed_on _ _ _ c.from_residual.ensures.1
     (done_then_cut (g.T.WorkWriter.unit_text c.args.writer.now) c.args.job.now (g.T.WorkWriter.writing c.loop-at.writer) c.loop-at.at c.min-count.result (length c.args.have.now) _ _ _ _ _ _ c.loop-at.told c.in_err-more.field-0.0 place c.loop-at.invariant.done
-    (subst (λ n. StopsWindow (g.T.WorkWriter.unit_text c.args.writer.now) c.args.job.now (g.T.WorkWriter.writing c.loop-at.writer) c.loop-at.at n (wire (g.W.ByteOut.held c.loop-at.out) (g.R.ByteIn.ahead c.loop-at.content)) (wire (g.W.ByteOut.held c.write_window.new.out) (g.R.ByteIn.ahead c.write_window.new.content)) c.in_err-more.field-0.0)
-    took (subst (λ (ut : UnitText). StopsWindow ut c.args.job.now (g.T.WorkWriter.writing c.loop-at.writer) c.loop-at.at (length (take c.min-count.result c.loop-at.have)) (wire (g.W.ByteOut.held c.loop-at.out) (g.R.ByteIn.ahead c.loop-at.content)) (wire (g.W.ByteOut.held c.write_window.new.out) (g.R.ByteIn.ahead c.write_window.new.content)) c.in_err-more.field-0.0)
+    (subst (λ n. StopsWindow (g.T.WorkWriter.unit_text c.args.writer.now) (window_of c.args.job.now c.loop-at.at n) (progress (g.T.WorkWriter.writing c.loop-at.writer) (g.W.ByteOut.held c.loop-at.out) (g.R.ByteIn.ahead c.loop-at.content)) (wire (g.W.ByteOut.held c.write_window.new.out) (g.R.ByteIn.ahead c.write_window.new.content)) c.in_err-more.field-0.0)
+    took (subst (λ (ut : UnitText). StopsWindow ut (window_of c.args.job.now c.loop-at.at (length (take c.min-count.result c.loop-at.have))) (progress (g.T.WorkWriter.writing c.loop-at.writer) (g.W.ByteOut.held c.loop-at.out) (g.R.ByteIn.ahead c.loop-at.content)) (wire (g.W.ByteOut.held c.write_window.new.out) (g.R.ByteIn.ahead c.write_window.new.content)) c.in_err-more.field-0.0)
     c.loop-at.invariant.text c.in_err-more.ensures.stopped)))
 
 pub loop-at-preserved : goal.loop-at-preserved
@@ -47,11 +47,11 @@ loop-at-preserved g c =
     let took : length (take c.min-count.result c.loop-at.have) ≡ c.min-count.result = length-take-le c.min-count.result c.loop-at.have (omega (arith, place.few, c.loop-at.invariant.room)) in
     let took' : length (take c.min-count.result c.loop-at.want) ≡ c.min-count.result = length-take-le c.min-count.result c.loop-at.want (omega (arith, place.few, c.loop-at.invariant.room')) in
     record {
-      done = subst (IsDone (g.T.WorkWriter.unit_text c.args.writer.now) c.args.job.now (first_writing c.args.job.now) (g.T.WorkWriter.writing c.write_window.new.writer) (range 0 (c.loop-at.at + c.min-count.result)) (wire (g.W.ByteOut.held c.args.out.now) (g.R.ByteIn.ahead c.args.content.now)) (wire (g.W.ByteOut.held c.write_window.new.out) (g.R.ByteIn.ahead c.write_window.new.content)))
+      done = subst (IsDone (g.T.WorkWriter.unit_text c.args.writer.now) (window_of c.args.job.now 0 (c.loop-at.at + c.min-count.result)) (progress (first_writing c.args.job.now) (g.W.ByteOut.held c.args.out.now) (g.R.ByteIn.ahead c.args.content.now)) (progress (g.T.WorkWriter.writing c.write_window.new.writer) (g.W.ByteOut.held c.write_window.new.out) (g.R.ByteIn.ahead c.write_window.new.content)))
           (sym c.plus-told.ensures)
           (done_then (g.T.WorkWriter.unit_text c.args.writer.now) c.args.job.now (g.T.WorkWriter.writing c.loop-at.writer) (g.T.WorkWriter.writing c.write_window.new.writer) c.loop-at.at c.min-count.result (length c.args.have.now) _ _ _ _ _ _ c.loop-at.told c.in_ok-more.more place c.loop-at.invariant.done
-          (subst (λ n. IsDone (g.T.WorkWriter.unit_text c.args.writer.now) c.args.job.now (g.T.WorkWriter.writing c.loop-at.writer) (g.T.WorkWriter.writing c.write_window.new.writer) (range c.loop-at.at n) (wire (g.W.ByteOut.held c.loop-at.out) (g.R.ByteIn.ahead c.loop-at.content)) (wire (g.W.ByteOut.held c.write_window.new.out) (g.R.ByteIn.ahead c.write_window.new.content)) c.in_ok-more.more)
-          took (subst (λ (ut : UnitText). IsDone ut c.args.job.now (g.T.WorkWriter.writing c.loop-at.writer) (g.T.WorkWriter.writing c.write_window.new.writer) (range c.loop-at.at (length (take c.min-count.result c.loop-at.have))) (wire (g.W.ByteOut.held c.loop-at.out) (g.R.ByteIn.ahead c.loop-at.content)) (wire (g.W.ByteOut.held c.write_window.new.out) (g.R.ByteIn.ahead c.write_window.new.content)) c.in_ok-more.more)
+          (subst (λ n. IsDone (g.T.WorkWriter.unit_text c.args.writer.now) (window_of c.args.job.now c.loop-at.at n) (progress (g.T.WorkWriter.writing c.loop-at.writer) (g.W.ByteOut.held c.loop-at.out) (g.R.ByteIn.ahead c.loop-at.content)) (progress (g.T.WorkWriter.writing c.write_window.new.writer) (g.W.ByteOut.held c.write_window.new.out) (g.R.ByteIn.ahead c.write_window.new.content)) c.in_ok-more.more)
+          took (subst (λ (ut : UnitText). IsDone ut (window_of c.args.job.now c.loop-at.at (length (take c.min-count.result c.loop-at.have))) (progress (g.T.WorkWriter.writing c.loop-at.writer) (g.W.ByteOut.held c.loop-at.out) (g.R.ByteIn.ahead c.loop-at.content)) (progress (g.T.WorkWriter.writing c.write_window.new.writer) (g.W.ByteOut.held c.write_window.new.out) (g.R.ByteIn.ahead c.write_window.new.content)) c.in_ok-more.more)
           c.loop-at.invariant.text c.in_ok-more.ensures.done)));
       text = c.in_ok-more.ensures.text ∙ c.loop-at.invariant.text;
       room = length-append c.write_window.new.have (drop c.min-count.result c.loop-at.have) ∙ omega (arith, length-drop c.min-count.result c.loop-at.have, c.write_window.auto.have, took, place.few, c.loop-at.invariant.room);

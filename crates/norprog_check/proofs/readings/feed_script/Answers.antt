@@ -19,7 +19,7 @@ loop-reader-init g c = record {
   number = c.in_ok-reader.ensures.begun.1;
   fed = c.requires.begins;
   told = λ more. refl;
-  shown = λ more at why page reads h. h;
+  shown = λ more v w h. h;
   count = c.in_ok-reader.ensures.count;
 }
 

@@ -1,5 +1,5 @@
 -- By what is to be done.
-use Rattle.norprog_flash.specs.Worked.{session}
+use Rattle.norprog_flash.specs.Begun.{session}
 use Rattle.norprog_flash.proofs.EndedLemmas.{compare_ends, compare_refused, plan_ends}
 use Rattle.norprog_flash.proofs.device.go_on.Goals as goal
 

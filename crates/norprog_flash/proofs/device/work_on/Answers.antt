@@ -1,8 +1,8 @@
 -- The work goes on so, by the steps and the goal that were planned.
 use Rattle.std.proofs.Common.{List, refl, subst}
-use Rattle.nor_reader.specs.AtOnce.{at_once}
 use Rattle.nor_base.specs.declared.step.Step.{Step}
 use Rattle.nor_serprog.specs.Steps.{AreCarried, IsFirstNotCarried}
+use Rattle.norprog_flash.specs.Begun.{session}
 use Rattle.norprog_flash.specs.Worked.{Cannot, Goes}
 use Rattle.norprog_flash.proofs.PlannedLemmas.{steps_doable}
 use Rattle.norprog_flash.proofs.device.work_on.Goals as goal
@@ -20,4 +20,4 @@ returns g c = record {
 pub do_work-requires-clause-form : goal.do_work-requires-clause-form
 do_work-requires-clause-form g c =
     let p = c.requires.planned in
-    steps_doable (at_once c.args.limits.now) c.args.job.now p.0 p.1 c.args.held.now.reading _ p.2 p.3 c.doable.ensures.doable
+    steps_doable (session c.args.job.now c.args.limits.now c.args.held.now.reading) p.0 p.1 _ p.2 p.3 c.doable.ensures.doable

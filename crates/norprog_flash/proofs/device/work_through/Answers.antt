@@ -1,5 +1,5 @@
 -- What was planned, and how the work on it went, are how it ends.
-use Rattle.norprog_flash.specs.Worked.{session}
+use Rattle.norprog_flash.specs.Begun.{session}
 use Rattle.norprog_flash.proofs.EndedLemmas.{goes_ends}
 use Rattle.norprog_flash.proofs.device.work_through.Goals as goal
 

@@ -1,5 +1,5 @@
 -- A fault that shows before the chip is read.
-use Rattle.std.proofs.Common.{◌∙◌, Bool, IfErr, ap, subst, sym}
+use Rattle.std.proofs.Common.{Bool, IfErr, subst, sym}
 use Rattle.nor_job.specs.Task.{Task}
 use Rattle.norprog_flash.specs.Early.{BreaksEarly, Unnamed, Unsound, is_known}
 use Rattle.norprog_flash.specs.Looked as work

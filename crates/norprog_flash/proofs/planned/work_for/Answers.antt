@@ -1,9 +1,9 @@
 -- The work of the narrowed task.
-use Rattle.std.proofs.Common.{◌≡◌, ◌⊎◌, ◌∙◌, ℕ, List, ap, inl, length, sym, subst, arith, refl}
+use Rattle.std.proofs.Common.{◌≡◌, ◌⊎◌, ◌∙◌, ℕ, List, ap, length, sym, subst, arith, refl}
 use Rattle.nor_base.proofs.FaultLaws.{handed_on}
 use Rattle.nor_job.specs.declared.fault.BuildFault.TheVariants.{Memory}
 use Rattle.nor_job.specs.Task.{Task}
-use Rattle.norprog_flash.specs.Narrowed.{narrowed, SpansDifference}
+use Rattle.norprog_flash.specs.Narrowed.{SpansDifference}
 use Rattle.norprog_flash.specs.Refused.{RefusesWork, StopsPlanning}
 use Rattle.norprog_flash.specs.Work.{BuildsSteps, HasLines}
 use Rattle.norprog_flash.proofs.WorkLemmas.{planning_refused, starved, work_is}

@@ -22,8 +22,10 @@ returns c = record {
   said_twice = refl;
   of_a_part = refl;
   consistent = refl;
-  says = record { own = uniform_of 8192; says = refl; profile = refl };
-  says_erased = record { own = uniform_of 8192; says = refl; profile = refl };
+  says = record { own = uniform_of 8192; says = refl; its = uniform_of 8192; with_page = refl; profile = refl };
+  says_erased = record { own = uniform_of 8192; says = refl; its = uniform_of 8192; with_page = refl; profile = refl };
+  says_page = refl;
+  no_page = refl;
   no_size = refl;
   page = refl;
   open_page = refl;

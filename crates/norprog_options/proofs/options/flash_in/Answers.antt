@@ -8,6 +8,7 @@ returns-clause-done c = record {
   image = c.in_ok-image_in.ensures.done;
   aim = c.requires;
   regions = c.in_ok-texts_in.ensures.done;
+  page = search rules;
   mode4 = search rules;
   device = search rules;
   limit = search rules;

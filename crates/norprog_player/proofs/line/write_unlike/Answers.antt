@@ -11,7 +11,7 @@ pub returns-in-Status-clause-bytes : goal.returns-in-Status-clause-bytes
 returns-in-Status-clause-bytes g c = rw c.in-Status.is c.write_status.ensures.bytes
 
 pub returns-in-Registers-clause-bytes : goal.returns-in-Registers-clause-bytes
-returns-in-Registers-clause-bytes g c = rw c.in-Registers.is c.write_registers.ensures.bytes
+returns-in-Registers-clause-bytes g c = rw c.in-Registers.is c.write_status-in-Registers.ensures.bytes
 
 pub returns-in-Moved-clause-bytes : goal.returns-in-Moved-clause-bytes
 returns-in-Moved-clause-bytes g c =

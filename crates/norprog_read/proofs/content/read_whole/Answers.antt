@@ -2,6 +2,7 @@
 use Rattle.std.proofs.Common.{◌≡◌, ◌≤◌, ◌∙◌, ◌^◌, true, false, length, refl, sym, arith}
 use Rattle.nor_base.proofs.FaultLaws.{handed_on}
 use Rattle.nor_base.specs.Wire.{wire}
+use Rattle.nor_reader.specs.Twice.{twice}
 use Rattle.norprog_read.specs.Stops.{Hidden, Lost, NoMemory, Other, StopsContent, Unreadable}
 use Rattle.norprog_read.specs.Way.{first_by, is_readable, second_by, IsShownBy}
 use Rattle.norprog_read.proofs.ReadLemmas.{written}
@@ -29,7 +30,7 @@ returns-then-is_certain-clause-whole g c =
     let readable : is_readable m start ≡ true = sym c.is_readable.ensures ∙ c.if-not-is_readable.false in
     let by : c.first_by-by.result ≡ first_by m start = c.first_by-by.ensures in
     let again : c.second_by-again.result ≡ second_by m start sure = c.second_by-again.ensures in
-    let twice = rw by at (rw again at c.in-Ok.ensures.twice) in
+    let alike = rw by at (rw again at c.in-Ok.ensures.twice) in
     let apart_ = rw by at (rw again at c.in-Ok.ensures.apart) in
     let is = written new c.in_ok-content.content.items c.in_ok-content.content.len long in
     let shown : sure ≡ false → IsShownBy (first_by m start) most new =
@@ -37,10 +38,10 @@ returns-then-is_certain-clause-whole g c =
     rw is (record {
       whole = whole;
       way = first_gives m start readable;
-      known = λ quad. c.twice_knows.ensures most _ _ _ _ m (record start { quad = quad }) (first_by m start) (second_by m start sure) new
+      known = λ quad. c.twice_knows.ensures (twice most (first_by m start) (second_by m start sure)) _ _ _ _ m (record start { quad = quad }) new
           (omega (arith, c.size_in.ensures.is, c.size_in.ensures.few)) whole (first_gives m (record start { quad = quad }) readable)
-          (second_gives m (record start { quad = quad }) sure readable) twice;
-      twice = twice;
+          (second_gives m (record start { quad = quad }) sure readable) alike;
+      twice = alike;
       mode = mode_known c.mode_is_shown.ensures.knows c.mode_is_shown.ensures.sure most u v m start sure new fits readable shown apart_;
     })
 

@@ -4,7 +4,8 @@ use Rattle.std.specs.Prelude.{codes, decimal}
 use Rattle.std.specs.Io.KnownBytes.{Appends}
 use Rattle.nor_base.specs.Device.{Writes}
 use Rattle.nor_base.proofs.DeviceLaws.{Writes-then}
-use Rattle.norprog_read.specs.Line.{digits_line, fault_number}
+use Rattle.norprog_device.specs.Shown.{digits_line}
+use Rattle.norprog_read.specs.Line.{fault_number}
 use Rattle.norprog_read.proofs.LineLemmas.{number_parts}
 use Rattle.norprog_read.proofs.line.write_no_tables.Goals as goal
 

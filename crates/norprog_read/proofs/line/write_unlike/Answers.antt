@@ -2,7 +2,7 @@
 use Rattle.std.proofs.Common.{ℕ, List, subst}
 use Rattle.std.specs.Prelude.{codes}
 use Rattle.nor_base.specs.Device.{Writes}
-use Rattle.norprog_read.specs.Line.{digits_line}
+use Rattle.norprog_device.specs.Shown.{digits_line}
 use Rattle.norprog_read.proofs.LineLemmas.{moved_parts}
 use Rattle.norprog_read.proofs.line.write_unlike.Goals as goal
 
@@ -15,7 +15,7 @@ returns-in-Mode-clause-bytes g c =
     (digits_line (codes "unlike status ") l)) c.registers.ensures c.write_digits.ensures.bytes)
 
 pub returns-in-Tables-clause-bytes : goal.returns-in-Tables-clause-bytes
-returns-in-Tables-clause-bytes g c = rw c.in-Tables.is c.write_tables.ensures.bytes
+returns-in-Tables-clause-bytes g c = rw c.in-Tables.is c.write_difference.ensures.bytes
 
 pub returns-in-Line-clause-bytes : goal.returns-in-Line-clause-bytes
 returns-in-Line-clause-bytes g c = rw c.in-Line.is c.put_all-in-Line.ensures.bytes

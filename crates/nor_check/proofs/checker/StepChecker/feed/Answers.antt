@@ -13,10 +13,10 @@ returns-then-is_some-clause-fed c = λ more.
     ∙ ap (λ (f : Fed). to_come f (step_of c.args.step ∷ more)) c.self.view_is
 
 pub returns-then-is_some-clause-shown : goal.returns-then-is_some-clause-shown
-returns-then-is_some-clause-shown c = λ more step why page reads h.
-    subst (λ (f : Fed). IsShown f (step_of c.args.step ∷ more) step why page reads) c.self.view_is
+returns-then-is_some-clause-shown c = λ more v w h.
+    subst (λ (f : Fed). IsShown f (step_of c.args.step ∷ more) v w) c.self.view_is
     (stays_shown c.self.inside.want.now c.self.inside.number (c.self.inside.number + 1) c.self.inside.page c.self.inside.reads c.self.inside.chips (step_of c.args.step) more
-    c.self.inside.stopped step why page reads c.if-is_some.ensures h)
+    c.self.inside.stopped v w c.if-is_some.ensures h)
 
 pub invariant_of-self-2 : goal.invariant_of-self-2
 invariant_of-self-2 c = (
@@ -43,10 +43,10 @@ returns-clause-fed c = λ more.
     ∙ ap (λ (f : Fed). to_come f (step_of c.args.step ∷ more)) c.self.view_is
 
 pub returns-clause-shown : goal.returns-clause-shown
-returns-clause-shown c = λ more step why page reads h.
-    subst (λ (f : Fed). IsShown f (step_of c.args.step ∷ more) step why page reads) c.self.view_is
+returns-clause-shown c = λ more v w h.
+    subst (λ (f : Fed). IsShown f (step_of c.args.step ∷ more) v w) c.self.view_is
     (feeds_shown c.self.inside.want.now c.self.inside.number c.self.inside.reads c.reads_after-self-inside.result c.self.inside.page c.step.new.told c.self.inside.chips c.step.new.self
-    (step_of c.args.step) more c.self.inside.stopped c.in_ok-answer.answer step why page reads c.if-is_some.ensures c.in_ok-answer.ensures.step c.in_ok-answer.ensures.told
+    (step_of c.args.step) more c.self.inside.stopped c.in_ok-answer.answer v w c.if-is_some.ensures c.in_ok-answer.ensures.step c.in_ok-answer.ensures.told
     c.reads_after-self-inside.ensures
     (subst (λ (o : Option Verdict). IsShown (record {
       target = c.self.inside.want.now;
@@ -55,4 +55,4 @@ returns-clause-shown c = λ more step why page reads h.
       stopped = o;
       page = c.step.new.told;
       reads = c.reads_after-self-inside.result;
-    }) more step why page reads) c.verdict_at-self-inside.ensures h))
+    }) more v w) c.verdict_at-self-inside.ensures h))

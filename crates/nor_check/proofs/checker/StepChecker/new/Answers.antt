@@ -1,6 +1,7 @@
 -- No step yet.
 use Rattle.std.proofs.Common.{length, sym, ◌∙◌, ap, subst, arith}
 use Rattle.nor_check.specs.Chips.{begun}
+use Rattle.nor_check.specs.Outcome.{trial}
 use Rattle.nor_check.specs.Pages.{HaveSize, judged_each}
 use Rattle.nor_check.specs.Worst.{IsWorst}
 use Rattle.nor_check.proofs.Ends.{yes_exactly}
@@ -20,23 +21,20 @@ invariant_of-result c = (
 
 pub returns-clause-worst : goal.returns-clause-worst
 returns-clause-worst c = λ steps.
-    subst (IsWorst c.args.meaning.now c.args.start c.args.have.items c.args.want.now steps)
+    subst (IsWorst (trial c.args.meaning.now c.args.start c.args.have.items c.args.want.now steps))
     (ap (λ ts. judged_each c.args.want.now ts steps) (sym c.new.ensures) ∙ before_any c.args.want.now c.new.result c.meaning.inside.page steps)
-    (worst_of_each c.args.meaning.now c.args.start c.args.have.items c.args.want.now steps c.polls.ensures.ends c.verifying_reads.ensures)
+    (worst_of_each (trial c.args.meaning.now c.args.start c.args.have.items c.args.want.now steps) c.polls.ensures.ends c.verifying_reads.ensures)
 
 pub returns-clause-yes : goal.returns-clause-yes
 returns-clause-yes c = λ steps.
     yes_exactly c.args.meaning.now c.args.start c.args.have.items c.args.want.now steps _ c.effects.ensures.keeps c.polls.ensures.ends
-    (c.requires.contents.0 ∙ sym c.requires.contents.1)
-    (subst (IsWorst c.args.meaning.now c.args.start c.args.have.items c.args.want.now steps)
-    (ap (λ ts. judged_each c.args.want.now ts steps) (sym c.new.ensures) ∙ before_any c.args.want.now c.new.result c.meaning.inside.page steps)
-    (worst_of_each c.args.meaning.now c.args.start c.args.have.items c.args.want.now steps c.polls.ensures.ends c.verifying_reads.ensures))
+    (c.requires.contents.0 ∙ sym c.requires.contents.1) (returns-clause-worst c steps)
 
 pub returns-clause-shown : goal.returns-clause-shown
-returns-clause-shown c = λ steps step why page reads h n low.
-    begins_shown c.args.meaning.now c.args.start c.args.have.items c.args.want.now steps step why _ page reads n c.polls.ensures.ends c.verifying_reads.ensures
+returns-clause-shown c = λ steps step why w h n low.
+    begins_shown (trial c.args.meaning.now c.args.start c.args.have.items c.args.want.now steps) step why _ w n c.polls.ensures.ends c.verifying_reads.ensures
     c.new.result c.new.ensures h low
 
 pub returns-clause-counted : goal.returns-clause-counted
-returns-clause-counted c = λ steps step why page reads h.
-    begins_counted c.args.want.now c.new.result steps step why _ page reads h
+returns-clause-counted c = λ steps step why w h.
+    begins_counted c.args.want.now c.new.result steps step why _ w h

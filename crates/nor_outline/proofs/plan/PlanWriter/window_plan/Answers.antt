@@ -4,18 +4,17 @@ use Rattle.nor_base.specs.declared.meaning.Strategy.{Strategy}
 use Rattle.nor_base.specs.Parameters.{Parameters}
 use Rattle.nor_outline.specs.Outline.{IsStretchPlan, RefusesLines}
 use Rattle.nor_steps.specs.Stretch.{stretch}
-use Rattle.nor_steps.specs.Texts.{IsTold}
-use Rattle.nor_steps.specs.Work.{StopsStretch}
-use Rattle.nor_steps.specs.Writing.{Writing}
+use Rattle.nor_steps.specs.Texts.{IsTold, StopsText, unit_steps}
+use Rattle.nor_steps.specs.Writing.{Writing, output}
 use Rattle.nor_base.proofs.FaultLaws.{handed_on}
-use Rattle.nor_outline.proofs.PlanText.{counted, uncounted}
+use Rattle.nor_outline.proofs.PlanText.{uncounted}
 use Rattle.nor_outline.proofs.plan.PlanWriter.window_plan.Goals as goal
 
 pub returns-in_err-told-clause-stopped : goal.returns-in_err-told-clause-stopped
 returns-in_err-told-clause-stopped c =
     handed_on _ _ _ c.from_residual.ensures.1
     (uncounted c.args.self.now c.args.at c.args.have.now c.args.want.now c.in_err-told.field-0.0 c.in_err-told.ensures.count
-    (subst (λ (w : Writing). StopsStretch w None None (stretch c.args.at c.args.have.now c.args.want.now) c.in_err-told.field-0.0) c.self.view_is c.in_err-told.ensures.stopped))
+    (subst (λ (w : Writing). StopsText unit_steps (output w None) None (stretch c.args.at c.args.have.now c.args.want.now) c.in_err-told.field-0.0) c.self.view_is c.in_err-told.ensures.stopped))
 
 pub returns-in_err-lines-clause-stopped : goal.returns-in_err-lines-clause-stopped
 returns-in_err-lines-clause-stopped c =
@@ -29,8 +28,7 @@ returns-in_err-lines-clause-stopped c =
 
 pub returns-clause-told : goal.returns-clause-told
 returns-clause-told c =
-    subst (λ (w : Writing). IsTold w c.more.new.self (stretch c.args.at c.args.have.now c.args.want.now) c.in_ok-told.told) c.self.view_is
-    (counted _ c.more.new.self None None c.args.at c.args.have.now c.args.want.now c.in_ok-told.told c.in_ok-told.ensures.written)
+    subst (λ (w : Writing). IsTold w c.more.new.self (stretch c.args.at c.args.have.now c.args.want.now) c.in_ok-told.told) c.self.view_is c.in_ok-told.ensures.written.steps
 
 pub returns-clause-lines : goal.returns-clause-lines
 returns-clause-lines c =

@@ -17,7 +17,7 @@ returns-clause-bytes g c =
     let room : i.upto < length i.buffer.items = omega (arith, c.requires.room, ap (λ (l : Lines). l.room) c.self.view_is) in
     subst (λ b. Comes (reading (g.R.ByteIn.ahead c.args.source.now) c.args.self.now.held) (reading (g.R.ByteIn.ahead c.fill_past.new.source) (slice_range b i.from (i.upto + c.in_ok-given.given))) c.in_ok-given.given) (sym back)
     (came (g.R.ByteIn.ahead c.args.source.now) (g.R.ByteIn.ahead c.fill_past.new.source) i.buffer.items c.fill_past.new.buffer c.args.self.now.held i.from i.upto c.in_ok-given.given held room
-    (subst (λ old. FillsBy (g.R.ByteIn.ahead c.args.source.now) (g.R.ByteIn.ahead c.fill_past.new.source) old c.fill_past.new.buffer i.upto c.in_ok-given.given) value c.in_ok-given.ensures.bytes))
+    (subst (λ old. FillsBy (reading (g.R.ByteIn.ahead c.args.source.now) old) (reading (g.R.ByteIn.ahead c.fill_past.new.source) c.fill_past.new.buffer) i.upto c.in_ok-given.given) value c.in_ok-given.ensures.bytes))
 
 pub returns-in_err-given-clause-bytes : goal.returns-in_err-given-clause-bytes
 returns-in_err-given-clause-bytes g c =

@@ -5,7 +5,7 @@ use Rattle.std.specs.Io.KnownBytes.{Appends}
 use Rattle.nor_base.specs.Operations.{erases}
 use Rattle.nor_select.specs.Streamed.{next}
 use Rattle.nor_steps.specs.Units.{run_ops, block_reads, block_ops, Wrote}
-use Rattle.nor_steps.specs.Writing.{next_lines, written_on}
+use Rattle.nor_steps.specs.Writing.{next_lines, written_on, output}
 use Rattle.nor_steps.proofs.OpLemmas.{begun_more}
 use Rattle.nor_steps.proofs.TallyLemmas.{block_wrote, writes_err, programs_cut, reads_cut}
 use Rattle.nor_steps.proofs.writer.StepWriter.write_block.Goals as goal
@@ -30,9 +30,7 @@ returns-clause-written g c =
     let start = ap (λ (b : Block). b.start) c.block.view_is in
     let size = ap (λ (b : Block). b.size) c.block.view_is in
     let m = c.write_ops.new.self in
-    subst (λ n. Wrote c.args.self.now c.verify_block.new.self (g.W.InstrOut.held c.args.out.now) (g.W.InstrOut.held c.verify_block.new.out) 1
-    (block_ops c.args.self.now c.args.block c.args.runs.now c.args.want.now)
-    (record { steps = c.in_ok-erase.erase + c.in_ok-programs.programs + c.in_ok-reads.reads; erases = 1; erased = n; programs = length c.args.runs.now }))
+    subst (λ n. Wrote (output c.args.self.now (g.W.InstrOut.held c.args.out.now)) (output c.verify_block.new.self (g.W.InstrOut.held c.verify_block.new.out)) 1 (block_ops c.args.self.now c.args.block c.args.runs.now c.args.want.now) (record { steps = c.in_ok-erase.erase + c.in_ok-programs.programs + c.in_ok-reads.reads; erases = 1; erased = n; programs = length c.args.runs.now }))
     (sym (c.from.ensures ∙ size))
     (block_wrote _ _ _ _ _ _ _ _ c.args.block c.args.runs.now c.args.want.now _ _ _
     (record { put = c.in_ok-erase.ensures.lines; state = c.in_ok-erase.ensures.onward; count = c.in_ok-erase.ensures.steps })

@@ -6,7 +6,7 @@ use Rattle.nor_geometry.specs.declared.unit.PlanUnit.{PlanUnit}
 use Rattle.nor_pages.specs.Runs.{IsUnit, IsSplit}
 use Rattle.nor_select.specs.Streamed.{next}
 use Rattle.nor_steps.specs.Units.{run_ops, page_ops, Wrote}
-use Rattle.nor_steps.specs.Writing.{Writing, Begins, next_lines, written_on}
+use Rattle.nor_steps.specs.Writing.{Writing, Begins, next_lines, written_on, output}
 use Rattle.nor_steps.proofs.OpLemmas.{Done, begun_more}
 use Rattle.nor_steps.proofs.TallyLemmas.{page_wrote, page_cut, writes_err, reads_on, reads_off, stays_on, nothing_read}
 use Rattle.nor_steps.proofs.UnitLemmas.{block_writes, page_writes}
@@ -57,8 +57,7 @@ returns-clause-written g c =
     let long = ap length c.deref-2.ensures.value in
     let programs : Done c.args.self.now v (g.W.InstrOut.held c.args.out.now) (g.W.InstrOut.held c.write_runs.new.out) (run_ops false start want runs) c.in_ok-programs.programs =
     record { put = c.in_ok-programs.ensures.lines; state = c.in_ok-programs.ensures.onward; count = c.in_ok-programs.ensures.steps.0 } in
-    let wrote : Wrote c.args.self.now c.if-self.self (g.W.InstrOut.held c.args.out.now) (g.W.InstrOut.held c.if-self.out) 1 (page_ops c.args.self.now start runs want)
-    (record { steps = c.in_ok-programs.programs + c.if-self.reads; erases = 0; erased = 0; programs = length runs }) =
+    let wrote : Wrote (output c.args.self.now (g.W.InstrOut.held c.args.out.now)) (output c.if-self.self (g.W.InstrOut.held c.if-self.out)) 1 (page_ops c.args.self.now start runs want) (record { steps = c.in_ok-programs.programs + c.if-self.reads; erases = 0; erased = 0; programs = length runs }) =
     elim c.if-self.branch [
       | then-self+in_ok-reads w ↦
           let same = w.deref-then-self.ensures.value ∙ sym c.deref-2.ensures.value in
@@ -79,5 +78,4 @@ returns-clause-written g c =
     ] in
     page_writes _ _ _ _ _ c.in-Page.start _ _ c.in_ok-runs.runs.items c.deref-2.result.now (Ok _) c.in-Page.is c.deref-2.ensures.value c.in_ok-runs.ensures.within
     (subst (λ (m : Parameters). IsSplit m c.args.unit.now c.args.have.now c.args.want.now c.in_ok-runs.runs.items) meaning c.in_ok-runs.ensures.split)
-    (subst (λ n. Wrote c.args.self.now c.if-self.self (g.W.InstrOut.held c.args.out.now) (g.W.InstrOut.held c.if-self.out) 1 (page_ops c.args.self.now start runs want)
-    (record { steps = c.in_ok-programs.programs + c.if-self.reads; erases = 0; erased = 0; programs = n })) (c.deref-2.ensures.len ∙ sym c.len.ensures) wrote)
+    (subst (λ n. Wrote (output c.args.self.now (g.W.InstrOut.held c.args.out.now)) (output c.if-self.self (g.W.InstrOut.held c.if-self.out)) 1 (page_ops c.args.self.now start runs want) (record { steps = c.in_ok-programs.programs + c.if-self.reads; erases = 0; erased = 0; programs = n })) (c.deref-2.ensures.len ∙ sym c.len.ensures) wrote)

@@ -3,11 +3,11 @@ use Rattle.std.proofs.Common.{◌≡◌, ◌+◌, ◌-◌, ◌<◌, length, min,
 use Rattle.nor_job.specs.declared.job.Job.{Job}
 use Rattle.nor_steps.specs.Tally.{sum_of}
 use Rattle.nor_steps.specs.declared.tally.Tally.{Tally}
-use Rattle.norprog.specs.Planner.{Planning, IsPlannedPart, StopsPlanning}
+use Rattle.norprog.specs.Planner.{Planning, IsPlannedPart, outlined, StopsPlanning}
 use Rattle.nor_base.proofs.FaultLaws.{handed_on}
 use Rattle.norprog.proofs.Content.Plans.{kept_room, next_place, goes_on, no_window}
 use Rattle.norprog.proofs.planner.Planner.next_window.Goals as goal
-use Rattle.norprog.specs.Windows.{range}
+use Rattle.norprog.specs.Windows.{window_of}
 
 pub returns-in_err-more-clause-stopped : goal.returns-in_err-more-clause-stopped
 returns-in_err-more-clause-stopped g c =
@@ -21,7 +21,7 @@ returns-in_err-more-clause-stopped g c =
     let count : n ≡ min p.window (p.job.meaning.size - p.at) = omega (arith, c.min-count.ensures, c.len.ensures, size, own, at, window) in
     handed_on _ _ _ c.from_residual.ensures.1
     (no_window p n _ _ c.in_err-more.field-0.0 (next_place p n c.requires.ready before count)
-    (subst (λ (q : Planning). StopsPlanning q.job q.work q.at n (g.R.ByteIn.ahead c.args.content.now) (g.R.ByteIn.ahead c.part_plan.new.content) c.in_err-more.field-0.0)
+    (subst (λ (q : Planning). StopsPlanning (window_of q.job q.at n) q.work (g.R.ByteIn.ahead c.args.content.now) (g.R.ByteIn.ahead c.part_plan.new.content) c.in_err-more.field-0.0)
     c.self.view_is c.in_err-more.ensures.stopped))
 
 pub returns-clause-told : goal.returns-clause-told
@@ -34,7 +34,7 @@ returns-clause-told g c =
     let window = ap (λ (q : Planning). q.window) c.self.view_is in
     let before : p.at < p.job.meaning.size = omega (arith, c.if-self-size.false, size, own, at) in
     let count : n ≡ min p.window (p.job.meaning.size - p.at) = omega (arith, c.min-count.ensures, c.len.ensures, size, own, at, window) in
-    let its = subst (λ (q : Planning). IsPlannedPart q.job q.work c.part_plan.new.writer (range q.at n) (g.R.ByteIn.ahead c.args.content.now) (g.R.ByteIn.ahead c.part_plan.new.content) c.in_ok-more.more c.in_ok-more.lines.items)
+    let its = subst (λ (q : Planning). IsPlannedPart (window_of q.job q.at n) q.work (g.R.ByteIn.ahead c.args.content.now) (g.R.ByteIn.ahead c.part_plan.new.content) (outlined c.part_plan.new.writer c.in_ok-more.more c.in_ok-more.lines.items))
     c.self.view_is c.in_ok-more.ensures.planned in
     goes_on p c.self.inside.job.now c.part_plan.new.writer _ _ (c.self.inside.at + n) n _ _
     c.in_ok-more.more c.plus-self-inside.result c.in_ok-more.lines.items c.requires.ready (next_place p n c.requires.ready before count) its
