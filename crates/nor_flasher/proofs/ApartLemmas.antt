@@ -1,15 +1,24 @@
 -- Work on a later stretch of the wire.
-use Rattle.std.proofs.Common.{◌≡◌, List, ◌∷◌, ◌++◌, sym, ◌∙◌, ap, subst, append_assoc}
+use Rattle.std.proofs.Common.{◌≡◌, ℕ, Bool, false, inl, List, [], ◌∷◌, ◌++◌, length, refl, sym, ◌∙◌, ap, subst, append_assoc}
+use Rattle.std.specs.Prelude.{Option}
 use Rattle.std.specs.List.{AllByRecursion}
+use Rattle.std.proofs.lemmas.List.{append-nil}
+use Rattle.nor_base.specs.declared.meaning.Start.{Start}
+use Rattle.nor_base.specs.declared.step.Step.{Step}
 use Rattle.nor_base.specs.Chip.{ready}
+use Rattle.nor_base.specs.Device.{Ahead}
+use Rattle.nor_base.specs.Parameters.{Parameters}
+use Rattle.nor_base.specs.Planned.{ArePlanned, IsWorkable}
+use Rattle.nor_base.specs.Wire.{Wire, wire}
 use Rattle.nor_plan_laws.specs.Laws.{PlannedDoesTask}
-use Rattle.nor_loop.specs.Laws.{ToldLoopCloses, LoopIsExplained, LoopBreaks, DoneIsLogged, HaltIsLogged}
-use Rattle.nor_loop.specs.Log.{Operation, Explains}
+use Rattle.nor_loop.specs.Laws.{ToldLoopCloses, LoopIsExplained, LoopBreaks, DoneIsLogged, HaltIsLogged, ReadTwice}
+use Rattle.nor_loop.specs.Log.{Operation, Explains, HasLogged}
 use Rattle.nor_loop.specs.Single.{WhateverQuad, WhateverQuadPart}
-use Rattle.nor_loop.specs.Steps.{next_clocks}
-use Rattle.nor_flasher.specs.Laws.{Closes, Breaks}
+use Rattle.nor_loop.specs.Steps.{AreBegun, next_clocks}
+use Rattle.nor_flasher.specs.Apart.{BreaksApart, chip_read}
+use Rattle.nor_flasher.specs.Laws.{Closes, Breaks, Rests}
 use Rattle.nor_flasher.proofs.LengthLemmas.{IsOne, PlannedIsOne}
-use Rattle.nor_flasher.proofs.BegunLemmas.{all_before, all_after, ends, explains_front, next_operations}
+use Rattle.nor_flasher.proofs.BegunLemmas.{all_before, all_after, ends, explains_front, next_operations, not_yet}
 
 pub closes : PlannedDoesTask → DoneIsLogged → ToldLoopCloses → LoopIsExplained → WhateverQuad → Closes
 closes does logged told shown whatever h0 h1 h2 h3 a0 a1 a2 a3 limits turns m start verify content goal steps able planned twice did =
@@ -32,16 +41,17 @@ joins : (first again work rest : List Operation) → first ++ (again ++ (work ++
 joins first again work rest =
     ap (λ (l : List Operation). first ++ l) (sym (append_assoc again work rest)) ∙ sym (append_assoc first (again ++ work) rest)
 
-pub breaks : PlannedIsOne → HaltIsLogged → LoopBreaks → LoopIsExplained → WhateverQuadPart → Breaks
-breaks ones logged broken shown whatever h0 h1 h2 h3 a0 a1 a2 a3 limits turns m start verify content goal steps halt off able planned twice halted =
-    let row = halted.at ∷ halted.beyond in
-    let at = logged h2 h3 a2 a3 limits turns steps halt halted in
-    let work = at.2 in
-    let begun = at.4 in
+-- work was begun, and its log is what went over the wire
+begun_breaks : PlannedIsOne → LoopBreaks → LoopIsExplained → WhateverQuadPart → (opened closed old : Wire) (held : Option (List ℕ)) (ahead : Ahead)
+    (m : Parameters) (start : Start) (verify : Bool) (content goal : List ℕ) (steps : List Step) (at : ℕ) (row : List Step) (work : List Operation)
+    → start.quad ≡ false → IsWorkable m start content goal → ArePlanned m start verify content goal steps → ReadTwice opened closed m start content
+    → HasLogged old (wire held ahead) work → AreBegun steps at row work
+    → BreaksApart opened closed old (chip_read m start content) goal steps at row
+begun_breaks ones broken shown whatever opened closed old held ahead m start verify content goal steps at row work off able planned twice worked begun =
     let all = ones m start verify content goal steps able off planned in
     let those = subst (AllByRecursion IsOne) begun.those all in
     let own = all_before row begun.rest (all_after begun.front (row ++ begun.rest) those) in
-    let end = ends steps halt.step row work all begun in
+    let end = ends steps at row work all begun in
     let whole = shown m start verify content goal steps twice.first twice.again (work ++ end.0) able planned twice.reads twice.rereads end.1 in
     let front = explains_front whole.0 (ready whole.0 content) whole.1 (twice.first ++ (twice.again ++ work)) end.0
     (subst (λ (l : List Operation). Explains whole.0 (ready whole.0 content) l whole.1) (joins twice.first twice.again work end.0) whole.2.explains) in
@@ -49,12 +59,39 @@ breaks ones logged broken shown whatever h0 h1 h2 h3 a0 a1 a2 a3 limits turns m 
       first = twice.first;
       again = twice.again;
       work = work;
-      held = at.0;
-      ahead = at.1;
+      held = held;
+      ahead = ahead;
       read = twice.wire;
-      worked = at.3;
+      worked = worked;
       begun = begun;
       every = λ quad reads. whatever m start content goal (twice.first ++ (twice.again ++ work)) (next_clocks reads row) start.quad quad (next_operations reads row own)
-          (broken m start verify content goal steps twice.first twice.again work halt.step row reads able planned twice.reads twice.rereads begun);
+          (broken m start verify content goal steps twice.first twice.again work at row reads able planned twice.reads twice.rereads begun);
       some = (whole.0, front.0, record { is = whole.2.is; size = whole.2.size; explains = front.1 });
     }
+
+pub breaks : PlannedIsOne → HaltIsLogged → LoopBreaks → LoopIsExplained → WhateverQuadPart → Breaks
+breaks ones logged broken shown whatever h0 h1 h2 h3 a0 a1 a2 a3 limits turns m start verify content goal steps halt off able planned twice halted =
+    let log = logged h2 h3 a2 a3 limits turns steps halt halted in
+    begun_breaks ones broken shown whatever (wire h0 a0) (wire h1 a1) (wire h2 a2) log.0 log.1 m start verify content goal steps halt.step
+    (halted.at ∷ halted.beyond) log.2 off able planned twice log.3 log.4
+
+-- of the step that comes next nothing was done
+pub rests : PlannedIsOne → DoneIsLogged → LoopBreaks → LoopIsExplained → WhateverQuadPart → Rests
+rests ones logged broken shown whatever h0 h1 h2 h3 a0 a1 a2 a3 limits turns m start verify content goal front x rest off able planned twice did =
+    let steps = front ++ (x ∷ rest) in
+    let log = logged h2 h3 a2 a3 limits turns front did in
+    let next = all_after front (x ∷ rest) (ones m start verify content goal steps able off planned) in
+    let begun : AreBegun steps (length front) (x ∷ []) log.0 = record {
+      front = front;
+      rest = rest;
+      those = refl;
+      number = refl;
+      form = inl (x, refl);
+      done = log.0;
+      begun = [];
+      joined = sym (append-nil log.0);
+      logged = log.2;
+      last = not_yet x next.0;
+    } in
+    begun_breaks ones broken shown whatever (wire h0 a0) (wire h1 a1) (wire h2 a2) h3 a3 m start verify content goal steps (length front) (x ∷ []) log.0 off able
+    planned twice log.1 begun

@@ -52,7 +52,7 @@ goes_on (Verify symbols expect) log one none =
     let more = by_one (Verify symbols expect) symbols expect one log spelled none in record { rest = more.rest; is = more.is }
 
 -- nothing of a step was done yet
-not_yet : (x : Step) → IsOne x → IsBegun x []
+pub not_yet : (x : Step) → IsOne x → IsBegun x []
 not_yet (Send symbols) one = refl
 not_yet (Poll symbols) one = (one.fits, record { busy = []; idle = []; each = refl; then_idle = refl; those = refl })
 not_yet (Verify symbols expect) one = refl

@@ -1,5 +1,5 @@
 -- Laws of work on a device (this project's).
-use Rattle.std.specs.Prelude.{◌≡◌, ◌⊎◌, ◌<◌, ℕ, Bool, false, List, ◌∷◌, All, length, Option}
+use Rattle.std.specs.Prelude.{◌≡◌, ◌⊎◌, ◌<◌, ℕ, Bool, false, List, [], ◌∷◌, ◌++◌, All, length, Option}
 use Rattle.nor_base.specs.declared.meaning.Start.{Start}
 use Rattle.nor_base.specs.declared.step.Step.{Step}
 use Rattle.nor_base.specs.Device.{Ahead}
@@ -31,6 +31,14 @@ Breaks = (h0 h1 h2 h3 : Option (List ℕ)) (a0 a1 a2 a3 : Ahead) (limits : Limit
     → start.quad ≡ false → IsWorkable m start content goal → ArePlanned m start verify content goal steps
     → ReadTwice (wire h0 a0) (wire h1 a1) m start content → (halted : HasHalted (wire h2 a2) (wire h3 a3) limits turns steps halt)
     → BreaksApart (wire h0 a0) (wire h1 a1) (wire h2 a2) (chip_read m start content) goal steps halt.step (halted.at ∷ halted.beyond)
+
+-- or it did the steps before one of that work, and nothing more was asked of it
+abbrev pub Rests : Type 0
+Rests = (h0 h1 h2 h3 : Option (List ℕ)) (a0 a1 a2 a3 : Ahead) (limits : Limits) (turns : ℕ) (m : Parameters) (start : Start) (verify : Bool)
+    (content goal : List ℕ) (front : List Step) (x : Step) (rest : List Step)
+    → start.quad ≡ false → IsWorkable m start content goal → ArePlanned m start verify content goal (front ++ (x ∷ rest))
+    → ReadTwice (wire h0 a0) (wire h1 a1) m start content → HasDoneAll (wire h2 a2) (wire h3 a3) limits turns front
+    → BreaksApart (wire h0 a0) (wire h1 a1) (wire h2 a2) (chip_read m start content) goal (front ++ (x ∷ rest)) (length front) (x ∷ [])
 
 -- each step of planned work can be handed to a device
 abbrev pub PlannedIsDoable : Type 0

@@ -1,6 +1,7 @@
 //! What a device's work says of its chip.
 
-ghost use Rattle.nor_flasher.specs.Laws.{Closes, Breaks, PlannedIsDoable, RefusedForLength};
+ghost use Rattle.nor_flasher.specs.Laws.{Closes, Breaks, Rests, PlannedIsDoable};
+ghost use Rattle.nor_flasher.specs.Laws.{RefusedForLength};
 
 use nor_laws::{effects, spelling};
 use nor_loop::{device, loop_breaks, loop_closes, loop_is_explained, quad, single};
@@ -22,8 +23,11 @@ pub fn closes()
 /// A content was read twice, and later work on it halted. Every ready chip that explains both held
 /// just the content, and at most one unit of the work is in the making, also where the chip did
 /// what came next, or some of its row. Some chip explains both.
+///
+/// The same holds where the work rests before a step.
 pub fn breaks()
-    ensures { Breaks }
+    ensures halts { Breaks }
+    ensures rests { Rests }
 {
     device();
     loop_breaks();

@@ -1,5 +1,6 @@
 //! Work on a chip behind a serprog programmer: [`do_steps`] has the programmer do the steps of a
-//! script, and writes how far that has come to a line, over and over again.
+//! script, and writes how far that has come to a line, over and over again. [`do_part`] does so for
+//! steps that are a part of them.
 //!
 //! [`closes`], [`breaks`] and [`doable`] do nothing. Their contracts are laws of content that was
 //! read twice and of planned work that a programmer then did, or broke off.
@@ -11,4 +12,5 @@ mod steps;
 
 pub use laws::{breaks, closes, doable};
 pub use nor_serprog::Halt;
-pub use steps::{are_doable, do_steps};
+pub use progress::{Progress, bus_bytes};
+pub use steps::{are_doable, do_part, do_steps};

@@ -1,15 +1,22 @@
 //! How far work has come.
 
+ghost use Rattle.std.specs.Prelude.{◌≡◌, ◌-◌, ◌^◌, false, min, sum_by};
+ghost use Rattle.nor_flasher.specs.Progress.{step_bytes, none_done};
+
 use itoa::Buffer;
 use nor_base::{ByteOut, Failed, Step, put_all, put_parts};
+use std::marker::Model;
 
 /// After how many steps it is reported again.
 const EVERY: u64 = 100;
 
 /// How many steps are done, and how many bytes of theirs went over the bus, of all. Numbers past
 /// 2^64 - 1 stay there.
+///
+/// One may go on over several calls of [`do_part`](crate::do_part); [`Progress::end`] after the
+/// last.
 #[derive(Drop)]
-pub(crate) struct Progress {
+pub struct Progress {
     steps: u64,
     bytes: u64,
     all_steps: u64,
@@ -20,17 +27,31 @@ pub(crate) struct Progress {
     works: bool,
 }
 
+impl Model for Progress {
+    ghost use Rattle.nor_flasher.specs.Progress.{Far};
+
+    ghost Value = { Far };
+
+    ghost use Rattle.std.specs.Prelude.{◌&&◌};
+
+    ghost view = { λ p. record {
+      steps = p.steps;
+      bytes = p.bytes;
+      all_steps = p.all_steps;
+      all_bytes = p.all_bytes;
+      is_open = p.works && p.shown;
+    } };
+}
+
 impl Progress {
-    /// None of these steps is done.
-    pub(crate) fn of(steps: &[Step]) -> Progress {
-        let mut all_bytes: u64 = 0;
-        for step in steps {
-            all_bytes = all_bytes.saturating_add(bytes(step));
-        }
+    /// None of so many steps is done, of which so many bytes go over the bus ([`bus_bytes`]).
+    pub fn of(all_steps: u64, all_bytes: u64) -> Progress
+        ensures { result ≡ none_done all_steps all_bytes }
+    {
         Progress {
             steps: 0,
             bytes: 0,
-            all_steps: steps.len() as u64,
+            all_steps,
             all_bytes,
             shown: false,
             works: true,
@@ -56,7 +77,9 @@ impl Progress {
     }
 
     /// Closes the line, where one was written and none failed.
-    pub(crate) fn end<P: ByteOut>(self, out: &mut P) {
+    pub fn end<P: ByteOut>(self, out: &mut P)
+        ensures quiet { self.is_open ≡ false → out.new ≡ out.old }
+    {
         if self.works && self.shown {
             let _ = put_all(out, b"\n");
         }
@@ -90,7 +113,20 @@ impl Progress {
     }
 }
 
-/// The bytes of a step on the bus: eight clocks for each.
-fn bytes(step: &Step) -> u64 {
+/// How many bytes of these steps go over the bus, eight clocks for each: at most 2^64 - 1.
+pub fn bus_bytes(steps: &[Step]) -> u64
+    ensures { result ≡ min (2 ^ 64 - 1) (sum_by step_bytes steps.now) }
+{
+    let mut all: u64 = 0;
+    for step in steps {
+        all = all.saturating_add(bytes(step));
+    }
+    all
+}
+
+/// The bytes of a step on the bus.
+fn bytes(step: &Step) -> u64
+    ensures { result ≡ step_bytes step.now }
+{
     step.clocks().len() as u64 / 8
 }

@@ -10,6 +10,7 @@ use Rattle.nor_base.specs.declared.step.Step.TheVariants.{Send, Poll, Verify}
 use Rattle.nor_base.specs.Array.{are_bytes, is_filled}
 use Rattle.nor_base.specs.Sample.{is_symbol}
 use Rattle.nor_base.specs.Step.{are_clocks, IsStep}
+use Rattle.nor_laws.specs.Laws.{IsSpelled}
 use Rattle.nor_base.specs.Script.{closed, hex_digit, hex_pair, step_line, header, end_line, step_lines, script_text, IsScript}
 
 -- two texts that are alike: in front, and what follows
@@ -46,9 +47,6 @@ none_of_symbols c (x ∷ xs) other h = (
       let both : true ≡ false = sym symbol ∙ other in cc,
   none_of_symbols c xs other (and_parts (is_symbol x) (list_all is_symbol xs) h).1,
 )
-
-none_of_clocks : (c : ℕ) (clocks : List ℕ) → is_symbol c ≡ false → are_clocks clocks ≡ true → None_is c clocks
-none_of_clocks c clocks other h = none_of_symbols c clocks other (and_parts (is_filled clocks) (list_all is_symbol clocks) h).1
 
 -- the value of a digit
 abbrev digit_value : ℕ → ℕ
@@ -102,34 +100,61 @@ pub record SameStep (s t : Step) (x y : List ℕ) : Type 0 where
   pub rest : x ≡ y
 
 -- clocks up to LF
-clocks_apart : (a b x y : List ℕ) → are_clocks a ≡ true → are_clocks b ≡ true → (a ++ 0x0A ∷ []) ++ x ≡ (b ++ 0x0A ∷ []) ++ y → Alike a b x y
+clocks_apart : (a b x y : List ℕ) → list_all is_symbol a ≡ true → list_all is_symbol b ≡ true → (a ++ 0x0A ∷ []) ++ x ≡ (b ++ 0x0A ∷ []) ++ y → Alike a b x y
 clocks_apart a b x y p q h =
-    up_to 0x0A a b x y (none_of_clocks 0x0A a refl p) (none_of_clocks 0x0A b refl q) (sym (append_assoc a (0x0A ∷ []) x) ∙ h ∙ append_assoc b (0x0A ∷ []) y)
+    up_to 0x0A a b x y (none_of_symbols 0x0A a refl p) (none_of_symbols 0x0A b refl q) (sym (append_assoc a (0x0A ∷ []) x) ∙ h ∙ append_assoc b (0x0A ∷ []) y)
 
 -- the first byte
 head_of : List ℕ → ℕ
 head_of l = get_or l 0 0
 
 -- lines of two kinds of step differ in their first byte
-pub step_apart : (s t : Step) (x y : List ℕ) → IsStep s → IsStep t → closed (step_line s) ++ x ≡ closed (step_line t) ++ y → SameStep s t x y
+pub spelled_apart : (s t : Step) (x y : List ℕ) → IsSpelled s → IsSpelled t → closed (step_line s) ++ x ≡ closed (step_line t) ++ y → SameStep s t x y
 unfolding step_line head_of
-step_apart (Send a) (Send b) x y p q h =
-    let both = clocks_apart a b x y p.passes q.passes (ap (drop 2) h) in record { is = ap Send both.front; rest = both.rest }
-step_apart (Poll a) (Poll b) x y p q h =
-    let both = clocks_apart a b x y p.passes q.passes (ap (drop 2) h) in record { is = ap Poll both.front; rest = both.rest }
-step_apart (Verify a d) (Verify b e) x y p q h =
+spelled_apart (Send a) (Send b) x y p q h =
+    let both = clocks_apart a b x y p.symbols q.symbols (ap (drop 2) h) in record { is = ap Send both.front; rest = both.rest }
+spelled_apart (Poll a) (Poll b) x y p q h =
+    let both = clocks_apart a b x y p.symbols q.symbols (ap (drop 2) h) in record { is = ap Poll both.front; rest = both.rest }
+spelled_apart (Verify a d) (Verify b e) x y p q h =
     let lines : a ++ 0x20 ∷ (flat_map hex_pair d ++ 0x0A ∷ x) ≡ b ++ 0x20 ∷ (flat_map hex_pair e ++ 0x0A ∷ y) =
     sym (verify_line a (flat_map hex_pair d) x) ∙ ap (drop 2) h ∙ verify_line b (flat_map hex_pair e) y in
-    let clocks = up_to 0x20 a b _ _ (none_of_clocks 0x20 a refl (and_parts (are_clocks a) (is_filled d) p.passes).0)
-    (none_of_clocks 0x20 b refl (and_parts (are_clocks b) (is_filled e) q.passes).0) lines in
+    let clocks = up_to 0x20 a b _ _ (none_of_symbols 0x20 a refl p.symbols) (none_of_symbols 0x20 b refl q.symbols) lines in
     let bytes = bytes_apart d e x y (small_bytes d p.bytes) (small_bytes e q.bytes) clocks.rest in
     record { is = ap (λ c. Verify c d) clocks.front ∙ ap (Verify b) bytes.front; rest = bytes.rest }
-step_apart (Send a) (Poll b) x y p q h = let heads : 120 ≡ 112 = ap head_of h in absurd (omega (arith, heads))
-step_apart (Send a) (Verify b e) x y p q h = let heads : 120 ≡ 118 = ap head_of h in absurd (omega (arith, heads))
-step_apart (Poll a) (Send b) x y p q h = let heads : 112 ≡ 120 = ap head_of h in absurd (omega (arith, heads))
-step_apart (Poll a) (Verify b e) x y p q h = let heads : 112 ≡ 118 = ap head_of h in absurd (omega (arith, heads))
-step_apart (Verify a d) (Send b) x y p q h = let heads : 118 ≡ 120 = ap head_of h in absurd (omega (arith, heads))
-step_apart (Verify a d) (Poll b) x y p q h = let heads : 118 ≡ 112 = ap head_of h in absurd (omega (arith, heads))
+spelled_apart (Send a) (Poll b) x y p q h = let heads : 120 ≡ 112 = ap head_of h in absurd (omega (arith, heads))
+spelled_apart (Send a) (Verify b e) x y p q h = let heads : 120 ≡ 118 = ap head_of h in absurd (omega (arith, heads))
+spelled_apart (Poll a) (Send b) x y p q h = let heads : 112 ≡ 120 = ap head_of h in absurd (omega (arith, heads))
+spelled_apart (Poll a) (Verify b e) x y p q h = let heads : 112 ≡ 118 = ap head_of h in absurd (omega (arith, heads))
+spelled_apart (Verify a d) (Send b) x y p q h = let heads : 118 ≡ 120 = ap head_of h in absurd (omega (arith, heads))
+spelled_apart (Verify a d) (Poll b) x y p q h = let heads : 118 ≡ 112 = ap head_of h in absurd (omega (arith, heads))
+
+-- a step that a script may have is spelled
+pub spelled_step : (s : Step) → IsStep s → IsSpelled s
+spelled_step (Send a) p = record { symbols = (and_parts (is_filled a) (list_all is_symbol a) p.passes).1; bytes = p.bytes }
+spelled_step (Poll a) p = record { symbols = (and_parts (is_filled a) (list_all is_symbol a) p.passes).1; bytes = p.bytes }
+spelled_step (Verify a d) p =
+    let clocks : are_clocks a ≡ true = (and_parts (are_clocks a) (is_filled d) p.passes).0 in
+    record { symbols = (and_parts (is_filled a) (list_all is_symbol a) clocks).1; bytes = p.bytes }
+
+pub step_apart : (s t : Step) (x y : List ℕ) → IsStep s → IsStep t → closed (step_line s) ++ x ≡ closed (step_line t) ++ y → SameStep s t x y
+step_apart s t x y p q h = spelled_apart s t x y (spelled_step s p) (spelled_step t q) h
+
+-- a line isn't empty
+no_line : (t : Step) (x : List ℕ) → [] ≡ closed (step_line t) ++ x → ⊥
+unfolding step_line head_of
+no_line (Send b) x h = let heads : 0 ≡ 120 = ap head_of h in omega (arith, heads)
+no_line (Poll b) x h = let heads : 0 ≡ 112 = ap head_of h in omega (arith, heads)
+no_line (Verify b e) x h = let heads : 0 ≡ 118 = ap head_of h in omega (arith, heads)
+
+-- lines alone tell steps apart
+pub lines_same : (a b : List Step) → AllByRecursion IsSpelled a → AllByRecursion IsSpelled b → step_lines a ≡ step_lines b → a ≡ b
+unfolding step_lines
+lines_same [] [] p q h = refl
+lines_same [] (t ∷ b) p q h = absurd (no_line t (step_lines b) h)
+lines_same (s ∷ a) [] p q h = absurd (no_line s (step_lines a) (sym h))
+lines_same (s ∷ a) (t ∷ b) p q h =
+    let split = spelled_apart s t (step_lines a) (step_lines b) p.0 q.0 h in
+    ap (λ step. step ∷ a) split.is ∙ ap (λ steps. t ∷ steps) (lines_same a b p.1 q.1 split.rest)
 
 end_is_no_step : (n : ℕ) (t : Step) (x y : List ℕ) → end_line n ++ x ≡ closed (step_line t) ++ y → ⊥
 unfolding end_line step_line head_of

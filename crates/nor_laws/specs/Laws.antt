@@ -1,13 +1,13 @@
 -- Laws of the definitions: facts that would be false if one of them were wrong.
 use Rattle.std.specs.Prelude.{◌≡◌, ◌≢◌, ◌⊎◌, ℕ, suc, Bool, true, false, ◌<◌, ◌≤◌, ◌+◌, ◌%◌, ◌^◌, List, [], ◌∷◌, ◌++◌, length, map, Option, Some, None, option_map, Ok, Err, slice_index, bit_and}
-use Rattle.std.specs.List.{AllByRecursion}
+use Rattle.std.specs.List.{list_all, AllByRecursion}
 use Rattle.nor_base.specs.declared.clock.Clock.{Clock}
 use Rattle.nor_base.specs.declared.instruction.What.TheVariants as what
 use Rattle.nor_base.specs.declared.step.Step.{Step}
 use Rattle.nor_base.specs.declared.wrong.Wrong.TheVariants as wrong
-use Rattle.nor_base.specs.Sample.{symbol, clock_at, sample, sample_at, sampled_count}
-use Rattle.nor_base.specs.Step.{IsStep}
-use Rattle.nor_base.specs.Script.{IsScript, script_text}
+use Rattle.nor_base.specs.Sample.{symbol, clock_at, sample, sample_at, sampled_count, is_symbol}
+use Rattle.nor_base.specs.Step.{IsStep, step_clocks, expected}
+use Rattle.nor_base.specs.Script.{IsScript, script_text, step_lines}
 use Rattle.nor_base.specs.Device.{Ahead, Gives, first_of}
 use Rattle.nor_base.specs.Parameters.{Parameters, erase_kind, block_size}
 use Rattle.nor_base.specs.Instructions.{Row, IsRow, row_of}
@@ -15,7 +15,7 @@ use Rattle.nor_base.specs.Accepted.{IsAccepted}
 use Rattle.nor_base.specs.Decoding.{Instruction, decode}
 use Rattle.nor_base.specs.Blocks.{Block, AreDisjoint, LiesIn, LiesInRegion, IsLegalBlock}
 use Rattle.nor_base.specs.Chip.{Setting, Chip, IsWhole}
-use Rattle.nor_base.specs.Array.{IsOutside}
+use Rattle.nor_base.specs.Array.{IsOutside, are_bytes}
 use Rattle.nor_base.specs.Effect.{effect, effect_of, is_broken, is_program, place, page_start, may_program, wrong_of}
 use Rattle.nor_base.specs.Run.{polled, polled_trail, run, played, trail}
 use Rattle.nor_base.specs.Events.{events}
@@ -37,6 +37,15 @@ TextsApart = (a b : List Step) (x y : List ℕ) → AllByRecursion IsStep a → 
 -- no script text is a proper prefix of another
 abbrev pub NoProperPrefix : Type 0
 NoProperPrefix = (a b : List Step) (t u rest : List ℕ) → IsScript t a → IsScript u b → u ≡ t ++ rest → rest ≡ []
+
+-- the clocks of a step are symbols, and what it expects are bytes
+pub record IsSpelled (step : Step) : Type 0 where
+  pub symbols : list_all is_symbol (step_clocks step) ≡ true
+  pub bytes : are_bytes (expected step) ≡ true
+
+-- two lists of such steps have the same lines only where they are the same
+abbrev pub LinesApart : Type 0
+LinesApart = (a b : List Step) → AllByRecursion IsSpelled a → AllByRecursion IsSpelled b → step_lines a ≡ step_lines b → a ≡ b
 
 -- an opcode has at most one row
 abbrev pub OneRow : Type 0

@@ -14,7 +14,7 @@ ghost use Rattle.nor_laws.specs.Laws.{BoundedIsRun, EventsAreTrail, RunEndsTrail
 ghost use Rattle.nor_laws.specs.Laws.{RaisedForByte, NotErasedForByte, ProgramKeepsOthers};
 ghost use Rattle.nor_laws.specs.Laws.{ProgramJudgedByPage, EraseFills, EraseKeepsOthers};
 ghost use Rattle.nor_laws.specs.Laws.{EraseNeverJudged, TargetKeeps, TargetGives, FirstInParts};
-ghost use Rattle.nor_laws.specs.Laws.{GivesInParts, LegalInRegion};
+ghost use Rattle.nor_laws.specs.Laws.{GivesInParts, LegalInRegion, LinesApart};
 
 /// A clock is found by its symbol, the lanes do at a symbol what they do at its clock, and no two
 /// clocks have the same lanes: a list of samples means its instruction.
@@ -25,12 +25,13 @@ pub fn symbols()
 {}
 
 /// A list of steps has one text, a text has one list of steps, and no script text is a proper
-/// prefix of another.
+/// prefix of another. The lines of steps tell them apart, also steps that no script may have.
 pub fn script_texts()
     ensures one_text { OneText }
     ensures one_list { OneList }
     ensures apart { TextsApart }
     ensures no_proper_prefix { NoProperPrefix }
+    ensures lines { LinesApart }
 {}
 
 /// In an accepted meaning an opcode has at most one row of the instruction table, and the first

@@ -6,3 +6,4 @@ mod UnitLemmas
 pub mod Placed
 pub mod TextLemmas
 pub mod WindowLemmas
+mod KeptLemmas

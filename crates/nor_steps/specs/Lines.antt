@@ -35,8 +35,11 @@ load_step (sent4 bytes) clocks = Send clocks
 load_step (asked bytes) clocks = Verify clocks bytes
 load_step (asked4 bytes) clocks = Verify clocks bytes
 
+abbrev pub coded_step : Coded → Step
+coded_step c = load_step c.load (frame c)
+
 abbrev pub coded_line : Coded → List ℕ
-coded_line c = closed (step_line (load_step c.load (frame c)))
+coded_line c = closed (step_line (coded_step c))
 
 -- it has at most four address bytes
 abbrev pub IsNarrow : Coded → Type 0

@@ -9,7 +9,7 @@ use nor_frames::FramesFault;
 use nor_geometry::PlanFault;
 use nor_pages::PagesFault;
 use nor_select::SelectFault;
-use std::alloc::AllocError;
+use std::alloc::{AllocError, AllocFailed};
 use thiserror::Error;
 
 /// Why steps are not written.
@@ -65,6 +65,14 @@ impl From<AllocError> for StepsFault {
     ghost from_gives = { λ _ lifted. lifted ≡ Memory };
 
     fn from(_error: AllocError) -> StepsFault {
+        StepsFault::Memory
+    }
+}
+
+impl<T: Drop> From<AllocFailed<T>> for StepsFault {
+    ghost from_gives = { λ _ lifted. lifted ≡ Memory };
+
+    fn from(_error: AllocFailed<T>) -> StepsFault {
         StepsFault::Memory
     }
 }

@@ -6,6 +6,7 @@
 #![tactic(auto)]
 
 mod fault;
+mod kept;
 mod lines;
 mod tally;
 mod unit;
@@ -14,6 +15,7 @@ mod work;
 mod writer;
 
 pub use fault::StepsFault;
+pub use kept::StepList;
 pub use lines::{InstrOut, Unwritten};
 pub use tally::Tally;
 pub use window::bounds;

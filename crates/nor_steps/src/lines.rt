@@ -1,4 +1,5 @@
-//! What becomes of instructions: their lines are written, or they are only counted.
+//! What becomes of instructions: their lines are written, or they are only counted. A
+//! [`StepList`](crate::StepList) keeps their steps.
 
 ghost use Rattle.std.specs.Prelude.{ℕ, List, Option, None, IfErr};
 ghost use Rattle.nor_base.specs.Device.{Writes};

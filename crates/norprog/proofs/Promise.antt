@@ -8,3 +8,4 @@ pub mod Few
 pub mod Filled
 pub mod Build
 pub mod Plan
+pub mod Made

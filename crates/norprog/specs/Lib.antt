@@ -4,6 +4,7 @@ pub mod Windows
 pub mod Build
 pub mod Plan
 pub mod Planner
+pub mod Stepper
 pub mod Report
 pub mod ChipText
 pub mod Laws

@@ -4,7 +4,8 @@
 //!
 //! [`build`] writes the script. Its contract says what running it on the chip does. [`plan`] writes
 //! lines that tell what that script erases, why, and what it programs; a [`Planner`] returns them
-//! window after window. [`sfdp_text`] writes lines that say what a chip's tables mean.
+//! window after window, and a [`Stepper`] the steps. [`sfdp_text`] writes lines that say what a
+//! chip's tables mean.
 #![tactic(auto)]
 
 pub mod builder;
@@ -12,6 +13,7 @@ mod chip_text;
 mod lines;
 mod planner;
 pub mod report;
+mod stepper;
 mod windows;
 
 pub use builder::build;
@@ -24,3 +26,4 @@ pub use nor_layout::LayoutFault;
 pub use nor_sfdp::SfdpFault;
 pub use planner::{Planner, planned_lines};
 pub use report::{Report, write_report};
+pub use stepper::Stepper;

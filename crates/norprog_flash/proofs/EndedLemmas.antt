@@ -1,7 +1,7 @@
 -- How work that was planned ends.
 use Rattle.std.proofs.Common.{◌≡◌, ℕ, true, List, Option, Result, Ok, Err, IfOk, IfErr, refl, sym, subst}
 use Rattle.nor_reader.specs.AtOnce.{at_once}
-use Rattle.nor_flasher.specs.Laws.{Closes, Breaks}
+use Rattle.nor_flasher.specs.Laws.{Closes, Breaks, Rests}
 use Rattle.nor_job.specs.Status.{start_of}
 use Rattle.nor_reader.specs.declared.by.ReadBy.{ReadBy}
 use Rattle.nor_reader.specs.Laws.{GivesBy}
@@ -13,17 +13,18 @@ use Rattle.norprog_flash.specs.declared.ending.Ending.{Ending}
 use Rattle.norprog_flash.specs.declared.ending.Ending.TheVariants.{Failed}
 use Rattle.norprog_flash.specs.declared.job.Job.{Job}
 use Rattle.norprog_flash.specs.Begun.{HasPlanned, HasRead, Printed, Session, printed}
-use Rattle.norprog_flash.specs.Ended.{AllDone, EndsWork, Halted, IsCompared, IsPlanned, IsToDo, Missed, NotCarried, OnlyCompared, OnlyPlan, Planning}
+use Rattle.norprog_flash.specs.Ended.{AllDone, EndsWork, Halted, IsCompared, IsPlanned, IsToDo, Missed, NotCarried, OnlyCompared, OnlyPlan, Planning, Starved}
 use Rattle.norprog_flash.specs.Stops.{CantPlan}
 use Rattle.norprog_common.specs.declared.faults.Refusal.{Refusal}
 use Rattle.norprog_read.specs.declared.asked.Reading.{Reading}
 use Rattle.norprog_flash.specs.Task.{task_on}
-use Rattle.norprog_flash.specs.Worked.{Cannot, FailedAt, Goes, GoesOn, MissedIt, Worked, WorksOut, flashing}
+use Rattle.norprog_flash.specs.Worked as steps
+use Rattle.norprog_flash.specs.Worked.{Cannot, FailedAt, Goes, GoesOn, MissedIt, Stopped, Worked, WorksOut, flashing}
 use Rattle.norprog_device.proofs.CarriedLemmas.{never_carried, never_misses}
-use Rattle.norprog_flash.proofs.PlannedLemmas.{every_flashes, every_keeps}
+use Rattle.norprog_flash.proofs.PlannedLemmas.{every_flashes, every_keeps, every_rests}
 use Rattle.norprog_flash.specs.Work.{Plan}
 
-module _ (close : Closes) (break : Breaks) (s : Session) (before read : Wire) (p : Plan) (out : Printed) (whole : s.job.ask.content ≡ true)
+module _ (close : Closes) (break : Breaks) (rest : Rests) (s : Session) (before read : Wire) (p : Plan) (out : Printed) (whole : s.job.ask.content ≡ true)
     (aims : s.job.aim ≡ aim.Work) (planned : HasPlanned s before read p out) where
   abbrev todo : IsToDo s before read p out
   todo = record { aim = aims; planned = planned }
@@ -32,9 +33,10 @@ module _ (close : Closes) (break : Breaks) (s : Session) (before read : Wire) (p
       → AreCarried s.limits p.steps → WorksOut s read last (flashing p by) ending → EndsWork s before last out ending
   worked_ends last by ending way carried (Worked worked) =
       AllDone p read todo by way worked (every_flashes s before read p out planned whole close worked.done worked.steps)
-  worked_ends last by ending way carried (FailedAt halt why halted failed) =
+  worked_ends last by ending way carried (Stopped it (FailedAt halt why halted failed)) =
       Halted p read todo halt why (never_carried s.reading.meaning s.limits s.job.ask.turns read last p.steps halt why carried halted failed) halted failed
       (every_keeps s before read p out planned whole break last halt halted)
+  worked_ends last by ending way carried (Stopped it (steps.Starved step rested)) = Starved p read todo step rested (every_rests s before read p out planned whole rest last step rested)
   worked_ends last by ending way carried (MissedIt why missed) =
       Missed p read todo by why (never_misses missed.mismatch why missed.failed) way missed
       (every_flashes s before read p out planned whole close missed.worked.done missed.worked.steps)

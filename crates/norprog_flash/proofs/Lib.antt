@@ -5,6 +5,7 @@ mod BuiltLemmas
 mod RefusedLemmas
 mod WorkLemmas
 mod PlannedLemmas
+mod DoneLemmas
 mod EndedLemmas
 mod LineLemmas
 mod StopsLemmas

@@ -1,10 +1,11 @@
 -- What follows for every chip from a chip that was read and planned for, and from the work on it.
-use Rattle.std.proofs.Common.{◌≡◌, ◌∷◌, ℕ, Bool, true, false, List, All, refl, subst}
+use Rattle.std.proofs.Common.{◌≡◌, [], ◌∷◌, ℕ, Bool, true, false, List, All, length, refl, sym, ◌∙◌, ap, subst}
+use Rattle.nor_base.specs.declared.step.Step.{Step}
 use Rattle.nor_base.specs.declared.meaning.Start.{Start}
 use Rattle.nor_base.specs.Parameters.{Parameters}
 use Rattle.nor_base.specs.Planned.{ArePlanned, IsWorkable}
 use Rattle.nor_flasher.specs.Apart.{ClosesApart, BreaksApart, chip_read}
-use Rattle.nor_flasher.specs.Laws.{Closes, Breaks, PlannedIsDoable}
+use Rattle.nor_flasher.specs.Laws.{Closes, Breaks, PlannedIsDoable, Rests}
 use Rattle.nor_job.proofs.ChipLemmas.{one_chip}
 use Rattle.nor_job.specs.Status.{start_of}
 use Rattle.nor_loop.specs.Laws.{ReadTwice}
@@ -14,7 +15,11 @@ use Rattle.nor_serprog.specs.Done.{HasDoneAll, IsDoable}
 use Rattle.nor_serprog.specs.Row.{HasHalted}
 use Rattle.nor_base.specs.Wire.{Wire}
 use Rattle.norprog_flash.specs.Begun.{HasPlanned, Printed, Session}
+use Rattle.norprog_flash.specs.Worked.{HasRested, doing_in}
 use Rattle.norprog_flash.specs.Task.{dump_of, goal_of, task_on}
+use Rattle.norprog.specs.Stepper.{Stepping, steps_by, update_of}
+use Rattle.norprog.specs.Update.{Update, update, IsDoneBy}
+use Rattle.norprog.specs.declared.report.Report.{Report}
 use Rattle.norprog_read.specs.Chip.{GivesContent, way_by}
 use Rattle.norprog_read.specs.Way.{Way}
 use Rattle.norprog_flash.specs.Work.{Plan}
@@ -33,11 +38,24 @@ module _ (s : Session) (before read : Wire) (p : Plan) (out : Printed) (planned 
   chip : planned.plan.work.m ≡ s.reading.meaning
   chip = one_chip planned.plan.work.accepted.means planned.read.read.means.means
 
-  workable : IsWorkable s.reading.meaning start s.reading.content.items p.goal
+  pub workable : IsWorkable s.reading.meaning start s.reading.content.items p.goal
   workable = subst (λ (m : Parameters). IsWorkable m start s.reading.content.items p.goal) chip planned.plan.work.workable
 
-  steps_planned : ArePlanned s.reading.meaning start true s.reading.content.items p.goal p.steps
+  pub steps_planned : ArePlanned s.reading.meaning start true s.reading.content.items p.goal p.steps
   steps_planned = subst (λ (m : Parameters). ArePlanned m start true s.reading.content.items p.goal p.steps) chip planned.plan.work.planned
+
+  -- a stepper of that work makes its steps
+  pub steps_are : (stepping : Stepping) (begins : Start) (have want : List ℕ) → begins ≡ start → have ≡ s.reading.content.items → want ≡ p.goal
+      → update_of stepping ≡ update s.reading.meaning begins true have want → ((steps : List Step) → IsDoneBy (update_of stepping) steps → steps ≡ steps_by (update_of stepping))
+      → p.steps ≡ steps_by (update_of stepping)
+  steps_are stepping begins have want first second third same only =
+      let all = same ∙ ap (λ (x : Start). update s.reading.meaning x true have want) first ∙ ap (λ (xs : List ℕ). update s.reading.meaning start true xs want) second
+      ∙ ap (update s.reading.meaning start true s.reading.content.items) third in
+      only p.steps (subst (λ (u : Update). IsDoneBy u p.steps) (sym all) steps_planned)
+
+  -- as many as are reported
+  pub count_is : p.report.steps ≡ length p.steps
+  count_is = ap (λ (r : Report). r.steps) planned.plan.work.report
 
   pub steps_doable : PlannedIsDoable → All IsDoable p.steps
   steps_doable law = law s.reading.meaning start true s.reading.content.items p.goal p.steps steps_planned
@@ -62,3 +80,13 @@ module _ (s : Session) (before read : Wire) (p : Plan) (out : Printed) (planned 
     every_keeps law last halt halted =
         law _ _ read.held last.held _ _ read.ahead last.ahead s.limits s.job.ask.turns s.reading.meaning start true s.reading.content.items p.goal p.steps halt refl workable
         steps_planned twice halted
+
+    pub every_rests : Rests → (last : Wire) (step : ℕ) → (rested : HasRested (doing_in s) read last p.steps step)
+        → BreaksApart planned.read.read.ready planned.read.read.held read (chip_read s.reading.meaning start s.reading.content.items) p.goal p.steps step (rested.next ∷ [])
+    every_rests law last step rested =
+        let Broken : List Step → ℕ → Type 0 =
+        λ xs n. BreaksApart planned.read.read.ready planned.read.read.held read (chip_read s.reading.meaning start s.reading.content.items) p.goal xs n (rested.next ∷ []) in
+        subst (Broken p.steps) (sym rested.number)
+        (subst (λ (xs : List Step). Broken xs (length rested.front)) (sym rested.those)
+        (law _ _ read.held last.held _ _ read.ahead last.ahead s.limits s.job.ask.turns s.reading.meaning start true s.reading.content.items p.goal rested.front rested.next rested.rest refl
+        workable (subst (λ (xs : List Step). ArePlanned s.reading.meaning start true s.reading.content.items p.goal xs) rested.those steps_planned) twice rested.done))

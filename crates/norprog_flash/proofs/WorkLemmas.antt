@@ -19,7 +19,7 @@ use Rattle.norprog.specs.declared.report.Report.{Report}
 use Rattle.norprog_flash.specs.declared.goal.Goal.{Goal}
 use Rattle.norprog_flash.specs.Narrowed.{narrowed, SpansDifference}
 use Rattle.norprog_flash.specs.Refused.{IsCause, RefusesWork, StopsPlanning}
-use Rattle.norprog_flash.specs.Work.{BuildsSteps, HasLines, IsGoal, IsWork}
+use Rattle.norprog_flash.specs.Work.{HasPlan, IsGoal, IsWork}
 use Rattle.norprog_flash.proofs.NarrowedLemmas.{target_is_wanted}
 
 module _ (keeps : TargetKeeps) (gives : TargetGives) (t : Task) (content old : List ℕ) (narrow : Pairs) (goal : Goal) (g : IsGoal t old goal)
@@ -40,11 +40,6 @@ module _ (keeps : TargetKeeps) (gives : TargetGives) (t : Task) (content old : L
       → wanted (narrowed t narrow) image regions content ≡ goal.bytes.items
   same_target image regions m is =
       target_is_wanted keeps gives content goal.bytes.items image (subst (SpansDifference content goal.bytes.items) (sym is.named.imaged.spelled.0) spans) long few regions
-
-  lines_are : (lines : List ℕ) → HasLines (narrowed t narrow) content lines → lines ≡ plan_text g.m (start_of t) content goal.bytes.items
-  lines_are lines is =
-      subst (λ (m : Parameters). lines ≡ plan_text m (start_of t) content goal.bytes.items) (same_chip is.image is.regions is.m is.accepted)
-      (subst (λ (want : List ℕ). lines ≡ plan_text is.m (start_of t) content want) (same_target is.image is.regions is.m is.accepted) is.text)
 
   here : AreAccepted t (length content) g.image g.regions g.m
   here = subst (λ n. AreAccepted t n g.image g.regions g.m) (sym sizes) g.accepted
@@ -74,31 +69,34 @@ module _ (keeps : TargetKeeps) (gives : TargetGives) (t : Task) (content old : L
   planning_refused why (inl stops) = inr (stops_are why stops)
   planning_refused why (inr memory) = subst (RefusesWork t content old) (sym memory) starved
 
-  module _ (report : Report) (steps : List Step) (built : BuildsSteps (narrowed t narrow) content report steps) where
+  module _ (lines : List ℕ) (report : Report) (plan : HasPlan (narrowed t narrow) content lines report) where
     abbrev goal_update : Update
     goal_update = update g.m (start_of t) t.verify content goal.bytes.items
 
-    same : asked (narrowed t narrow) built.image built.regions built.m content ≡ goal_update
+    same : asked (narrowed t narrow) plan.image plan.regions plan.m content ≡ goal_update
     same =
-        ap (λ (m : Parameters). update m (start_of t) t.verify content (wanted (narrowed t narrow) built.image built.regions content))
-        (same_chip built.image built.regions built.m built.accepted)
-        ∙ ap (update g.m (start_of t) t.verify content) (same_target built.image built.regions built.m built.accepted)
+        ap (λ (m : Parameters). update m (start_of t) t.verify content (wanted (narrowed t narrow) plan.image plan.regions content))
+        (same_chip plan.image plan.regions plan.m plan.accepted)
+        ∙ ap (update g.m (start_of t) t.verify content) (same_target plan.image plan.regions plan.m plan.accepted)
 
-    told : (r : Report) → r ≡ record report { ignored = goal.ignored } → r ≡ report_of goal_update (ignored_of t g.image g.regions g.m) steps
+    told : (r : Report) → r ≡ record report { ignored = goal.ignored } → r ≡ report_of goal_update (ignored_of t g.image g.regions g.m) plan.steps
     told r is =
-        is ∙ ap (λ (x : Report). record x { ignored = goal.ignored }) built.told ∙ ap (λ (u : Update). report_of u goal.ignored steps) same
-        ∙ ap (λ (n : ℕ). report_of goal_update n steps) g.ignored
+        is ∙ ap (λ (x : Report). record x { ignored = goal.ignored }) plan.told ∙ ap (λ (u : Update). report_of u goal.ignored plan.steps) same
+        ∙ ap (λ (n : ℕ). report_of goal_update n plan.steps) g.ignored
 
-    pub work_is : (lines : List ℕ) (r : Report) → r ≡ record report { ignored = goal.ignored } → HasLines (narrowed t narrow) content lines
-        → IsWork t content old (record { goal = goal.bytes.items; steps = steps; lines = lines; report = r })
-    work_is lines r is has = record {
-      image = g.image;
-      regions = g.regions;
-      m = g.m;
-      accepted = here;
-      goal_is = g.bytes;
-      workable = subst CanBeDone same built.workable;
-      planned = subst (λ (u : Update). IsDoneBy u steps) same built.planned;
-      lines = lines_are lines has;
-      report = told r is;
-    }
+    pub work_is : (r : Report) → r ≡ record report { ignored = goal.ignored }
+        → (steps : List Step) × IsWork t content old (record { goal = goal.bytes.items; steps = steps; lines = lines; report = r })
+    work_is r is = (
+      plan.steps,
+      record {
+        image = g.image;
+        regions = g.regions;
+        m = g.m;
+        accepted = here;
+        goal_is = g.bytes;
+        workable = subst CanBeDone same plan.workable;
+        planned = subst (λ (u : Update). IsDoneBy u plan.steps) same plan.planned;
+        lines = subst (λ (u : Update). lines ≡ plan_text u.m u.start u.have u.want) same plan.text;
+        report = told r is;
+      },
+    )

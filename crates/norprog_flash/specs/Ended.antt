@@ -1,5 +1,5 @@
 -- How work on the chip behind a device ends (this project's).
-use Rattle.std.specs.Prelude.{◌≡◌, ◌≢◌, ℕ, List, ◌∷◌, length, Ok}
+use Rattle.std.specs.Prelude.{◌≡◌, ◌≢◌, ℕ, List, [], ◌∷◌, length, Ok}
 use Rattle.nor_reader.specs.AtOnce.{at_once}
 use Rattle.nor_base.specs.declared.step.Step.{Step}
 use Rattle.nor_flasher.specs.Apart.{ClosesApart, BreaksApart, chip_read}
@@ -15,11 +15,11 @@ use Rattle.norprog_device.specs.declared.failure.Failure.{Failure}
 use Rattle.norprog_device.specs.declared.failure.Failure.TheVariants.{Carried}
 use Rattle.norprog_device.specs.Reported.{IsFailureAt}
 use Rattle.norprog_flash.specs.declared.ending.Ending.{Ending}
-use Rattle.norprog_flash.specs.declared.ending.Ending.TheVariants.{Planned, Compared, Done, Failed}
+use Rattle.norprog_flash.specs.declared.ending.Ending.TheVariants.{Planned, Compared, Done, Failed, NoMemory}
 use Rattle.norprog_flash.specs.declared.job.Job.{Job}
 use Rattle.norprog_flash.specs.Begun.{HasPlanned, HasRead, Printed, PrintsPlan, Session}
 use Rattle.norprog_flash.specs.Task.{dump_of, goal_of, task_on}
-use Rattle.norprog_flash.specs.Worked.{flashing, HasMissed, HasWorked}
+use Rattle.norprog_flash.specs.Worked.{doing_in, flashing, HasMissed, HasRested, HasWorked}
 use Rattle.norprog_read.specs.declared.asked.Reading.{Reading}
 use Rattle.norprog_flash.specs.declared.compared.Comparison.{Comparison}
 use Rattle.norprog_flash.specs.Compared.{IsComparison}
@@ -72,6 +72,9 @@ pub data EndsWork (s : Session) (before after : Wire) (out : Printed) : Ending �
   Halted : (p : Plan) (read : Wire) (todo : IsToDo s before read p out) (halt : Halt) (why : Failure) → why ≢ Carried
       → (halted : HasHalted read after s.limits s.job.ask.turns p.steps halt) → IsFailureAt s.reading.meaning p.steps halt why
       → EveryChipKeeps todo halt.step (halted.at ∷ halted.beyond) → EndsWork s before after out (Failed halt.step why)
+  -- memory was refused for the next step, of which nothing was sent
+  Starved : (p : Plan) (read : Wire) (todo : IsToDo s before read p out) (step : ℕ) → (rested : HasRested (doing_in s) read after p.steps step)
+      → EveryChipKeeps todo step (rested.next ∷ []) → EndsWork s before after out (NoMemory step)
   -- each step was done, but then the chip didn't give what it must hold
   Missed : (p : Plan) (read : Wire) (todo : IsToDo s before read p out) (by : ReadBy) (why : Failure) → why ≢ Carried
       → GivesBy s.reading.meaning (start_of (task_on s.job s.reading)) by → (missed : HasMissed s read after (flashing p by) why)

@@ -9,7 +9,9 @@ pub mod Early
 pub mod State
 pub mod Way
 pub mod Begun
+pub mod Survey
 pub mod Worked
+pub mod Doing
 pub mod Ended
 pub mod Line
 pub mod Blame

@@ -65,6 +65,8 @@ pub data CantPlan (job : Job) (r : Reading) (out : Printed) : Refusal → Type 0
       → out.after ≡ out.before → CantPlan job r out (Build fault)
   -- the plan was printed, and the chip isn't the one of that dump
   OnAnother : (p : Plan) → IsPlanOf job r p → IsOfAnother r.meaning r.content.items (unwrap_or (dump_of job) r.content.items) p.goal
-      → Appends out.before out.after (plan_text job p) → CantPlan job r out (File file.Resume)
+      → Appends out.before out.after (plan_text job p.lines p.report) → CantPlan job r out (File file.Resume)
   -- the plan, or how to go on, wasn't all printed
   Unprinted : (p : Plan) → IsPlanOf job r p → Cuts out.before out.after (work_text job r p) → CantPlan job r out (Build Write)
+  -- they were printed, and then its steps have no place in memory
+  NoRoom : (p : Plan) → IsPlanOf job r p → Appends out.before out.after (work_text job r p) → CantPlan job r out (Build Memory)

@@ -1,7 +1,7 @@
 -- What is printed before the first step: the plan, and how to go on with work that stops on the way (this project's).
-use Rattle.std.specs.Prelude.{ℕ, Bool, true, false, ◌||◌, not, nat_eq, count_by, decimal, List, [], ◌∷◌, ◌++◌, codes}
-use Rattle.nor_base.specs.declared.step.Step.{Step}
+use Rattle.std.specs.Prelude.{ℕ, zero, suc, Bool, true, false, ◌||◌, not, nat_eq, count_by, decimal, List, [], ◌++◌, codes}
 use Rattle.norprog.specs.Report.{report_text}
+use Rattle.norprog.specs.declared.report.Report.{Report}
 use Rattle.norprog_common.specs.declared.given.FlashArgs.{FlashArgs}
 use Rattle.norprog_flash.specs.declared.job.Job.{Job}
 use Rattle.norprog_flash.specs.State.{way_on}
@@ -18,14 +18,14 @@ way_front = codes "if this stops on the way: switch the chip's power off and on,
 abbrev pub way_line : FlashArgs → List ℕ
 way_line texts = way_front ++ (way_on texts ++ codes "\n")
 
--- what is printed of how to go on before these steps; nothing where there are none, and where they aren't to be done
-abbrev pub way_text : Bool → List Step → FlashArgs → List ℕ
+-- what is printed of how to go on before so many steps; nothing where there are none, and where they aren't to be done
+abbrev pub way_text : Bool → ℕ → FlashArgs → List ℕ
 way_text false steps texts = []
-way_text true [] texts = []
-way_text true (step ∷ more) texts = way_line texts
+way_text true zero texts = []
+way_text true (suc more) texts = way_line texts
 
 -- and before it the size that the identification says, where that is to be noted
-abbrev pub last_text : Job → Reading → List Step → List ℕ
+abbrev pub last_text : Job → Reading → ℕ → List ℕ
 last_text job r steps = note_line r.note ++ way_text (works job.aim) steps job.texts.now
 
 -- the whole plan is printed where that is asked for, and where only the plan is wanted
@@ -38,9 +38,9 @@ lines_text true lines = lines
 lines_text false lines = codes "lines " ++ (decimal (count_by (nat_eq 10) lines) ++ codes "\n")
 
 -- what is printed of a plan: its lines, or their number, and its report
-abbrev pub plan_text : Job → Plan → List ℕ
-plan_text job p = lines_text (is_listed job) p.lines ++ report_text p.report
+abbrev pub plan_text : Job → List ℕ → Report → List ℕ
+plan_text job lines report = lines_text (is_listed job) lines ++ report_text report
 
 -- and before the first step: that, and then how to go on
 abbrev pub work_text : Job → Reading → Plan → List ℕ
-work_text job r p = plan_text job p ++ last_text job r p.steps
+work_text job r p = plan_text job p.lines p.report ++ last_text job r p.report.steps

@@ -27,21 +27,15 @@ pub record IsGoal (t : Task) (old : List ℕ) (goal : Goal) : Type 0 where
   pub given : goal.given ≡ length image
   pub ignored : goal.ignored ≡ ignored_of t image regions m
 
--- the lines of the plan of a content, which can be worked on
-pub record HasLines (t : Task) (content lines : List ℕ) : Type 0 where
+-- the lines of the plan of a content, which can be worked on, and its report
+pub record HasPlan (t : Task) (content lines : List ℕ) (report : Report) : Type 0 where
   pub image : Pairs
   pub regions : List Region
   pub m : Parameters
   pub accepted : AreAccepted t (length content) image regions m
   pub text : lines ≡ plan_text m (start_of t) content (wanted t image regions content)
-
--- planned work on a content, and the report of a build of it
-pub record BuildsSteps (t : Task) (content : List ℕ) (report : Report) (steps : List Step) : Type 0 where
-  pub image : Pairs
-  pub regions : List Region
-  pub m : Parameters
-  pub accepted : AreAccepted t (length content) image regions m
   pub workable : CanBeDone (asked t image regions m content)
+  pub steps : List Step
   pub planned : IsDoneBy (asked t image regions m content) steps
   pub told : report ≡ report_of (asked t image regions m content) (ignored_of t image regions m) steps
 
@@ -52,8 +46,9 @@ pub record Plan : Type 0 where
   pub lines : List ℕ
   pub report : Report
 
-abbrev pub plan_of : Work → Plan
-plan_of w = record { goal = w.goal.items; steps = w.steps.items; lines = w.lines.items; report = w.report }
+-- that of these steps
+abbrev pub plan_of : Work → List Step → Plan
+plan_of w steps = record { goal = w.goal.items; steps = steps; lines = w.lines.items; report = w.report }
 
 -- the goal is the target of the old bytes; the steps are the planned work from the content to it; and the lines and the report are those of
 -- just that work

@@ -2,6 +2,7 @@
 
 ghost use Rattle.std.specs.Prelude.{◌≡◌, ◌⊎◌, [], ◌∷◌, true, length, unwrap_or};
 ghost use Rattle.std.specs.Prelude.{ℕ, List, Option, IfOk, IfErr, MatchResult, Ok};
+ghost use Rattle.nor_base.specs.declared.step.Step.{Step};
 ghost use Rattle.nor_job.specs.Status.{start_of};
 ghost use Rattle.nor_job.specs.declared.fault.BuildFault.TheVariants.{Memory};
 ghost use Rattle.norprog_common.specs.declared.faults.Refusal.TheVariants.{Build};
@@ -75,7 +76,7 @@ pub(crate) fn print_plan<O: ByteOut>(
     out: &mut O,
 ) -> Result<Work, Refusal>
     ensures plan { IfOk result
-        (λ work. PrintsPlan job.now reading.now (plan_of work)
+        (λ work. (steps : List Step) × PrintsPlan job.now reading.now (plan_of work steps)
         (printed (O.held out.old) (O.held out.new))) }
     ensures refused { IfErr result
         (CantPlan job.now reading.now (printed (O.held out.old) (O.held out.new))) }
@@ -95,7 +96,7 @@ pub(crate) fn print_plan<O: ByteOut>(
     ) {
         return Err(Refusal::File(FileName::Resume));
     }
-    match write_last(job, reading, work.steps.as_slice(), out) {
+    match write_last(job, reading, work.report.steps, out) {
         Ok(()) => Ok(work),
         Err(_) => Err(Refusal::WRITE),
     }
@@ -103,7 +104,8 @@ pub(crate) fn print_plan<O: ByteOut>(
 
 /// Plans for a chip that was read.
 fn plan_for(alloc: Global, job: &Job<'_>, reading: &Reading) -> Result<Work, Refusal>
-    ensures work { IfOk result (λ work. IsPlanOf job.now reading.now (plan_of work)) }
+    ensures work { IfOk result
+        (λ work. (steps : List Step) × IsPlanOf job.now reading.now (plan_of work steps)) }
     ensures refused { IfErr result (λ why. (text : Option (List ℕ))
         → CantPlan job.now reading.now (printed text text) why) }
 {

@@ -2,6 +2,7 @@
 
 ghost use Rattle.std.specs.Prelude.{◌≡◌, false, true};
 ghost use Rattle.std.specs.Prelude.{IfOk, IfErr, List, Option, ℕ};
+ghost use Rattle.nor_base.specs.declared.step.Step.{Step};
 ghost use Rattle.nor_job.specs.Status.{start_of};
 ghost use Rattle.nor_reader.specs.AtOnce.{at_once};
 ghost use Rattle.nor_reader.specs.Laws.{GivesBy};
@@ -14,20 +15,22 @@ ghost use Rattle.nor_base.specs.Wire.{Wire, wire};
 ghost use Rattle.norprog_flash.specs.Worked.{GoesOn};
 ghost use Rattle.norprog_flash.specs.Work.{plan_of};
 
-use crate::begun::{Held, print_plan};
+use crate::begun::{Held, print_plan, said_start};
 use crate::blank::blank_image;
 use crate::compared::compare;
 use crate::ending::Ending;
 use crate::job::{Job, inputs_for};
 use crate::planned::Work;
+use crate::survey::{Unbegun, look_through};
 use crate::work::do_work;
 use nor_base::{ByteIn, ByteOut, Meaning, put_all};
 use nor_flasher::{breaks, closes, doable};
-use nor_serprog::{Limits, carried};
+use nor_serprog::Limits;
+use norprog::Stepper;
 use norprog_common::{Aim, Refusal};
 use norprog_device::Failure;
 use norprog_read::Reading;
-use std::alloc::Global;
+use std::alloc::{AllocError, Global};
 
 /// What is told where the page is open.
 const PAGE_TOLD: &[u8] =
@@ -96,7 +99,10 @@ fn work_through<R: ByteIn, W: ByteOut, O: ByteOut, P: ByteOut>(
     breaks();
     let work = print_plan(alloc, job, &held.reading, out)?;
     tell_page(&held.reading.meaning, progress);
-    Ok(work_on(from, to, limits, job, held, &work, progress))
+    match work_on(alloc, from, to, limits, job, held, &work, progress) {
+        Ok(ending) => Ok(ending),
+        Err(_) => Err(Refusal::MEMORY),
+    }
 }
 
 /// Tells that the page of the data sheet makes the work quicker, where the tables leave it open.
@@ -140,8 +146,9 @@ fn compare_read(alloc: Global, job: &Job<'_>, reading: &Reading) -> Result<Endin
     }
 }
 
-/// Has the device do work that was planned.
+/// Has the device do work that was planned, where it can do each step.
 fn work_on<R: ByteIn, W: ByteOut, P: ByteOut>(
+    alloc: Global,
     from: &mut R,
     to: &mut W,
     limits: &Limits,
@@ -149,19 +156,34 @@ fn work_on<R: ByteIn, W: ByteOut, P: ByteOut>(
     held: &Held,
     work: &Work,
     progress: &mut P,
-) -> Ending
-    requires planned { IsPlannedOn (session job.now limits.now held.now.reading)
-        (plan_of work.now) }
+) -> Result<Ending, AllocError>
+    requires planned { (steps : List Step)
+        × IsPlannedOn (session job.now limits.now held.now.reading) (plan_of work.now steps) }
     requires way { GivesBy held.now.reading.meaning
         (start_of (task_on job.now held.now.reading)) held.now.by }
-    ensures goes { GoesOn (session job.now limits.now held.now.reading)
+    ensures goes { (steps : List Step)
+        → IsPlannedOn (session job.now limits.now held.now.reading) (plan_of work.now steps)
+        → IfOk result (GoesOn (session job.now limits.now held.now.reading)
         (wire (W.held to.old) (R.ahead from.old)) (wire (W.held to.new) (R.ahead from.new))
-        (plan_of work.now) result }
+        (plan_of work.now steps)) }
+    ensures unsent { IfErr result (λ _. (to.new ≡ to.old) × (from.new ≡ from.old)) }
 {
-    if let Err(step) = carried(work.steps.as_slice(), limits) {
-        let why = Failure::Carried;
-        return Ending::Failed { step, why };
-    }
     doable();
-    do_work(from, to, limits, job, held, work, progress)
+    let start = said_start(job);
+    let meaning = &held.reading.meaning;
+    let have = held.reading.content.as_slice();
+    let want = work.goal.as_slice();
+    let stepper = Stepper::new(alloc, meaning, &start, true, have, want);
+    let seen = match look_through(alloc, stepper, limits, work.report.steps) {
+        Ok(seen) => seen,
+        Err(Unbegun::Memory) => return Err(AllocError),
+        Err(Unbegun::Carried(step)) => {
+            let why = Failure::Carried;
+            return Ok(Ending::Failed { step, why });
+        }
+    };
+    let stepper = Stepper::new(alloc, meaning, &start, true, have, want);
+    Ok(do_work(
+        alloc, from, to, limits, job, held, work, stepper, seen, progress,
+    ))
 }

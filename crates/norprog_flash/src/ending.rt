@@ -31,6 +31,11 @@ pub enum Ending {
         /// Why: at `Carried` no step was sent.
         why: Failure,
     },
+    /// Memory was refused for the next steps; those before this one were done.
+    NoMemory {
+        /// The step, counted from 0.
+        step: u64,
+    },
 }
 
 /// Why nothing that changes the chip was sent.

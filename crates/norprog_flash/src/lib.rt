@@ -8,7 +8,8 @@
 //! The planned work goes from what the chip holds to what it must hold. What the image doesn't give
 //! is what an older dump of the chip has; where work isn't resumed that is what it holds. [`look`]
 //! refuses a job before its chip is read, [`goal_of`] has the target, [`work_for`] plans, and
-//! [`compare`] looks whether a chip holds what it must.
+//! [`compare`] looks whether a chip holds what it must. The steps are made twice, a window at a
+//! time: to see that the device can do each, and to have it do them.
 #![tactic(auto)]
 
 mod begun;
@@ -29,8 +30,9 @@ mod report;
 mod request;
 mod resumed;
 mod span;
-mod steps;
+mod survey;
 mod way;
+mod windows;
 mod work;
 
 pub use begun::{Held, hold};

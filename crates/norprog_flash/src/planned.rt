@@ -1,14 +1,14 @@
 //! The work from what a chip holds to what it must hold.
 
-ghost use Rattle.std.specs.Prelude.{◌≡◌, ◌⊎◌, length, IfOk, IfErr};
+ghost use Rattle.std.specs.Prelude.{◌≡◌, ◌⊎◌, List, length, IfOk, IfErr};
+ghost use Rattle.nor_base.specs.declared.step.Step.{Step};
 ghost use Rattle.nor_job.specs.declared.fault.BuildFault.TheVariants.{Memory};
 ghost use Rattle.norprog_flash.specs.Refused.{late, RefusesWork, StopsPlanning};
-ghost use Rattle.norprog_flash.specs.Work.{HasLines, IsWork, plan_of};
+ghost use Rattle.norprog_flash.specs.Work.{HasPlan, IsWork, plan_of};
 
 use crate::goal::goal_of;
 use crate::narrowed::{difference, narrowed};
-use crate::steps::build_steps;
-use nor_base::{FromRead, IntoWrite, Step};
+use nor_base::{FromRead, IntoWrite};
 use nor_job::{BuildFault, Inputs};
 use nor_laws::targets;
 use norprog::{Report, plan};
@@ -17,9 +17,7 @@ use std::alloc::Global;
 /// What is to be done.
 #[derive(Drop)]
 pub struct Work {
-    /// The steps, from what the chip holds.
-    pub steps: Vec<Step>,
-    /// What it must hold after them, from address 0 on.
+    /// What the chip must hold after it, from address 0 on.
     pub goal: Vec<u8>,
     /// The lines of the plan.
     pub lines: Vec<u8>,
@@ -39,34 +37,37 @@ pub fn work_for(
 ) -> Result<Work, BuildFault>
     requires sizes { length content.now ≡ length old.now }
     ensures work { IfOk result
-        (λ work. IsWork inputs.now content.now old.now (plan_of work)) }
+        (λ work. (steps : List Step)
+        × IsWork inputs.now content.now old.now (plan_of work steps)) }
     ensures refused { IfErr result (RefusesWork inputs.now content.now old.now) }
 {
     let goal = goal_of(alloc, inputs, old)?;
     let image = difference(alloc, content, goal.bytes.as_slice())?;
     targets();
     let narrow = narrowed(inputs, &image);
-    let lines = plan_lines(alloc, &narrow, content)?;
-    let (report, steps) = build_steps(alloc, &narrow, content)?;
+    let (lines, report) = plan_lines(alloc, &narrow, content)?;
     let ignored = goal.ignored;
     Ok(Work {
-        steps,
         goal: goal.bytes,
         lines,
         report: Report { ignored, ..report },
     })
 }
 
-/// The lines of the plan of a content.
-fn plan_lines(alloc: Global, inputs: &Inputs<'_>, content: &[u8]) -> Result<Vec<u8>, BuildFault>
-    ensures lines { IfOk result (λ lines. HasLines inputs.now content.now lines.items) }
+/// The lines and the report of the plan of a content.
+fn plan_lines(
+    alloc: Global,
+    inputs: &Inputs<'_>,
+    content: &[u8],
+) -> Result<(Vec<u8>, Report), BuildFault>
+    ensures plan { IfOk result (λ plan. HasPlan inputs.now content.now plan.0.items plan.1) }
     ensures stops { IfErr result
         (λ why. StopsPlanning inputs.now content.now content.now why ⊎ (why ≡ Memory)) }
 {
     let mut lines = IntoWrite::new(Vec::new(alloc));
     let mut reader = FromRead::new(content);
     match plan(alloc, inputs, &mut reader, content.len() as u64, &mut lines) {
-        Ok(_) => Ok(lines.into_inner()),
+        Ok(report) => Ok((lines.into_inner(), report)),
         Err(why) => Err(late(why)),
     }
 }

@@ -79,6 +79,7 @@ fn is_partial(ending: Ending) -> bool
 {
     match ending {
         Ending::Failed { why, step: _ } => is_sent(why),
+        Ending::NoMemory { .. } => true,
         Ending::Planned | Ending::Compared(_) | Ending::Done { .. } => false,
     }
 }
@@ -104,6 +105,7 @@ fn status_of(ending: Ending) -> u8
         Ending::Compared(Comparison::Differs { .. }) => 1,
         Ending::Failed { .. } if is_partial(ending) => 3,
         Ending::Failed { .. } => 1,
+        Ending::NoMemory { .. } => 3,
     }
 }
 

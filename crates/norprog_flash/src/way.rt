@@ -6,13 +6,12 @@ ghost use Rattle.nor_base.specs.Device.{Counts, Writes};
 ghost use Rattle.norprog_flash.specs.Way.{is_listed, last_text, lines_text, plan_text, way_line};
 ghost use Rattle.norprog_flash.specs.Task.{works};
 ghost use Rattle.norprog_flash.specs.Way.{way_text};
-ghost use Rattle.norprog_flash.specs.Work.{plan_of};
 
 use crate::job::{Job, works};
 use crate::options::write_way_on;
 use crate::planned::Work;
 use itoa::Buffer;
-use nor_base::{ByteOut, Failed, Step, put_all, put_parts};
+use nor_base::{ByteOut, Failed, put_all, put_parts};
 use norprog::write_report;
 use norprog_common::FlashArgs;
 use norprog_read::{Reading, write_note};
@@ -25,7 +24,7 @@ const FRONT: &[u8] =
 /// report.
 pub(crate) fn write_plan<O: ByteOut>(job: &Job<'_>, work: &Work, out: &mut O) -> Result<(), Failed>
     ensures bytes { Writes (O.held out.old) (O.held out.new) result
-        (plan_text job.now (plan_of work.now)) }
+        (plan_text job.now work.now.lines.items work.now.report) }
     ensures count { Counts (O.count out.old) (O.count out.new) result }
 {
     write_lines(is_listed(job), work.lines.as_slice(), out)?;
@@ -61,15 +60,15 @@ fn count_lines(lines: &[u8]) -> u64
 }
 
 /// Writes the size that the identification says, where that is to be noted; and how to go on where
-/// these steps stop on the way, nothing where there are none, and where only the plan is wanted.
+/// so many steps stop on the way, nothing where there are none, and where only the plan is wanted.
 pub(crate) fn write_last<O: ByteOut>(
     job: &Job<'_>,
     reading: &Reading,
-    steps: &[Step],
+    steps: u64,
     out: &mut O,
 ) -> Result<(), Failed>
     ensures bytes { Writes (O.held out.old) (O.held out.new) result
-        (last_text job.now reading.now steps.now) }
+        (last_text job.now reading.now steps) }
     ensures count { Counts (O.count out.old) (O.count out.new) result }
 {
     write_note(reading.note, out)?;
@@ -77,17 +76,15 @@ pub(crate) fn write_last<O: ByteOut>(
 }
 
 /// Writes how to go on.
-fn write_way<O: ByteOut>(job: &Job<'_>, steps: &[Step], out: &mut O) -> Result<(), Failed>
+fn write_way<O: ByteOut>(job: &Job<'_>, steps: u64, out: &mut O) -> Result<(), Failed>
     ensures bytes { Writes (O.held out.old) (O.held out.new) result
-        (way_text (works job.now.aim) steps.now job.now.texts.now) }
+        (way_text (works job.now.aim) steps job.now.texts.now) }
     ensures count { Counts (O.count out.old) (O.count out.new) result }
 {
-    if !works(job.aim) {
-        return Ok(());
-    }
-    match steps {
-        [] => Ok(()),
-        [..] => write_line(job.texts, out),
+    if works(job.aim) && steps > 0 {
+        write_line(job.texts, out)
+    } else {
+        Ok(())
     }
 }
 

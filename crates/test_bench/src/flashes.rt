@@ -13,7 +13,7 @@ use nor_base::{ByteOut, IntoWrite, Part, put_parts};
 use nor_script::hex_pair;
 use norprog_common::{Aim, Chip, ChipArgs, ImageArgs, ImageFile, job_rules, refuse};
 use norprog_device::refuse_device;
-use norprog_flash::{Ending, FlashArgs, FlashRequest, Unflashed, write_ending};
+use norprog_flash::{Ending, FlashArgs, FlashRequest, Unflashed, report_ending, write_ending};
 use norprog_named::flash;
 use norprog_read::{ReadRequest, write_unlike};
 use rows::{DONES, HALVES, KEPTS, UNLIKES};
@@ -384,4 +384,21 @@ fn chips_are_flashed(rt: HostRuntime) -> Result<(), Fail> {
         }
     }
     Ok(())
+}
+
+/// Where memory is refused on the way the chip may be half done.
+#[test]
+fn memory_may_end(rt: HostRuntime) {
+    let alloc = rt.alloc();
+    let ending = Ending::NoMemory { step: 12 };
+    let mut out = IntoWrite::new(Held::new(alloc, 100));
+    let mut err = IntoWrite::new(Held::new(alloc, 1000));
+    let status = report_ending(ending, &no_texts(alloc), &mut out, &mut err);
+    same(&rt, "its status", usize::from(status), 3);
+    let line = out.into_inner().bytes;
+    holds(
+        &rt,
+        "its line",
+        line.as_slice() == b"failed at 12 memory\n".as_slice(),
+    );
 }

@@ -28,7 +28,7 @@ use Rattle.nor_job.specs.Task.{Task}
 use Rattle.nor_layout.specs.Chosen.{has, is_chosen}
 use Rattle.nor_laws.specs.Spelling.{HasSpelling}
 use Rattle.nor_steps.specs.declared.tally.Tally.{Tally}
-use Rattle.nor_steps.specs.Lines.{step_of, steps_of}
+use Rattle.nor_steps.specs.Lines.{step_of}
 use Rattle.nor_steps.specs.Tally.{tally_with}
 use Rattle.nor_plan_laws.specs.Exists.{PlannedCanBeSpelled}
 use Rattle.nor_base.specs.Wire.{wire}
@@ -37,6 +37,7 @@ use Rattle.norprog.specs.Laws.{Laws}
 use Rattle.norprog.specs.Build.{ignored_of, report_of, AreLargest, RunsAsPlanned, IsBuilt, IsLate, IsFrontOf, StopsWork}
 use Rattle.norprog.specs.Update.{Update, update, asked, CanBeDone, IsDoneBy, WorkCause}
 use Rattle.nor_job.specs.Filled.{target_from}
+use Rattle.norprog.specs.Stepper.{steps_by}
 use Rattle.norprog.specs.Windows.{job_update, IsWorked, IsScripted, IsCutScript, job_report}
 use Rattle.norprog.proofs.Content.Targets.{target_of_parts, part_front}
 use Rattle.norprog.proofs.Promise.Counts.{erases_told, erased_told, programs_told}
@@ -69,10 +70,6 @@ asked_is t len job is part =
     let goal = target_from job 0 part in
     ap (λ (s : Start). update m s job.verify part goal) is.start ∙ ap (λ v. update m (start_of t) v part goal) is.verify
     ∙ ap (update m (start_of t) t.verify part) (target_is t len job is part)
-
--- the steps of the planned work
-abbrev pub steps_by : Update → List Step
-steps_by u = steps_of (planned u.m u.start u.verify u.have u.want)
 
 pub record IsSpelled (u : Update) (steps : List Step) : Type 0 where
   pub each : AllByRecursion IsStep steps

@@ -37,7 +37,8 @@ use Rattle.norprog.specs.PlanWindows.{TellsWindows}
 use Rattle.nor_job.specs.Filled.{target_from}
 use Rattle.norprog.specs.Update.{Update, CanBeDone, IsDoneBy, WorkCause}
 use Rattle.norprog.specs.Windows.{first_writing, progress, window_of, job_update, IsAllDone, IsDone, IsKnown, IsCut, IsCutPlan, IsWorked, job_report}
-use Rattle.norprog.proofs.Promise.Build.{asked_is, steps_by, workable_is, spelled_is, report_is}
+use Rattle.norprog.specs.Stepper.{steps_by}
+use Rattle.norprog.proofs.Promise.Build.{asked_is, workable_is, spelled_is, report_is}
 use Rattle.norprog.proofs.Content.Joined.{text_begins, lines_tell}
 use Rattle.norprog.proofs.Script.Written.{whole_work}
 use Rattle.norprog.proofs.Content.Targets.{part_whole}

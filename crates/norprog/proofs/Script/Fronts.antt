@@ -34,7 +34,7 @@ use Rattle.norprog.proofs.Content.Stretches.{stretch_join}
 abbrev streaming : Parameters → Start → Strategy → Streaming
 streaming m start by = record { meaning = m; start = start; by = by; started = false }
 
-lowered_parts : (m : Parameters) (start : Start) (by : Strategy) (ops : List Op)
+pub lowered_parts : (m : Parameters) (start : Start) (by : Strategy) (ops : List Op)
     → lowered m start by ops ≡ next (streaming m start by) ops ++ last (onward (streaming m start by) ops)
 lowered_parts m start by [] = refl
 lowered_parts m start by (op ∷ ops) = sym (append_assoc (entering m by) (flat_map (instructions m start by) (op ∷ ops)) (leaving m by))

@@ -192,14 +192,15 @@ pub(crate) const TOPICS: &[Topic] = &[
          since it is protected: by bits of its status (block protection) or by its WP#\n\
          pin; or the clip moved. `carried`: the step needs four lanes, or more bytes\n\
          than the device takes; no step was sent: build without --quad, and with bit 9\n\
-         of --status as 0. Else the steps before it are done, and of it and of up to two\n\
-         steps after it the chip may have done some: `nak` the device refused it,\n\
-         `silent` no answer came, `read` or `write` failed. After `write` power the\n\
-         device off and on: it may wait for the rest of a request. Where the number is\n\
-         that of all steps, all were sent, and then the chip was read back: at the\n\
-         address it doesn't hold what it must. If no step touches that address, the chip\n\
-         is smaller or larger than --uniform says, or an erase of it takes more than it\n\
-         should. Ask for `the chip`.",
+         of --status as 0. Else the steps before it are done. `memory`: the computer had\n\
+         none left for the next steps. Else of it and of up to two steps after it the\n\
+         chip may have done some: `nak` the device refused it, `silent` no answer came,\n\
+         `read` or `write` failed. After `write` power the device off and on: it may\n\
+         wait for the rest of a request. Where the number is that of all steps, all were\n\
+         sent, and then the chip was read back: at the address it doesn't hold what it\n\
+         must. If no step touches that address, the chip is smaller or larger than\n\
+         --uniform says, or an erase of it takes more than it should. Ask for\n\
+         `the chip`.",
     ),
     (
         "the chip",

@@ -1,6 +1,7 @@
 -- Whether the work is planned.
 use Rattle.std.proofs.Common.{ℕ, List, Option, refl, subst, sym}
 use Rattle.nor_base.proofs.FaultLaws.{handed_on}
+use Rattle.nor_base.specs.declared.step.Step.{Step}
 use Rattle.norprog_flash.specs.Begun.{printed}
 use Rattle.norprog_flash.specs.Stops.{CantPlan, NoPlace, Unplanned}
 use Rattle.norprog_flash.proofs.StopsLemmas.{on_chip, other_size, over}
@@ -26,6 +27,6 @@ returns-then-old-content-clause-refused c = λ text.
 
 pub returns-in-Ok-clause-work : goal.returns-in-Ok-clause-work
 returns-in-Ok-clause-work c =
-    over (λ t content old. IsWork t content old (plan_of c.in-Ok.work)) c.args.job.now c.args.reading.now _ _ _
+    over (λ t content old. (steps : List Step) × IsWork t content old (plan_of c.in-Ok.work steps)) c.args.job.now c.args.reading.now _ _ _
     (on_chip c.args.job.now c.args.reading.now _ _ _ _ c.inputs_for-inputs.ensures c.as_slice.ensures.value c.as_slice-content.ensures.value c.in_ok-image.ensures.image)
     c.as_slice-content.ensures.value c.older-old.ensures c.in-Ok.ensures.work

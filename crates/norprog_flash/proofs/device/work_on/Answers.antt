@@ -1,23 +1,51 @@
--- The work goes on so, by the steps and the goal that were planned.
-use Rattle.std.proofs.Common.{List, refl, subst}
+-- The work goes on so, by the steps that the steppers make.
+use Rattle.std.proofs.Common.{ℕ, List, ◌∙◌, ap, length, All, refl, sym, subst}
 use Rattle.nor_base.specs.declared.step.Step.{Step}
-use Rattle.nor_serprog.specs.Steps.{AreCarried, IsFirstNotCarried}
+use Rattle.nor_base.specs.Wire.{wire}
+use Rattle.nor_serprog.specs.Done.{IsDoable}
+use Rattle.nor_serprog.specs.Steps.{AreCarried}
+use Rattle.norprog.specs.Stepper.{steps_by, update_of}
+use Rattle.norprog_flash.specs.Survey.{IsUnbegun}
+use Rattle.norprog_flash.specs.declared.survey.Unbegun.TheVariants.{Carried}
 use Rattle.norprog_flash.specs.Begun.{session}
-use Rattle.norprog_flash.specs.Worked.{Cannot, Goes}
-use Rattle.norprog_flash.proofs.PlannedLemmas.{steps_doable}
+use Rattle.norprog_device.specs.declared.failure.Failure.TheVariants as failure
+use Rattle.norprog_flash.specs.declared.ending.Ending.TheVariants.{Failed}
+use Rattle.norprog_flash.specs.Worked.{Cannot, Goes, GoesOn, WorksOut, flashing}
+use Rattle.norprog_flash.specs.Work.{plan_of}
+use Rattle.norprog_flash.proofs.PlannedLemmas.{count_is, steps_are, steps_doable}
 use Rattle.norprog_flash.proofs.device.work_on.Goals as goal
 
-pub returns-in-Err : goal.returns-in-Err
-returns-in-Err g c = record { goes = Cannot c.in-Err.step (subst (λ (xs : List Step). IsFirstNotCarried c.args.limits.now xs c.in-Err.step) c.as_slice.ensures.value c.in-Err.ensures) refl }
+pub returns-in-Err-Carried-clause-goes : goal.returns-in-Err-Carried-clause-goes
+returns-in-Err-Carried-clause-goes g c = λ steps is.
+    let s = session c.args.job.now c.args.limits.now c.args.held.now.reading in
+    let those = steps_are s is.0 is.1 (plan_of c.args.work.now steps) is.2 is.3 c.new-stepper.result _ _ _ c.said_start-start.ensures c.as_slice-have.ensures.value c.as_slice-want.ensures.value c.new-stepper.ensures.update c.new-stepper.ensures.only in
+    let before = wire (g.W.ByteOut.held c.args.to.now) (g.R.ByteIn.ahead c.args.from.now) in
+    let p = plan_of c.args.work.now steps in
+    subst (λ (n : ℕ). GoesOn s before before p (Failed n failure.Carried)) (sym c.in-Err-Carried.step-is)
+    (Cannot c.in-Err-Carried.step (subst (λ (xs : List Step). IsUnbegun c.args.limits.now xs (Carried c.in-Err-Carried.step)) (sym those)
+    (subst (IsUnbegun c.args.limits.now (steps_by (update_of c.new-stepper.result))) c.in-Err-Carried.field-0-is c.in-Err-Carried.ensures.unbegun)) refl)
 
-pub returns : goal.returns
-returns g c = record {
-  goes =
-      Goes c.args.held.now.by c.do_work.result c.requires.way
-      (subst (λ (xs : List Step). AreCarried c.args.limits.now xs) c.as_slice.ensures.value c.in_default.ensures) c.do_work.ensures.ends;
-}
+pub do_work-requires-clause-all : goal.do_work-requires-clause-all
+do_work-requires-clause-all g c =
+    let s = session c.args.job.now c.args.limits.now c.args.held.now.reading in
+    let steps = c.requires.planned.0 in
+    let is = c.requires.planned.1 in
+    count_is s is.0 is.1 (plan_of c.args.work.now steps) is.2 is.3
+    ∙ ap length (steps_are s is.0 is.1 (plan_of c.args.work.now steps) is.2 is.3 c.new-stepper-2.result _ _ _ c.said_start-start.ensures c.as_slice-have.ensures.value c.as_slice-want.ensures.value c.new-stepper-2.ensures.update c.new-stepper-2.ensures.only)
 
 pub do_work-requires-clause-form : goal.do_work-requires-clause-form
 do_work-requires-clause-form g c =
-    let p = c.requires.planned in
-    steps_doable (session c.args.job.now c.args.limits.now c.args.held.now.reading) p.0 p.1 _ p.2 p.3 c.doable.ensures.doable
+    let s = session c.args.job.now c.args.limits.now c.args.held.now.reading in
+    let steps = c.requires.planned.0 in
+    let is = c.requires.planned.1 in
+    subst (All IsDoable) (steps_are s is.0 is.1 (plan_of c.args.work.now steps) is.2 is.3 c.new-stepper-2.result _ _ _ c.said_start-start.ensures c.as_slice-have.ensures.value c.as_slice-want.ensures.value c.new-stepper-2.ensures.update c.new-stepper-2.ensures.only)
+    (steps_doable s is.0 is.1 (plan_of c.args.work.now steps) is.2 is.3 c.doable.ensures.doable)
+
+pub returns-clause-goes : goal.returns-clause-goes
+returns-clause-goes g c = λ steps is.
+    let s = session c.args.job.now c.args.limits.now c.args.held.now.reading in
+    let those = steps_are s is.0 is.1 (plan_of c.args.work.now steps) is.2 is.3 c.new-stepper-2.result _ _ _ c.said_start-start.ensures c.as_slice-have.ensures.value c.as_slice-want.ensures.value c.new-stepper-2.ensures.update c.new-stepper-2.ensures.only in
+    let first = steps_are s is.0 is.1 (plan_of c.args.work.now steps) is.2 is.3 c.new-stepper.result _ _ _ c.said_start-start.ensures c.as_slice-have.ensures.value c.as_slice-want.ensures.value c.new-stepper.ensures.update c.new-stepper.ensures.only in
+    Goes c.args.held.now.by c.do_work.result c.requires.way (subst (AreCarried c.args.limits.now) (sym first) c.in-Ok.ensures.seen.carried)
+    (subst (λ (xs : List Step). WorksOut s (wire (g.W.ByteOut.held c.args.to.now) (g.R.ByteIn.ahead c.args.from.now)) (wire (g.W.ByteOut.held c.do_work.new.to) (g.R.ByteIn.ahead c.do_work.new.from))
+    (flashing (plan_of c.args.work.now xs) c.args.held.now.by) c.do_work.result) (sym those) c.do_work.ensures.ends)

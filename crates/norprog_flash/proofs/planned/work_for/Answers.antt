@@ -5,8 +5,8 @@ use Rattle.nor_job.specs.declared.fault.BuildFault.TheVariants.{Memory}
 use Rattle.nor_job.specs.Task.{Task}
 use Rattle.norprog_flash.specs.Narrowed.{SpansDifference}
 use Rattle.norprog_flash.specs.Refused.{RefusesWork, StopsPlanning}
-use Rattle.norprog_flash.specs.Work.{BuildsSteps, HasLines}
-use Rattle.norprog_flash.proofs.WorkLemmas.{planning_refused, starved, work_is}
+use Rattle.norprog_flash.specs.Work.{HasPlan}
+use Rattle.norprog_flash.proofs.WorkLemmas.{planning_refused, work_is}
 use Rattle.norprog_flash.proofs.planned.work_for.Goals as goal
 
 pub difference-requires-clause-lengths : goal.difference-requires-clause-lengths
@@ -31,27 +31,13 @@ returns-in_err-lines-clause-refused c =
     (subst (λ (w : List ℕ). SpansDifference content w image) c.as_slice.ensures.value c.in_ok-image.ensures.spans) why
     (subst (λ (x : Task). StopsPlanning x content content why ⊎ (why ≡ Memory)) task c.in_err-lines.ensures.stops))
 
-pub returns-in_err-report-clause-refused : goal.returns-in_err-report-clause-refused
-returns-in_err-report-clause-refused c =
-    let t = c.args.inputs.now in
-    let content = c.args.content.now in
-    let image = c.in_ok-image.image in
-    handed_on (RefusesWork t content c.args.old.now) _ c.in_err-report.field-0.0 c.from_residual-in_err-report.ensures.1
-    (subst (RefusesWork t content c.args.old.now) (sym c.in_err-report.ensures.memory)
-    (starved c.targets.ensures.keeps c.targets.ensures.gives t content c.args.old.now image
-    c.in_ok-goal.goal c.in_ok-goal.ensures.goal c.requires.sizes
-    (subst (λ (w : List ℕ). SpansDifference content w image) c.as_slice.ensures.value c.in_ok-image.ensures.spans)))
-
 pub returns-clause-work : goal.returns-clause-work
 returns-clause-work c =
     let t = c.args.inputs.now in
     let content = c.args.content.now in
     let image = c.in_ok-image.image in
-    let task = c.narrowed-narrow.ensures in
     work_is c.targets.ensures.keeps c.targets.ensures.gives t content c.args.old.now image
     c.in_ok-goal.goal c.in_ok-goal.ensures.goal c.requires.sizes
     (subst (λ (w : List ℕ). SpansDifference content w image) c.as_slice.ensures.value c.in_ok-image.ensures.spans)
-    c.in_ok-report.report c.in_ok-report.steps.items
-    (subst (λ (x : Task). BuildsSteps x content c.in_ok-report.report c.in_ok-report.steps.items) task c.in_ok-report.ensures.built)
-    c.in_ok-lines.lines.items _ refl
-    (subst (λ (x : Task). HasLines x content c.in_ok-lines.lines.items) task c.in_ok-lines.ensures.lines)
+    c.in_ok-lines.lines.items c.in_ok-lines.report
+    (subst (λ (x : Task). HasPlan x content c.in_ok-lines.lines.items c.in_ok-lines.report) c.narrowed-narrow.ensures c.in_ok-lines.ensures.plan) _ refl

@@ -7,7 +7,7 @@ use Rattle.nor_serprog.specs.declared.halt.Halt.{Halt}
 use Rattle.nor_serprog.specs.Done.{IsDoable}
 use Rattle.nor_serprog.specs.Row.{HasHalted}
 use Rattle.nor_flasher.proofs.StepsLemmas.{all_first, all_second, in_two}
-use Rattle.nor_flasher.proofs.steps.do_steps.Goals as goal
+use Rattle.nor_flasher.proofs.steps.do_part.Goals as goal
 
 pub row_length-requires-clause-form : goal.row_length-requires-clause-form
 row_length-requires-clause-form g c =

@@ -3,7 +3,7 @@ use Rattle.std.proofs.Common.{◌≡◌, ◌++◌, List, length}
 use Rattle.nor_base.specs.declared.step.Step.{Step}
 use Rattle.nor_base.specs.Wire.{wire}
 use Rattle.nor_serprog.specs.Done.{HasDoneAll}
-use Rattle.nor_flasher.proofs.steps.do_steps.Given as goal
+use Rattle.nor_flasher.proofs.steps.do_part.Given as goal
 
 abbrev pub invariant-loop-rest : goal.invariant-loop-rest
 invariant-loop-rest g l = record {
