@@ -1,14 +1,13 @@
 -- All that is compared before the steps.
-use Rattle.std.proofs.Common.{◌≡◌, Bool, ℕ, ◌+◌, ◌*◌, ◌/◌, ◌%◌, ◌<◌, ◌≤◌, ◌⊎◌, inl, inr, List, length, refl, sym, ◌∙◌, ap, subst, arith, get_or, false, true, replicate, take, drop, ◌++◌}
-use Rattle.std.proofs.lemmas.List.{take_at}
+use Rattle.std.proofs.Common.{◌≡◌, Bool, ℕ, ◌*◌, ◌/◌, ◌%◌, ◌<◌, ◌⊎◌, inl, inr, List, length, subst, arith}
 use Rattle.std.specs.Prelude.{◌↔◌}
-use Rattle.nor_cells.specs.Beside.{IsHeld, IsGap, IsBesideCell, IsBeside}
-use Rattle.nor_cells.specs.Cells.{IsCellOf, IsInCellOf}
+use Rattle.nor_cells.specs.Beside.{IsHeld, IsGap, IsBesideCell}
+use Rattle.nor_cells.specs.Cells.{IsCellOf}
 use Rattle.nor_cells.specs.Compared.{IsAsked}
 use Rattle.nor_cells.specs.Edges.{IsEdge}
-use Rattle.nor_cells.specs.Marks.{IsMarkedCell, IsMarked, MarkedBy, AreMarks}
+use Rattle.nor_cells.specs.Marks.{IsMarkedCell, MarkedBy, AreMarks}
 use Rattle.nor_cells.specs.Wrap.{ShowsWrap}
-use Rattle.nor_cells.proofs.TouchedLemmas.{marked_alike, marked_then, all_marked}
+use Rattle.nor_cells.proofs.TouchedLemmas.{are_then}
 
 -- where the same cells are touched
 gap_alike : (T U : ℕ → Type 0) (content : List ℕ) (low high : ℕ) → 256 * high < length content → ((d : ℕ) → 256 * d < length content → U d → T d) → IsGap T content low high
@@ -43,22 +42,18 @@ cell_alike P count marks are d inside =
 flip : (P Q : Type 0) → (P ↔ Q) → (Q ↔ P)
 flip P Q both = (both.1, both.0)
 
-pub all_compared : (P : ℕ → Type 0) (content : List ℕ) (size : ℕ) (none touched marks : List Bool) → length content ≡ size → size % 256 ≡ 0
-    → none ≡ replicate (size / 256) false → MarkedBy P none touched
+pub all_compared : (P : ℕ → Type 0) (content : List ℕ) (size : ℕ) (touched marks : List Bool) → length content ≡ size → size % 256 ≡ 0 → AreMarks P (size / 256) touched
     → MarkedBy (λ a. IsEdge content a ⊎ (IsBesideCell (IsMarkedCell touched) content (a / 256) ⊎ ShowsWrap content a)) touched marks
     → AreMarks (IsAsked P content) (size / 256) marks
-all_compared P content size none touched marks long whole blank first others =
-    let are : AreMarks P (size / 256) touched = all_marked P (size / 256) none touched blank first in
+all_compared P content size touched marks long whole are others =
     let alike = λ (d : ℕ) (inside : 256 * d < length content). cell_alike P (size / 256) touched are d (omega (arith, inside, long, whole)) in
     let back = λ (d : ℕ) (inside : 256 * d < length content). flip (IsMarkedCell touched d) (IsCellOf P d) (alike d inside) in
     let Others : ℕ → Type 0 = λ a. IsEdge content a ⊎ (IsBesideCell (IsMarkedCell touched) content (a / 256) ⊎ ShowsWrap content a) in
-    all_marked (IsAsked P content) (size / 256) none marks blank
-    (marked_alike (λ a. P a ⊎ Others a) (IsAsked P content) none marks
+    are_then P Others (IsAsked P content) (size / 256) touched marks (λ a is. inl is)
     (λ a h. elim h [
-      | inl is ↦ inl is
-      | inr (inl edge) ↦ inr (inl edge)
-      | inr (inr (inl near)) ↦ inr (inr (inl (beside_alike (IsMarkedCell touched) (IsCellOf P) content (a / 256) alike near)))
-      | inr (inr (inr wrap)) ↦ inr (inr (inr wrap))
+      | inl edge ↦ inr (inl edge)
+      | inr (inl near) ↦ inr (inr (inl (beside_alike (IsMarkedCell touched) (IsCellOf P) content (a / 256) alike near)))
+      | inr (inr wrap) ↦ inr (inr (inr wrap))
     ])
     (λ a h. elim h [
       | inl is ↦ inl is
@@ -66,11 +61,4 @@ all_compared P content size none touched marks long whole blank first others =
       | inr (inr (inl near)) ↦ inr (inr (inl (beside_alike (IsCellOf P) (IsMarkedCell touched) content (a / 256) back near)))
       | inr (inr (inr wrap)) ↦ inr (inr (inr wrap))
     ])
-    (marked_then P Others none touched marks first others))
-
--- marks of as many cells as a vector has take the place of its items
-pub taken_back : (P : ℕ → Type 0) (count len : ℕ) (items marks : List Bool) → len ≡ count → AreMarks P count marks
-    → AreMarks P count (take len (marks ++ drop (length marks) items))
-taken_back P count len items marks same are =
-    let is : take len (marks ++ drop (length marks) items) ≡ marks = take_at marks (drop (length marks) items) len (omega (arith, same, are.as_many)) in
-    subst (λ (l : List Bool). AreMarks P count l) (sym is) are
+    are others

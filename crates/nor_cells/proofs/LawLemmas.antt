@@ -2,10 +2,9 @@
 use Rattle.std.proofs.Common.{◌≡◌, Bool, true, false, ℕ, zero, suc, ◌+◌, ◌*◌, ◌/◌, ◌^◌, ◌<◌, ◌≤◌, ◌⊎◌, inl, inr, List, length, refl, sym, ◌∙◌, ap, subst, arith}
 use Rattle.std.specs.Prelude.{slice_index}
 use Rattle.std.proofs.lemmas.Bool.{cases_eq, cases_lt}
-use Rattle.nor_cells.specs.Beside.{IsHeld, IsGap, IsBesideCell}
-use Rattle.nor_cells.specs.Cells.{IsInCellOf}
-use Rattle.nor_cells.specs.Laws.{Agrees, Wraps, NoSmallerChip, IsErasedBetween, NoWiderErase}
-use Rattle.nor_cells.specs.Wrap.{IsFirstUnlike, Repeats, ShowsWrap}
+use Rattle.nor_cells.specs.Beside.{IsHeld, IsBesideCell}
+use Rattle.nor_cells.specs.Laws.{Agrees, NoSmallerChip, IsErasedBetween, NoWiderErase}
+use Rattle.nor_cells.specs.Wrap.{IsFirstUnlike}
 
 -- up to an address each byte is the one so far on, or there is a first that isn't
 first_or : (content : List ℕ) (far n : ℕ) → ((b : ℕ) → b < n → slice_index content b ≡ slice_index content (b + far))

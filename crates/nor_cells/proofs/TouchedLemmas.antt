@@ -1,17 +1,19 @@
 -- Cells that are marked for what steps touch.
-use Rattle.std.proofs.Common.{◌≡◌, Bool, true, false, ℕ, ◌+◌, ◌-◌, ◌*◌, ◌/◌, ◌<◌, ◌≤◌, ◌⊎◌, inl, inr, nat_le, nat_lt, ◌&&◌, ◌||◌, min, List, [], ◌∷◌, ◌++◌, take, length, get_or, replicate, Some, None, refl, sym, ◌∙◌, ap, subst, arith}
+use Rattle.std.proofs.Common.{◌≡◌, Bool, true, false, ℕ, ◌+◌, ◌-◌, ◌*◌, ◌/◌, ◌<◌, ◌≤◌, ◌⊎◌, inl, inr, nat_le, nat_lt, ◌&&◌, ◌||◌, min, List, [], ◌∷◌, ◌++◌, take, length, get_or, Some, None, refl, sym, ◌∙◌, ap, subst, arith}
 use Rattle.std.proofs.lemmas.Bool.{cases_lt, and_parts, leb-true, ltb-true, le-leb, lt-ltb}
-use Rattle.std.proofs.lemmas.List.{take_all, get_or_past, get_or-replicate, length-replicate}
+use Rattle.std.proofs.lemmas.List.{take_all, get_or_past}
 use Rattle.nor_base.specs.declared.step.Step.{Step}
 use Rattle.nor_base.specs.declared.instruction.What.{What}
 use Rattle.nor_base.specs.declared.instruction.What.TheVariants as what
 use Rattle.nor_base.specs.Decoding.{Transaction, Instruction, instruction, transaction, decode}
+use Rattle.nor_base.specs.declared.meaning.Start.{Start}
+use Rattle.nor_base.specs.Chip.{begins4}
 use Rattle.nor_base.specs.Effect.{place}
 use Rattle.nor_base.specs.Parameters.{Parameters}
 use Rattle.nor_cells.specs.Marks.{IsMarked, MarkedBy, AreMarks}
 use Rattle.nor_base.specs.Step.{step_clocks}
 use Rattle.nor_base.specs.Spelling.{mode_by}
-use Rattle.nor_cells.specs.Touched.{LiesBetween, Programs, Changes, ChangesSeen, Touches, mode_past, mode_past_all, IsTouched}
+use Rattle.nor_cells.specs.Touched.{LiesBetween, Programs, Changes, ChangesSeen, Touches, mode_past, mode_past_all, IsTouched, SoFar, HasTouched}
 use Rattle.nor_base.proofs.ListLaws.{one_taken}
 use Rattle.nor_decode.proofs.DecodedLemmas.{decoded, not_decoded}
 
@@ -72,31 +74,31 @@ programs_more m i n at old now new is so_far one =
     ])
     (marked_then (ProgramsFirst m i n) (LiesBetween at (at + 1)) old now new so_far one)
 
+-- the steps that come next
+touched_parts : (m : Parameters) (mode4 : Bool) (xs ys : List Step) (a : ℕ) → IsTouched m mode4 (xs ++ ys) a
+    → IsTouched m mode4 xs a ⊎ IsTouched m (mode_past_all m mode4 xs) ys a
+touched_parts m mode4 [] ys a h = inr h
+touched_parts m mode4 (x ∷ xs) ys a (inl h) = inl (inl h)
+touched_parts m mode4 (x ∷ xs) ys a (inr h) = elim (touched_parts m (mode_past m mode4 x) xs ys a h) [ inl i ↦ inl (inr i) | inr i ↦ inr i ]
+
+touched_first : (m : Parameters) (mode4 : Bool) (xs ys : List Step) (a : ℕ) → IsTouched m mode4 xs a → IsTouched m mode4 (xs ++ ys) a
+touched_first m mode4 [] ys a h = absurd h
+touched_first m mode4 (x ∷ xs) ys a (inl h) = inl h
+touched_first m mode4 (x ∷ xs) ys a (inr h) = inr (touched_first m (mode_past m mode4 x) xs ys a h)
+
+touched_next : (m : Parameters) (mode4 : Bool) (xs ys : List Step) (a : ℕ) → IsTouched m (mode_past_all m mode4 xs) ys a → IsTouched m mode4 (xs ++ ys) a
+touched_next m mode4 [] ys a h = h
+touched_next m mode4 (x ∷ xs) ys a h = inr (touched_next m (mode_past m mode4 x) xs ys a h)
+
+mode_parts : (m : Parameters) (mode4 : Bool) (xs ys : List Step) → mode_past_all m mode4 (xs ++ ys) ≡ mode_past_all m (mode_past_all m mode4 xs) ys
+mode_parts m mode4 [] ys = refl
+mode_parts m mode4 (x ∷ xs) ys = mode_parts m (mode_past m mode4 x) xs ys
+
 -- one step more
-touched_more : (m : Parameters) (mode4 : Bool) (xs : List Step) (x : Step) (a : ℕ) → IsTouched m mode4 (xs ++ x ∷ []) a
-    → IsTouched m mode4 xs a ⊎ Touches m (mode_past_all m mode4 xs) x a
-touched_more m mode4 [] x a (inl h) = inr h
-touched_more m mode4 [] x a (inr h) = absurd h
-touched_more m mode4 (y ∷ ys) x a (inl h) = inl (inl h)
-touched_more m mode4 (y ∷ ys) x a (inr h) = elim (touched_more m (mode_past m mode4 y) ys x a h) [ inl i ↦ inl (inr i) | inr i ↦ inr i ]
-
-touched_kept : (m : Parameters) (mode4 : Bool) (xs : List Step) (x : Step) (a : ℕ) → IsTouched m mode4 xs a → IsTouched m mode4 (xs ++ x ∷ []) a
-touched_kept m mode4 [] x a h = absurd h
-touched_kept m mode4 (y ∷ ys) x a (inl h) = inl h
-touched_kept m mode4 (y ∷ ys) x a (inr h) = inr (touched_kept m (mode_past m mode4 y) ys x a h)
-
-touched_last : (m : Parameters) (mode4 : Bool) (xs : List Step) (x : Step) (a : ℕ) → Touches m (mode_past_all m mode4 xs) x a → IsTouched m mode4 (xs ++ x ∷ []) a
-touched_last m mode4 [] x a h = inl h
-touched_last m mode4 (y ∷ ys) x a h = inr (touched_last m (mode_past m mode4 y) ys x a h)
-
-mode_more : (m : Parameters) (mode4 : Bool) (xs : List Step) (x : Step) → mode_past_all m mode4 (xs ++ x ∷ []) ≡ mode_past m (mode_past_all m mode4 xs) x
-mode_more m mode4 [] x = refl
-mode_more m mode4 (y ∷ ys) x = mode_more m (mode_past m mode4 y) ys x
-
 pub mode_next : (m : Parameters) (first mode4 after : Bool) (steps : List Step) (at : ℕ) (x : Step) → at < length steps → x ≡ get_or steps at x
     → mode4 ≡ mode_past_all m first (take at steps) → after ≡ mode_past m mode4 x → after ≡ mode_past_all m first (take (at + 1) steps)
 mode_next m first mode4 after steps at x within is so_far one =
-    one ∙ ap (λ b. mode_past m b x) so_far ∙ sym (mode_more m first (take at steps) x) ∙ ap (mode_past_all m first) (sym (one_taken steps at x within is))
+    one ∙ ap (λ b. mode_past m b x) so_far ∙ sym (mode_parts m first (take at steps) (x ∷ [])) ∙ ap (mode_past_all m first) (sym (one_taken steps at x within is))
 
 pub marked_next : (m : Parameters) (first mode4 : Bool) (steps : List Step) (at : ℕ) (x : Step) (old now new : List Bool) → at < length steps → x ≡ get_or steps at x
     → mode4 ≡ mode_past_all m first (take at steps) → MarkedBy (IsTouched m first (take at steps)) old now → MarkedBy (Touches m mode4 x) now new
@@ -105,8 +107,8 @@ marked_next m first mode4 steps at x old now new within is mode so_far one =
     let here : MarkedBy (Touches m (mode_past_all m first (take at steps)) x) now new = subst (λ (b : Bool). MarkedBy (Touches m b x) now new) mode one in
     subst (λ (l : List Step). MarkedBy (IsTouched m first l) old new) (sym (one_taken steps at x within is))
     (marked_alike (λ a. IsTouched m first (take at steps) a ⊎ Touches m (mode_past_all m first (take at steps)) x a) (IsTouched m first (take at steps ++ x ∷ [])) old new
-    (λ a h. elim h [ inl before ↦ touched_kept m first (take at steps) x a before | inr last ↦ touched_last m first (take at steps) x a last ])
-    (touched_more m first (take at steps) x)
+    (λ a h. elim h [ inl before ↦ touched_first m first (take at steps) (x ∷ []) a before | inr last ↦ touched_next m first (take at steps) (x ∷ []) a (inl last) ])
+    (λ a h. elim (touched_parts m first (take at steps) (x ∷ []) a h) [ inl before ↦ inl before | inr (inl last) ↦ inr last | inr (inr none) ↦ absurd none ])
     (marked_then (IsTouched m first (take at steps)) (Touches m (mode_past_all m first (take at steps)) x) old now new so_far here))
 
 pub marked_to_end : (m : Parameters) (first : Bool) (steps : List Step) (at : ℕ) (old new : List Bool) → length steps ≤ at → MarkedBy (IsTouched m first (take at steps)) old new
@@ -137,24 +139,38 @@ pub unseen_mode : (m : Parameters) (mode4 : Bool) (x : Step) (clocks : List ℕ)
 unseen_mode m mode4 x clocks is seen =
     ap (mode_by mode4) (sym (not_decoded m mode4 clocks seen)) ∙ ap (λ (l : List ℕ). mode_by mode4 (decode m mode4 l)) is
 
--- cells of which none was marked
-pub all_marked : (P : ℕ → Type 0) (count : ℕ) (old new : List Bool) → old ≡ replicate count false → MarkedBy P old new → AreMarks P count new
-all_marked P count old new none marked =
-    let long : length new ≡ count = marked.same_length ∙ ap length none ∙ length-replicate count false in
+-- marks of what is so, and then of something else
+pub are_then : (P Q R : ℕ → Type 0) (count : ℕ) (now new : List Bool) → ((a : ℕ) → P a → R a) → ((a : ℕ) → Q a → R a) → ((a : ℕ) → R a → P a ⊎ Q a)
+    → AreMarks P count now → MarkedBy Q now new → AreMarks R count new
+are_then P Q R count now new first second parts are marked = record {
+  as_many = marked.same_length ∙ are.as_many;
+  each = λ a inside. (
+    (λ is. elim (marked.only a is) [
+      | inl before ↦ let near = (are.each a inside).0 before in (near.0, near.1, first near.0 near.2)
+      | inr near ↦ (near.0, near.1, second near.0 near.2)
+    ]),
+    (λ near.
+        let there : near.0 / 256 < count = omega (arith, near.1, inside) in
+        let is : IsMarked new near.0 = elim (parts near.0 near.2) [
+          | inl one ↦ marked.kept near.0 ((are.each near.0 there).1 (near.0, refl, one))
+          | inr other ↦ marked.more near.0 (omega (arith, there, are.as_many)) other
+        ] in
+        subst (λ c. get_or new c false ≡ true) near.1 is),
+  );
+}
+
+pub touches_more : (m : Parameters) (start : Start) (done steps : List Step) (now after : SoFar) → HasTouched m start done now → after.meaning ≡ now.meaning
+    → after.mode4 ≡ mode_past_all now.meaning now.mode4 steps → MarkedBy (IsTouched now.meaning now.mode4 steps) now.marks after.marks → HasTouched m start (done ++ steps) after
+touches_more m start done steps now after has same mode marked =
+    let first = begins4 m start in
+    let here : MarkedBy (IsTouched m (mode_past_all m first done) steps) now.marks after.marks =
+    subst (λ (b : Bool). MarkedBy (IsTouched m b steps) now.marks after.marks) has.mode
+    (subst (λ (p : Parameters). MarkedBy (IsTouched p now.mode4 steps) now.marks after.marks) has.meaning marked) in
     record {
-      as_many = long;
-      each = λ a inside. (
-        (λ is. elim (marked.only a is) [
-          | inl before ↦
-              let not_so : get_or old (a / 256) false ≡ false = ap (λ l. get_or l (a / 256) false) none ∙ get_or-replicate count (a / 256) false false inside in
-              absurd (let both : true ≡ false = sym before ∙ not_so in cc)
-          | inr near ↦ near
-        ]),
-        (λ near.
-            let there : near.0 / 256 < length old = omega (arith, near.1, inside, long, marked.same_length) in
-            let is : IsMarked new near.0 = marked.more near.0 there near.2 in
-            subst (λ c. get_or new c false ≡ true) near.1 is),
-      );
+      meaning = same ∙ has.meaning;
+      mode = mode ∙ ap (λ (p : Parameters). mode_past_all p now.mode4 steps) has.meaning ∙ ap (λ b. mode_past_all m b steps) has.mode ∙ sym (mode_parts m first done steps);
+      marks = are_then (IsTouched m first done) (IsTouched m (mode_past_all m first done) steps) (IsTouched m first (done ++ steps)) (m.size / 256) now.marks after.marks
+          (touched_first m first done steps) (touched_next m first done steps) (touched_parts m first done steps) has.marks here;
     }
 
 -- the cells of the addresses from one to before another

@@ -11,6 +11,7 @@ use Rattle.nor_base.specs.Effect.{place}
 use Rattle.nor_base.specs.Parameters.{Parameters, block_size}
 use Rattle.nor_base.specs.Spelling.{mode_by}
 use Rattle.nor_base.specs.Step.{step_clocks}
+use Rattle.nor_cells.specs.Marks.{AreMarks}
 
 -- some byte of a program goes there: on from its address, and round within its page
 abbrev pub Programs : Parameters → Instruction → ℕ → Type 0
@@ -48,3 +49,16 @@ mode_past_all m mode4 (x ∷ xs) = mode_past_all m (mode_past m mode4 x) xs
 abbrev pub IsTouched : Parameters → Bool → List Step → ℕ → Type 0
 IsTouched m mode4 [] a = ⊥
 IsTouched m mode4 (x ∷ xs) a = Touches m mode4 x a ⊎ IsTouched m (mode_past m mode4 x) xs a
+
+-- the chips, the address mode after the steps so far, and the marks of the cells
+pub record SoFar : Type 0 where
+  pub meaning : Parameters
+  pub mode4 : Bool
+  pub marks : List Bool
+
+-- on chips of a meaning and a start just the cells are marked that hold an address which these steps touch, and the address mode is
+-- the one after them
+pub record HasTouched (m : Parameters) (start : Start) (steps : List Step) (cells : SoFar) : Type 0 where
+  pub meaning : cells.meaning ≡ m
+  pub mode : cells.mode4 ≡ mode_past_all m (begins4 m start) steps
+  pub marks : AreMarks (IsTouched m (begins4 m start) steps) (m.size / 256) cells.marks

@@ -1,7 +1,7 @@
 //! The cells of 256 bytes of a chip that are compared with a content, before steps and after them:
 //! so that a chip that isn't the one of the content shows.
 //!
-//! [`compared_cells`] marks those to compare before the steps, [`mark_wraps`] adds those that only
+//! [`TouchedCells`] marks those to compare before the steps, [`mark_wraps`] adds those that only
 //! the content after them shows, and [`next_piece`] goes through the marked addresses.
 #![tactic(auto)]
 
@@ -15,5 +15,5 @@ mod wrap;
 pub use edges::first_held;
 pub use laws::{smaller_chip_shows, wider_erase_shows};
 pub use marked::next_piece;
-pub use touched::{CELL, compared_cells};
+pub use touched::{CELL, TouchedCells};
 pub use wrap::mark_wraps;

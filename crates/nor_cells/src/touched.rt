@@ -1,9 +1,12 @@
 //! Which cells of a chip hold a byte that steps touch.
 
-ghost use Rattle.std.specs.Prelude.{◌≡◌, ◌<◌, ◌≤◌, ◌⊎◌, ◌+◌, ◌*◌, ◌/◌, ◌^◌, IfOk, false, true};
-ghost use Rattle.std.specs.Prelude.{length, replicate};
+ghost use Rattle.std.specs.Prelude.{◌≡◌, ◌<◌, ◌≤◌, ◌⊎◌, ◌+◌, ◌*◌, ◌/◌, ◌^◌, ◌++◌, [], List, IfOk};
+ghost use Rattle.std.specs.Prelude.{false, true, length};
+ghost use Rattle.nor_base.specs.declared.meaning.Start.{Start};
+ghost use Rattle.nor_base.specs.declared.step.Step.{Step};
 ghost use Rattle.nor_base.specs.Chip.{begins4};
 ghost use Rattle.nor_base.specs.Effect.{is_program};
+ghost use Rattle.nor_base.specs.Parameters.{Parameters};
 ghost use Rattle.nor_base.specs.Spelling.{mode_after};
 ghost use Rattle.nor_chip.specs.Sent.{instruction_of, sent};
 ghost use Rattle.nor_cells.specs.Beside.{IsBesideCell};
@@ -11,7 +14,7 @@ ghost use Rattle.nor_cells.specs.Compared.{IsAsked};
 ghost use Rattle.nor_cells.specs.Edges.{IsEdge};
 ghost use Rattle.nor_cells.specs.Marks.{IsMarkedCell, MarkedBy, AreMarks};
 ghost use Rattle.nor_cells.specs.Touched.{LiesBetween, Changes, Programs, Touches, IsTouched};
-ghost use Rattle.nor_cells.specs.Touched.{mode_past};
+ghost use Rattle.nor_cells.specs.Touched.{mode_past, mode_past_all, HasTouched};
 ghost use Rattle.nor_cells.specs.Wrap.{ShowsWrap};
 
 use crate::beside::mark_beside;
@@ -21,61 +24,83 @@ use nor_base::{Meaning, Start, Step, What};
 use nor_chip::program::place;
 use nor_decode::{Seen, decode};
 use std::alloc::{AllocError, Global};
+use std::marker::Model;
 
 /// Bytes of a cell: no erase block is smaller.
 pub const CELL: usize = 256;
 
-/// Which cells of a chip are to be compared with a content before steps: those that a step erases
-/// or programs; those of the first and last byte that isn't FFh; those that hold something, with
-/// only blank cells up to a touched one; those by which a smaller chip shows ([`mark_wraps`]).
+/// The cells that steps touch, as the steps come.
 ///
-/// Memory is taken for two marks of each.
-pub fn compared_cells(
-    alloc: Global,
-    meaning: &Meaning,
-    start: &Start,
-    content: &[u8],
-    steps: &[Step],
-) -> Result<Vec<bool>, AllocError>
-    requires { length content.now ≡ meaning.now.size }
-    ensures { IfOk result
-        (λ marks. AreMarks (IsAsked
-        (IsTouched meaning.now (begins4 meaning.now start.now) steps.now) content.now)
-        (meaning.now.size / 256) marks.items) }
-{
-    let cells = meaning.size as usize / CELL;
-    let mut touched = vec![in alloc; false; cells]?;
-    let mut marks = vec![in alloc; false; cells]?;
-    mark_compared(
-        &mut marks,
-        &mut touched,
-        meaning,
-        meaning.begins4(start),
-        content,
-        steps,
-    );
-    Ok(marks)
+/// Its memory is one mark of each cell.
+#[derive(Drop)]
+pub struct TouchedCells<'a> {
+    meaning: &'a Meaning,
+    /// The address mode after the steps so far.
+    mode4: bool,
+    marks: Vec<bool>,
 }
 
-/// Marks the cells to compare, from an address mode on, and beside them those that steps touch.
-fn mark_compared(
-    marks: &mut [bool],
-    touched: &mut [bool],
-    meaning: &Meaning,
-    mode4: bool,
-    content: &[u8],
-    steps: &[Step],
-)
-    requires size { length content.now ≡ meaning.now.size }
-    requires touched { touched.old ≡ replicate (meaning.now.size / 256) false }
-    requires marks { length marks.old ≡ meaning.now.size / 256 }
-    ensures { AreMarks (IsAsked (IsTouched meaning.now mode4 steps.now) content.now)
-        (meaning.now.size / 256) marks.new }
-{
-    meaning.acceptance();
-    mark_steps(touched, meaning, mode4, steps);
-    marks.copy_from_slice(touched);
-    mark_others(marks, touched, content);
+impl<'a> Model for TouchedCells<'a> {
+    ghost use Rattle.nor_cells.specs.Touched.{SoFar};
+
+    ghost Value = { SoFar };
+
+    ghost use Rattle.std.specs.Prelude.{◌≡◌, ◌/◌, length};
+
+    ghost view = { λ c. record {
+      meaning = c.meaning.now;
+      mode4 = c.mode4;
+      marks = c.marks.items;
+    } };
+
+    ghost invariant = { λ c. length c.marks.items ≡ c.meaning.now.size / 256 };
+}
+
+impl<'a> TouchedCells<'a> {
+    /// Those before the first step, on a chip of a meaning and a start: none.
+    pub fn new(
+        alloc: Global,
+        meaning: &'a Meaning,
+        start: &Start,
+    ) -> Result<TouchedCells<'a>, AllocError>
+        ensures { IfOk result (λ cells. HasTouched meaning.now start.now [] cells) }
+    {
+        let cells = meaning.size as usize / CELL;
+        Ok(TouchedCells {
+            meaning,
+            mode4: meaning.begins4(start),
+            marks: vec![in alloc; false; cells]?,
+        })
+    }
+
+    /// Takes the steps that come next.
+    pub fn touch(&mut self, steps: &[Step])
+        ensures { (m : Parameters) (start : Start) (done : List Step)
+            → HasTouched m start done self.old
+            → HasTouched m start (done ++ steps.now) self.new }
+    {
+        self.mode4 = mark_steps(self.marks.as_mut_slice(), self.meaning, self.mode4, steps);
+    }
+
+    /// Which cells of the chip are to be compared with a content before the steps: those that they
+    /// touch; those of the first and last byte that isn't FFh; those that hold something, with only
+    /// blank cells up to a touched one; those by which a smaller chip shows ([`mark_wraps`]).
+    ///
+    /// Memory is taken for one mark more of each.
+    pub fn compared(self, alloc: Global, content: &[u8]) -> Result<Vec<bool>, AllocError>
+        requires { length content.now ≡ self.meaning.size }
+        ensures { (m : Parameters) (start : Start) (steps : List Step)
+            → HasTouched m start steps self.entry → IfOk result
+            (λ marks. AreMarks (IsAsked (IsTouched m (begins4 m start) steps) content.now)
+            (m.size / 256) marks.items) }
+    {
+        let meaning = self.meaning;
+        meaning.acceptance();
+        let touched = self.marks.as_slice();
+        let mut marks = Vec::from_slice(alloc, touched)?;
+        mark_others(marks.as_mut_slice(), touched, content);
+        Ok(marks)
+    }
 }
 
 /// Marks the cells beside those that are touched, those of the first and the last byte that aren't
@@ -92,14 +117,17 @@ fn mark_others(marks: &mut [bool], touched: &[bool], content: &[u8])
     mark_wraps(marks, content);
 }
 
-/// Marks the cells of the bytes that steps touch, from an address mode on.
-fn mark_steps(marks: &mut [bool], meaning: &Meaning, mode4: bool, steps: &[Step])
-    ensures { MarkedBy (IsTouched meaning.now mode4 steps.now) marks.old marks.new }
+/// Marks the cells of the bytes that steps touch, from an address mode on, and returns the one
+/// after them.
+fn mark_steps(marks: &mut [bool], meaning: &Meaning, mode4: bool, steps: &[Step]) -> bool
+    ensures marked { MarkedBy (IsTouched meaning.now mode4 steps.now) marks.old marks.new }
+    ensures mode { result ≡ mode_past_all meaning.now mode4 steps.now }
 {
     let mut mode4 = mode4;
     for step in steps {
         mode4 = mark_step(marks, meaning, mode4, step);
     }
+    mode4
 }
 
 /// Marks the cells of the bytes that a step touches, and returns the address mode after it.

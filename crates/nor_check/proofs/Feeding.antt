@@ -21,20 +21,20 @@ after_none : (v : Verdict) → v ≡ after_steps 0 v
 after_none Yes = refl
 after_none (No k cause) = let same : k ≡ k + 0 = omega arith in ap (λ m. No m cause) same
 
-pub before_any : (target : List ℕ) (ts : List Together) (page : ℕ) (steps : List Step)
-    → judged_each target ts steps ≡ to_come (record { target = target; number = 0; chips = ts; stopped = None; page = page; reads = 0 }) steps
+pub before_any : (size : ℕ) (target : List ℕ) (ts : List Together) (page : ℕ) (steps : List Step)
+    → judged_each target ts steps ≡ to_come (record { size = size; number = 0; chips = ts; stopped = None; page = page; reads = 0 }) target steps
 unfolding to_come
-before_any target ts page steps = after_none (judged_each target ts steps)
+before_any size target ts page steps = after_none (judged_each target ts steps)
 
 -- one step more
 after_later : (n : ℕ) (v : Verdict) → after_steps n (later v) ≡ after_steps (n + 1) v
 after_later n Yes = refl
 after_later n (No k cause) = let same : k + 1 + n ≡ k + (n + 1) = omega arith in ap (λ m. No m cause) same
 
-module _ (page reads then_page then_reads : ℕ) where
+module _ (size page reads then_page then_reads : ℕ) where
   goes_on : (target : List ℕ) (number : ℕ) (ts after : List Together) (o : Option Verdict) (x : Step) (more : List Step) → false ≡ is_some o → each_step ts x ≡ Ok after
-      → to_come (record { target = target; number = number + 1; chips = after; stopped = o; page = then_page; reads = then_reads }) more
-      ≡ to_come (record { target = target; number = number; chips = ts; stopped = o; page = page; reads = reads }) (x ∷ more)
+      → to_come (record { size = size; number = number + 1; chips = after; stopped = o; page = then_page; reads = then_reads }) target more
+      ≡ to_come (record { size = size; number = number; chips = ts; stopped = o; page = page; reads = reads }) target (x ∷ more)
   unfolding to_come
   goes_on target number ts after None x more none h =
       sym (ap (after_steps number) (in_step target ts x more ∙ ap (λ r. judge_each r (λ next. judged_each target next more)) h)
@@ -43,8 +43,8 @@ module _ (page reads then_page then_reads : ℕ) where
 
   stops : (target : List ℕ) (number later_on : ℕ) (ts after : List Together) (o : Option Verdict) (x : Step) (more : List Step) (cause : Wrong) → false ≡ is_some o
       → each_step ts x ≡ Err cause
-      → to_come (record { target = target; number = later_on; chips = after; stopped = Some (No number (why.Wrong cause)); page = then_page; reads = then_reads }) more
-      ≡ to_come (record { target = target; number = number; chips = ts; stopped = o; page = page; reads = reads }) (x ∷ more)
+      → to_come (record { size = size; number = later_on; chips = after; stopped = Some (No number (why.Wrong cause)); page = then_page; reads = then_reads }) target more
+      ≡ to_come (record { size = size; number = number; chips = ts; stopped = o; page = page; reads = reads }) target (x ∷ more)
   unfolding to_come
   stops target number later_on ts after None x more cause none h =
       let zero_on : 0 + number ≡ number = omega arith in
@@ -53,16 +53,16 @@ module _ (page reads then_page then_reads : ℕ) where
   stops target number later_on ts after (Some v) x more cause none h = cc
 
   pub stays : (target : List ℕ) (number later_on : ℕ) (ts : List Together) (o : Option Verdict) (x : Step) (more : List Step) → true ≡ is_some o
-      → to_come (record { target = target; number = later_on; chips = ts; stopped = o; page = then_page; reads = then_reads }) more
-      ≡ to_come (record { target = target; number = number; chips = ts; stopped = o; page = page; reads = reads }) (x ∷ more)
+      → to_come (record { size = size; number = later_on; chips = ts; stopped = o; page = then_page; reads = then_reads }) target more
+      ≡ to_come (record { size = size; number = number; chips = ts; stopped = o; page = page; reads = reads }) target (x ∷ more)
   unfolding to_come
   stays target number later_on ts None x more some = cc
   stays target number later_on ts (Some v) x more some = refl
 
   pub feeds : (target : List ℕ) (number : ℕ) (ts after : List Together) (o : Option Verdict) (x : Step) (more : List Step) (r : Result (Unit {0}) Wrong) → false ≡ is_some o
       → StepsEach ts after r x
-      → to_come (record { target = target; number = number + 1; chips = after; stopped = verdict_at number r; page = then_page; reads = then_reads }) more
-      ≡ to_come (record { target = target; number = number; chips = ts; stopped = o; page = page; reads = reads }) (x ∷ more)
+      → to_come (record { size = size; number = number + 1; chips = after; stopped = verdict_at number r; page = then_page; reads = then_reads }) target more
+      ≡ to_come (record { size = size; number = number; chips = ts; stopped = o; page = page; reads = reads }) target (x ∷ more)
   feeds target number ts after None x more (Ok u) none h = goes_on target number ts after None x more none h
   feeds target number ts after None x more (Err cause) none h = stops target number (number + 1) ts after None x more cause none h
   feeds target number ts after (Some v) x more r none h = cc
@@ -107,13 +107,13 @@ ends_each target n (t ∷ ts) =
     (end_at n (is_settled (one_like t.kind [] true) (last_settled t.chips)) (first_difference t.chips.array target))
     ∙ ap (earlier (at_end (one_like t.kind [] true) target n (last_settled t.chips))) (ends_each target n ts)
 
-pub ends_now : (target : List ℕ) (n page reads : ℕ) (ts : List Together) (o : Option Verdict) → o ≡ None
+pub ends_now : (target : List ℕ) (size n page reads : ℕ) (ts : List Together) (o : Option Verdict) → o ≡ None
     → worst_of (λ t. at_end (one_like t.kind [] true) target n (last_settled t.chips)) ts
-    ≡ to_come (record { target = target; number = n; chips = ts; stopped = o; page = page; reads = reads }) []
+    ≡ to_come (record { size = size; number = n; chips = ts; stopped = o; page = page; reads = reads }) target []
 unfolding to_come
-ends_now target n page reads ts o none =
-    sym (ap (λ (o : Option Verdict). to_come (record { target = target; number = n; chips = ts; stopped = o; page = page; reads = reads }) []) none ∙ ends_each target n ts)
+ends_now target size n page reads ts o none =
+    sym (ap (λ (o : Option Verdict). to_come (record { size = size; number = n; chips = ts; stopped = o; page = page; reads = reads }) target []) none ∙ ends_each target n ts)
 
-pub told_now : (f : Fed) (v : Verdict) → f.stopped ≡ Some v → v ≡ to_come f []
+pub told_now : (f : Fed) (target : List ℕ) (v : Verdict) → f.stopped ≡ Some v → v ≡ to_come f target []
 unfolding to_come
-told_now f v h = sym (ap (λ (o : Option Verdict). to_come (record f { stopped = o }) []) h)
+told_now f target v h = sym (ap (λ (o : Option Verdict). to_come (record f { stopped = o }) target []) h)

@@ -20,7 +20,7 @@ use Rattle.nor_check.specs.Outcome.{Trial, first_difference, at_difference, at_e
 use Rattle.nor_check.specs.Chips.{Kind, Chips, Together, one_like, last_settled, begun}
 use Rattle.nor_check.specs.Judged.{later, StepsAll, all_step, judge_on, judged, is_other_page}
 use Rattle.nor_check.specs.Pages.{IsOneOf, IsRefusedBy, IsToldBy, IsJudgedBy, StepsEach, begun_each, each_step, first_of, is_sooner, joined, judged_each, others, page_by_page, with_page}
-use Rattle.nor_check.specs.Fed.{Fed, IsShown, IsShownBy, after_steps, reads_after, reached, to_come, verdict_at}
+use Rattle.nor_check.specs.Fed.{Fed, IsShown, after_steps, reads_after, reached, to_come, verdict_at}
 use Rattle.nor_check.specs.Witness.{in_a_row, is_status_read, reads_from, reads_before, Witnesses, even}
 use Rattle.nor_check.proofs.Shows.{on_page}
 
@@ -147,11 +147,11 @@ module _ (t : Trial) (j : ℕ) (cause : Why) where
   among_all page c (inl own) its so = at_page t.m.page page c (or_left (t.m.page == t.m.page) _ (eq-eqb t.m.page t.m.page refl)) own its so
   among_all page c (inr other) its so = among_others page_sizes page c other its so
 
-pub begins_shown : (t : Trial) (step : ℕ) (cause : Why) (own : ℕ) (w : Witness) (n : ℕ) → PollEnds → VerifyKeeps → (ts : List Together) → ts ≡ begun_each t.m t.start t.have
-    → IsShown (record { target = t.want; number = 0; chips = ts; stopped = None; page = own; reads = 0 }) t.steps (No step cause) w → w.reads < n
+pub begins_shown : (size : ℕ) (t : Trial) (step : ℕ) (cause : Why) (own : ℕ) (w : Witness) (n : ℕ) → PollEnds → VerifyKeeps → (ts : List Together) → ts ≡ begun_each t.m t.start t.have
+    → IsShown (record { size = size; number = 0; chips = ts; stopped = None; page = own; reads = 0 }) t.want t.steps (No step cause) w → w.reads < n
     → Witnesses t step cause (even n (step == length t.steps) w.page)
 unfolding IsShown Shows
-begins_shown t step cause own w n ends quiet ts is h low =
+begins_shown size t step cause own w n ends quiet ts is h low =
     let same : h.0 ≡ step = omega (arith, h.1) in
     let of = h.2 in
     let shows = among_all t h.0 cause w.page of.these (subst (IsOneOf of.these) is of.among) of.its_page of.so in
@@ -160,10 +160,10 @@ begins_shown t step cause own w n ends quiet ts is h low =
     (on_page t h.0 cause ends quiet n (record { page = w.page; may = shows.0; so = shows.1 }) few)
 
 -- the number of status reads is that of those right before
-pub begins_counted : (target : List ℕ) (ts : List Together) (steps : List Step) (step : ℕ) (cause : Why) (own : ℕ) (w : Witness)
-    → IsShown (record { target = target; number = 0; chips = ts; stopped = None; page = own; reads = 0 }) steps (No step cause) w → w.reads ≡ reads_before step steps
+pub begins_counted : (size : ℕ) (target : List ℕ) (ts : List Together) (steps : List Step) (step : ℕ) (cause : Why) (own : ℕ) (w : Witness)
+    → IsShown (record { size = size; number = 0; chips = ts; stopped = None; page = own; reads = 0 }) target steps (No step cause) w → w.reads ≡ reads_before step steps
 unfolding IsShown
-begins_counted target ts steps step cause own w h =
+begins_counted size target ts steps step cause own w h =
     let same : h.0 ≡ step = omega (arith, h.1) in
     subst (λ j. w.reads ≡ reads_before j steps) same (sym h.3)
 
@@ -200,13 +200,13 @@ came_from target x more [] after t h among = let same : [] ≡ after = cc in abs
 came_from target x more (u ∷ us) after t h among =
     came_from_by target x more u.kind u.chips us (all_step u.kind u.chips x) (each_step us x) after t refl h (λ rest is there. came_from target x more us rest t is there) among
 
-module _ (target : List ℕ) (number reads own then_own : ℕ) (ts after : List Together) (x : Step) (more : List Step) where
+module _ (target : List ℕ) (size number reads own then_own : ℕ) (ts after : List Together) (x : Step) (more : List Step) where
   abbrev old : Fed
-  old = record { target = target; number = number; chips = ts; stopped = None; page = own; reads = reads }
+  old = record { size = size; number = number; chips = ts; stopped = None; page = own; reads = reads }
 
   stepped : (v : Verdict) (w : Witness) → each_step ts x ≡ Ok after
-      → IsShown (record { target = target; number = number + 1; chips = after; stopped = None; page = then_own; reads = in_a_row reads x }) more v w
-      → IsShown old (x ∷ more) v w
+      → IsShown (record { size = size; number = number + 1; chips = after; stopped = None; page = then_own; reads = in_a_row reads x }) target more v w
+      → IsShown old target (x ∷ more) v w
   unfolding IsShown judged reads_from
   stepped Yes w is h = absurd h
   stepped (No step cause) w is h =
@@ -226,8 +226,8 @@ module _ (target : List ℕ) (number reads own then_own : ℕ) (ts after : List 
       )
 
   stopped_by : (v : Verdict) (w : Witness) (wrong : Wrong) → IsRefusedBy ts x wrong then_own
-      → IsShown (record { target = target; number = number + 1; chips = after; stopped = Some (No number (why.Wrong wrong)); page = then_own; reads = reads }) more v w
-      → IsShown old (x ∷ more) v w
+      → IsShown (record { size = size; number = number + 1; chips = after; stopped = Some (No number (why.Wrong wrong)); page = then_own; reads = reads }) target more v w
+      → IsShown old target (x ∷ more) v w
   unfolding IsShown judged reads_from
   stopped_by Yes w wrong told h = let clash = h.0 in cc
   stopped_by (No step cause) w wrong told h =
@@ -245,33 +245,34 @@ module _ (target : List ℕ) (number reads own then_own : ℕ) (ts after : List 
       )
 
 -- what is shown after a step is shown before it
-pub feeds_shown : (target : List ℕ) (number reads then_reads own then_own : ℕ) (ts after : List Together) (x : Step) (more : List Step) (o : Option Verdict)
+pub feeds_shown : (target : List ℕ) (size number reads then_reads own then_own : ℕ) (ts after : List Together) (x : Step) (more : List Step) (o : Option Verdict)
     (r : Result (Unit {0}) Wrong) (v : Verdict) (w : Witness) → false ≡ is_some o → StepsEach ts after r x → IsToldBy ts r x then_own → then_reads ≡ reads_after reads x r
-    → IsShown (record { target = target; number = number + 1; chips = after; stopped = verdict_at number r; page = then_own; reads = then_reads }) more v w
-    → IsShown (record { target = target; number = number; chips = ts; stopped = o; page = own; reads = reads }) (x ∷ more) v w
-feeds_shown target number reads then_reads own then_own ts after x more (Some u) r v w none is told counted h = cc
-feeds_shown target number reads then_reads own then_own ts after x more None (Ok u) v w none is told counted h =
-    stepped target number reads own then_own ts after x more v w is
-    (subst (λ n. IsShown (record { target = target; number = number + 1; chips = after; stopped = None; page = then_own; reads = n }) more v w) counted h)
-feeds_shown target number reads then_reads own then_own ts after x more None (Err wrong) v w none is told counted h =
-    stopped_by target number reads own then_own ts after x more v w wrong told
-    (subst (λ n. IsShown (record { target = target; number = number + 1; chips = after; stopped = Some (No number (why.Wrong wrong)); page = then_own; reads = n }) more v w)
+    → IsShown (record { size = size; number = number + 1; chips = after; stopped = verdict_at number r; page = then_own; reads = then_reads }) target more v w
+    → IsShown (record { size = size; number = number; chips = ts; stopped = o; page = own; reads = reads }) target (x ∷ more) v w
+feeds_shown target size number reads then_reads own then_own ts after x more (Some u) r v w none is told counted h = cc
+feeds_shown target size number reads then_reads own then_own ts after x more None (Ok u) v w none is told counted h =
+    stepped target size number reads own then_own ts after x more v w is
+    (subst (λ n. IsShown (record { size = size; number = number + 1; chips = after; stopped = None; page = then_own; reads = n }) target more v w) counted h)
+feeds_shown target size number reads then_reads own then_own ts after x more None (Err wrong) v w none is told counted h =
+    stopped_by target size number reads own then_own ts after x more v w wrong told
+    (subst (λ n. IsShown (record { size = size; number = number + 1; chips = after; stopped = Some (No number (why.Wrong wrong)); page = then_own; reads = n }) target more v w)
     counted h)
 
 -- once a verdict is reached it stays
-pub stays_shown : (target : List ℕ) (number later_on own reads : ℕ) (ts : List Together) (x : Step) (more : List Step) (o : Option Verdict) (v : Verdict) (w : Witness)
-    → true ≡ is_some o → IsShown (record { target = target; number = later_on; chips = ts; stopped = o; page = own; reads = reads }) more v w
-    → IsShown (record { target = target; number = number; chips = ts; stopped = o; page = own; reads = reads }) (x ∷ more) v w
+pub stays_shown : (target : List ℕ) (size number later_on own reads : ℕ) (ts : List Together) (x : Step) (more : List Step) (o : Option Verdict) (v : Verdict) (w : Witness)
+    → true ≡ is_some o → IsShown (record { size = size; number = later_on; chips = ts; stopped = o; page = own; reads = reads }) target more v w
+    → IsShown (record { size = size; number = number; chips = ts; stopped = o; page = own; reads = reads }) target (x ∷ more) v w
 unfolding IsShown
-stays_shown target number later_on own reads ts x more None v w some h = cc
-stays_shown target number later_on own reads ts x more (Some u) v w some h = h
+stays_shown target size number later_on own reads ts x more None v w some h = cc
+stays_shown target size number later_on own reads ts x more (Some u) v w some h = h
 
 -- at the end
-pub reached_shown : (f : Fed) (v : Verdict) (step : ℕ) (cause : Why) → f.stopped ≡ Some v → to_come f [] ≡ No step cause → IsShown f [] (No step cause) (record { reads = f.reads; page = f.page })
+pub reached_shown : (f : Fed) (target : List ℕ) (v : Verdict) (step : ℕ) (cause : Why) → f.stopped ≡ Some v → to_come f target [] ≡ No step cause
+    → IsShown f target [] (No step cause) (record { reads = f.reads; page = f.page })
 unfolding IsShown to_come
-reached_shown f v step cause is h =
-    subst (λ (o : Option Verdict). IsShownBy o f [] (No step cause) (record { reads = f.reads; page = f.page })) (sym is)
-    (ap (λ (o : Option Verdict). reached o (after_steps f.number (judged_each f.target f.chips []))) (sym is) ∙ h, refl, refl)
+reached_shown f target v step cause is h =
+    subst (λ (o : Option Verdict). IsShown (record f { stopped = o }) target [] (No step cause) (record { reads = f.reads; page = f.page })) (sym is)
+    (ap (λ (o : Option Verdict). reached o (after_steps f.number (judged_each target f.chips []))) (sym is) ∙ h, refl, refl)
 
 zero_at : (n : ℕ) (b : Bool) (o : Option ℕ) (step : ℕ) (cause : Why) → (if b then at_difference n o else No n (why.Wrong wrong.NotIdleAtEnd)) ≡ No step cause
     → (step ≡ n) × ((if b then at_difference 0 o else No 0 (why.Wrong wrong.NotIdleAtEnd)) ≡ No 0 cause)
@@ -279,13 +280,13 @@ zero_at n true None step cause h = cc
 zero_at n true (Some a) step cause h = let number : n ≡ step = cc in let same : why.Differs a ≡ cause = cc in (sym number, ap (No 0) same)
 zero_at n false o step cause h = let number : n ≡ step = cc in let same : why.Wrong wrong.NotIdleAtEnd ≡ cause = cc in (sym number, ap (No 0) same)
 
-pub ends_shown : (target : List ℕ) (n own page reads : ℕ) (ts : List Together) (o : Option Verdict) (v : Verdict) (step : ℕ) (cause : Why) → o ≡ None
+pub ends_shown : (target : List ℕ) (size n own page reads : ℕ) (ts : List Together) (o : Option Verdict) (v : Verdict) (step : ℕ) (cause : Why) → o ≡ None
     → IsJudgedBy (λ t. at_end (one_like t.kind [] true) target n (last_settled t.chips)) ts v page → v ≡ No step cause
-    → IsShown (record { target = target; number = n; chips = ts; stopped = o; page = own; reads = reads }) [] (No step cause) (record { reads = reads; page = page })
+    → IsShown (record { size = size; number = n; chips = ts; stopped = o; page = own; reads = reads }) target [] (No step cause) (record { reads = reads; page = page })
 unfolding IsShown judged reads_from
-ends_shown target n own page reads ts o v step cause none told is =
+ends_shown target size n own page reads ts o v step cause none told is =
     let ends = zero_at n (is_settled (one_like told.these.kind [] true) (last_settled told.these.chips)) (first_difference told.these.chips.array target) step cause (told.so ∙ is) in
-    subst (λ (o : Option Verdict). IsShownBy o (record { target = target; number = n; chips = ts; stopped = o; page = own; reads = reads }) [] (No step cause) (record { reads = reads; page = page })) (sym none)
+    subst (λ (o : Option Verdict). IsShown (record { size = size; number = n; chips = ts; stopped = o; page = own; reads = reads }) target [] (No step cause) (record { reads = reads; page = page })) (sym none)
     (0, omega (arith, ends.0), record { these = told.these; among = told.among; its_page = told.its_page; so = ends.1 }, refl)
 
 pub reads_most : (reads number : ℕ) (x : Step) (r : Result (Unit {0}) Wrong) → reads ≤ number → reads_after reads x r ≤ number + 1

@@ -1,5 +1,5 @@
 -- A checker that is fed with steps, one after another (this project's).
-use Rattle.std.specs.Prelude.{◌≡◌, ℕ, ◌+◌, List, Option, Some, None, Result, Ok, Err}
+use Rattle.std.specs.Prelude.{◌≡◌, ℕ, ◌+◌, List, Option, Some, None, MatchOption, Result, Ok, Err}
 use Rattle.nor_base.specs.declared.step.Step.{Step}
 use Rattle.nor_base.specs.declared.wrong.Wrong.{Wrong}
 use Rattle.nor_check.specs.declared.verdict.Why.TheVariants as why
@@ -11,10 +11,10 @@ use Rattle.nor_check.specs.Judged.{judged}
 use Rattle.nor_check.specs.Pages.{IsJudgedBy, judged_each}
 use Rattle.nor_check.specs.Witness.{in_a_row, reads_from}
 
--- a checker after some steps: what the chips are to hold at the end, how many steps there were, the chips of each page, the
--- verdict where one is reached, and then the page of chips that show it; how many status reads were sent right before
+-- a checker after some steps: how many bytes a chip has, how many steps there were, the chips of each page, the verdict where one
+-- is reached, and then the page of chips that show it; how many status reads were sent right before
 pub record Fed : Type 0 where
-  pub target : List ℕ
+  pub size : ℕ
   pub number : ℕ
   pub chips : List Together
   pub stopped : Option Verdict
@@ -40,17 +40,17 @@ abbrev pub reads_after : ℕ → Step → Result (Unit {0}) Wrong → ℕ
 reads_after reads x (Ok u) = in_a_row reads x
 reads_after reads x (Err cause) = reads
 
--- the verdict if these steps come, and then the end
-unfoldable pub to_come : Fed → List Step → Verdict
-to_come f more = reached f.stopped (after_steps f.number (judged_each f.target f.chips more))
+-- the verdict if these steps come, and then the end, where the chips are to hold this target
+unfoldable pub to_come : Fed → List ℕ → List Step → Verdict
+to_come f target more = reached f.stopped (after_steps f.number (judged_each target f.chips more))
 
-abbrev pub IsShownBy : Option Verdict → Fed → List Step → Verdict → Witness → Type 0
-IsShownBy (Some verdict) f more v w = (verdict ≡ v) × (f.page ≡ w.page) × (f.reads ≡ w.reads)
-IsShownBy None f more Yes w = ⊥
-IsShownBy None f more (No step cause) w =
-    (at : ℕ) × (step ≡ at + f.number) × IsJudgedBy (λ t. judged t.kind f.target t.chips more) f.chips (No at cause) w.page × (reads_from f.reads at more ≡ w.reads)
+-- no verdict is reached yet, and some of these steps goes wrong so, or their end
+abbrev pub IsShownLater : Fed → List ℕ → List Step → Verdict → Witness → Type 0
+IsShownLater f target more Yes w = ⊥
+IsShownLater f target more (No step cause) w =
+    (at : ℕ) × (step ≡ at + f.number) × IsJudgedBy (λ t. judged t.kind target t.chips more) f.chips (No at cause) w.page × (reads_from f.reads at more ≡ w.reads)
 
--- if these steps come, and then the end, the chips of the witness's page go wrong as this verdict says, right after so many status
--- reads
-unfoldable pub IsShown : Fed → List Step → Verdict → Witness → Type 0
-IsShown f more v w = IsShownBy f.stopped f more v w
+-- if these steps come, and then the end, where the chips are to hold this target, those of the witness's page go wrong as this
+-- verdict says, right after so many status reads
+unfoldable pub IsShown : Fed → List ℕ → List Step → Verdict → Witness → Type 0
+IsShown f target more v w = MatchOption f.stopped (IsShownLater f target more v w) (λ verdict. (verdict ≡ v) × (f.page ≡ w.page) × (f.reads ≡ w.reads))

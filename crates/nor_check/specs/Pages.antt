@@ -77,6 +77,11 @@ judged_each target ts steps = worst_of (λ t. judged t.kind target t.chips steps
 abbrev pub HaveSize : ℕ → List Together → Type 0
 HaveSize size ts = AllByRecursion (λ (t : Together). size ≡ t.kind.meaning.size) ts
 
+-- what the chips of the first page hold
+abbrev pub first_array : List Together → List ℕ
+first_array [] = []
+first_array (t ∷ ts) = t.chips.array
+
 -- those of one of some pages
 abbrev pub IsOneOf : Together → List Together → Type 0
 IsOneOf t [] = ⊥

@@ -1,7 +1,7 @@
 //! The checker.
 
 ghost use Rattle.std.specs.Prelude.{◌≡◌, ◌↔◌, ℕ, ◌<◌, ◌+◌, ◌-◌, ◌^◌, ◌==◌, ◌∷◌, [], List, length};
-ghost use Rattle.std.specs.Prelude.{IfOk, OnErr};
+ghost use Rattle.std.specs.Prelude.{IfOk, IfSome, OnErr};
 ghost use Rattle.nor_base.specs.Chip.{IsPossible};
 ghost use Rattle.nor_base.specs.Run.{DoesTaskOnEvery};
 ghost use Rattle.nor_base.specs.declared.step.Step.{Step};
@@ -24,9 +24,9 @@ use nor_laws::{effects, polls, verifying_reads};
 use std::alloc::Global;
 use std::marker::Model;
 
-/// A checker that is fed with the steps of a script, one after another, and says at their end what
-/// [`check`] says of them all. Its clauses speak of the verdict to come: what it will say at the
-/// end, if some steps come and then the end.
+/// A checker that is fed with the steps of a script, one after another, and says of a target at
+/// their end what [`check`] says of them all. Its clauses speak of the verdict to come: what it
+/// will say at the end, if some steps come and then the end.
 ///
 /// It holds no step. Its memory is one array of the meaning's size; where the page is only known to
 /// be so large or larger, and from the first program on that leaves the least page, one for each
@@ -34,7 +34,7 @@ use std::marker::Model;
 #[derive(Drop)]
 pub struct StepChecker<'a> {
     chips: AllPages<'a>,
-    want: &'a [u8],
+    meaning: &'a Meaning,
     number: u64,
     stopped: Option<Verdict>,
     page: u32,
@@ -46,11 +46,11 @@ impl<'a> Model for StepChecker<'a> {
 
     ghost Value = { Fed };
 
-    ghost use Rattle.std.specs.Prelude.{◌≡◌, ◌≤◌, length, None};
+    ghost use Rattle.std.specs.Prelude.{◌≡◌, ◌≤◌, None};
     ghost use Rattle.nor_check.specs.Pages.{HaveSize};
 
     ghost view = { λ c. record {
-      target = c.want.now;
+      size = c.meaning.now.size;
       number = c.number;
       chips = c.chips;
       stopped = c.stopped;
@@ -58,42 +58,36 @@ impl<'a> Model for StepChecker<'a> {
       reads = c.reads;
     } };
 
-    ghost invariant = { λ c. (c.stopped ≡ None → HaveSize (length c.want.now) c.chips)
+    ghost invariant = { λ c. (c.stopped ≡ None → HaveSize c.meaning.now.size c.chips)
         × (c.reads ≤ c.number) };
 }
 
 impl<'a> StepChecker<'a> {
     /// A checker before the first step: of the scripts on ready chips of a meaning and a start that
-    /// hold `have` and, at the end, are to hold `want`. Both go as for [`check`], and what it says
-    /// of steps to come is what that says. It asks for no memory: `have` becomes its array.
-    pub fn new(
-        alloc: Global,
-        meaning: &'a Meaning,
-        start: Start,
-        have: Vec<u8>,
-        want: &'a [u8],
-    ) -> StepChecker<'a>
+    /// hold `have`. What it says of steps to come and a target is what [`check`] says. It asks for
+    /// no memory: `have` becomes its array.
+    pub fn new(alloc: Global, meaning: &'a Meaning, start: Start, have: Vec<u8>) -> StepChecker<'a>
         requires contents { (length have.items ≡ meaning.now.size)
-            × (length want.now ≡ meaning.now.size)
             × IsPossible meaning.now start }
-        ensures worst { (steps : List Step) → IsWorst
-            (trial meaning.now start have.items want.now steps) (to_come result steps) }
-        ensures yes { (steps : List Step) → (to_come result steps ≡ Yes)
-            ↔ DoesTaskOnEvery meaning.now start have.items want.now steps }
-        ensures shown { (steps : List Step) (step : ℕ) (why : Why) (w : Witness)
-            → IsShown result steps (No step why) w → (n : ℕ) → w.reads < n
-            → Witnesses (trial meaning.now start have.items want.now steps) step why
+        ensures worst { (want : List ℕ) (steps : List Step) → IsWorst
+            (trial meaning.now start have.items want steps) (to_come result want steps) }
+        ensures yes { (want : List ℕ) (steps : List Step) → length want ≡ meaning.now.size
+            → ((to_come result want steps ≡ Yes)
+            ↔ DoesTaskOnEvery meaning.now start have.items want steps) }
+        ensures shown { (want : List ℕ) (steps : List Step) (step : ℕ) (why : Why) (w : Witness)
+            → IsShown result want steps (No step why) w → (n : ℕ) → w.reads < n
+            → Witnesses (trial meaning.now start have.items want steps) step why
             (even n (step == length steps) w.page) }
-        ensures counted { (steps : List Step) (step : ℕ) (why : Why) (w : Witness)
-            → IsShown result steps (No step why) w → w.reads ≡ reads_before step steps }
-        ensures number { result.number ≡ 0 }
+        ensures counted { (want : List ℕ) (steps : List Step) (step : ℕ) (why : Why) (w : Witness)
+            → IsShown result want steps (No step why) w → w.reads ≡ reads_before step steps }
+        ensures begins { (result.number ≡ 0) × (result.size ≡ meaning.now.size) }
     {
         effects();
         polls();
         verifying_reads();
         StepChecker {
             chips: AllPages::new(alloc, meaning, start, have),
-            want,
+            meaning,
             number: 0,
             stopped: None,
             page: meaning.page,
@@ -114,11 +108,13 @@ impl<'a> StepChecker<'a> {
     /// again.
     pub fn step(&mut self, alloc: Global, step: &Step) -> Result<(), CheckFault>
         requires { self.old.number < 2 ^ 64 - 1 }
-        ensures fed { IfOk result (λ _. (more : List Step)
-            → to_come self.new more ≡ to_come self.old (step.now ∷ more)) }
-        ensures shown { IfOk result (λ _. (more : List Step) (v : Verdict) (w : Witness)
-            → IsShown self.new more v w → IsShown self.old (step.now ∷ more) v w) }
+        ensures fed { IfOk result (λ _. (want : List ℕ) (more : List Step)
+            → to_come self.new want more ≡ to_come self.old want (step.now ∷ more)) }
+        ensures shown { IfOk result (λ _. (want : List ℕ) (more : List Step) (v : Verdict)
+            (w : Witness) → IsShown self.new want more v w
+            → IsShown self.old want (step.now ∷ more) v w) }
         ensures number { IfOk result (λ _. self.new.number ≡ self.old.number + 1) }
+        ensures size { self.new.size ≡ self.old.size }
         ensures refused { OnErr result (self.new ≡ self.old) }
     {
         self.feed(alloc, view_of(step))
@@ -127,11 +123,13 @@ impl<'a> StepChecker<'a> {
     /// Takes a Send of these clocks as the next step, as [`StepChecker::step`] takes it.
     pub fn send(&mut self, alloc: Global, clocks: &[u8]) -> Result<(), CheckFault>
         requires { self.old.number < 2 ^ 64 - 1 }
-        ensures fed { IfOk result (λ _. (more : List Step)
-            → to_come self.new more ≡ to_come self.old (Send clocks.now ∷ more)) }
-        ensures shown { IfOk result (λ _. (more : List Step) (v : Verdict) (w : Witness)
-            → IsShown self.new more v w → IsShown self.old (Send clocks.now ∷ more) v w) }
+        ensures fed { IfOk result (λ _. (want : List ℕ) (more : List Step)
+            → to_come self.new want more ≡ to_come self.old want (Send clocks.now ∷ more)) }
+        ensures shown { IfOk result (λ _. (want : List ℕ) (more : List Step) (v : Verdict)
+            (w : Witness) → IsShown self.new want more v w
+            → IsShown self.old want (Send clocks.now ∷ more) v w) }
         ensures number { IfOk result (λ _. self.new.number ≡ self.old.number + 1) }
+        ensures size { self.new.size ≡ self.old.size }
         ensures refused { OnErr result (self.new ≡ self.old) }
     {
         self.feed(alloc, StepView::Send(clocks))
@@ -140,11 +138,13 @@ impl<'a> StepChecker<'a> {
     /// Takes a Poll of these clocks as the next step, as [`StepChecker::step`] takes it.
     pub fn poll(&mut self, alloc: Global, clocks: &[u8]) -> Result<(), CheckFault>
         requires { self.old.number < 2 ^ 64 - 1 }
-        ensures fed { IfOk result (λ _. (more : List Step)
-            → to_come self.new more ≡ to_come self.old (Poll clocks.now ∷ more)) }
-        ensures shown { IfOk result (λ _. (more : List Step) (v : Verdict) (w : Witness)
-            → IsShown self.new more v w → IsShown self.old (Poll clocks.now ∷ more) v w) }
+        ensures fed { IfOk result (λ _. (want : List ℕ) (more : List Step)
+            → to_come self.new want more ≡ to_come self.old want (Poll clocks.now ∷ more)) }
+        ensures shown { IfOk result (λ _. (want : List ℕ) (more : List Step) (v : Verdict)
+            (w : Witness) → IsShown self.new want more v w
+            → IsShown self.old want (Poll clocks.now ∷ more) v w) }
         ensures number { IfOk result (λ _. self.new.number ≡ self.old.number + 1) }
+        ensures size { self.new.size ≡ self.old.size }
         ensures refused { OnErr result (self.new ≡ self.old) }
     {
         self.feed(alloc, StepView::Poll(clocks))
@@ -154,12 +154,14 @@ impl<'a> StepChecker<'a> {
     /// it.
     pub fn verify(&mut self, alloc: Global, clocks: &[u8], expect: &[u8]) -> Result<(), CheckFault>
         requires { self.old.number < 2 ^ 64 - 1 }
-        ensures fed { IfOk result (λ _. (more : List Step) →
-            to_come self.new more ≡ to_come self.old (Verify clocks.now expect.now ∷ more)) }
-        ensures shown { IfOk result (λ _. (more : List Step) (v : Verdict) (w : Witness)
-            → IsShown self.new more v w
-            → IsShown self.old (Verify clocks.now expect.now ∷ more) v w) }
+        ensures fed { IfOk result (λ _. (want : List ℕ) (more : List Step)
+            → to_come self.new want more
+            ≡ to_come self.old want (Verify clocks.now expect.now ∷ more)) }
+        ensures shown { IfOk result (λ _. (want : List ℕ) (more : List Step) (v : Verdict)
+            (w : Witness) → IsShown self.new want more v w
+            → IsShown self.old want (Verify clocks.now expect.now ∷ more) v w) }
         ensures number { IfOk result (λ _. self.new.number ≡ self.old.number + 1) }
+        ensures size { self.new.size ≡ self.old.size }
         ensures refused { OnErr result (self.new ≡ self.old) }
     {
         self.feed(alloc, StepView::Verify(clocks, expect))
@@ -168,11 +170,13 @@ impl<'a> StepChecker<'a> {
     /// Takes the next step.
     fn feed(&mut self, alloc: Global, step: StepView<'_>) -> Result<(), CheckFault>
         requires { self.old.number < 2 ^ 64 - 1 }
-        ensures fed { IfOk result (λ _. (more : List Step)
-            → to_come self.new more ≡ to_come self.old (step_of step.entry ∷ more)) }
-        ensures shown { IfOk result (λ _. (more : List Step) (v : Verdict) (w : Witness)
-            → IsShown self.new more v w → IsShown self.old (step_of step.entry ∷ more) v w) }
+        ensures fed { IfOk result (λ _. (want : List ℕ) (more : List Step)
+            → to_come self.new want more ≡ to_come self.old want (step_of step.entry ∷ more)) }
+        ensures shown { IfOk result (λ _. (want : List ℕ) (more : List Step) (v : Verdict)
+            (w : Witness) → IsShown self.new want more v w
+            → IsShown self.old want (step_of step.entry ∷ more) v w) }
         ensures number { IfOk result (λ _. self.new.number ≡ self.old.number + 1) }
+        ensures size { self.new.size ≡ self.old.size }
         ensures refused { OnErr result (self.new ≡ self.old) }
     {
         if self.stopped.is_some() {
@@ -186,28 +190,45 @@ impl<'a> StepChecker<'a> {
         Ok(())
     }
 
-    /// The verdict if no step follows.
-    pub fn verdict(&self) -> Verdict
-        ensures { result ≡ to_come self.now [] }
+    /// The verdict if no step follows, where the chips are to hold `want`.
+    pub fn verdict(&self, want: &[u8]) -> Verdict
+        requires { length want.now ≡ self.now.size }
+        ensures { result ≡ to_come self.now want.now [] }
     {
         match self.stopped {
             Some(verdict) => verdict,
-            None => self.chips.verdict(self.number, self.want),
+            None => self.chips.verdict(self.number, want),
         }
     }
 
-    /// A chip that shows the verdict if no step follows, where that is a no.
-    pub fn witness(&self) -> Witness
-        ensures { (step : ℕ) (why : Why) → to_come self.now [] ≡ No step why
-            → IsShown self.now [] (No step why) result }
+    /// A chip that shows that verdict, where it is a no.
+    pub fn witness(&self, want: &[u8]) -> Witness
+        requires { length want.now ≡ self.now.size }
+        ensures { (step : ℕ) (why : Why) → to_come self.now want.now [] ≡ No step why
+            → IsShown self.now want.now [] (No step why) result }
     {
         let page = match self.stopped {
             Some(_) => self.page,
-            None => self.chips.page(self.number, self.want),
+            None => self.chips.page(self.number, want),
         };
         Witness {
             reads: self.reads,
             page,
+        }
+    }
+
+    /// What all chips are left with, if no step follows and each is then settled with the same;
+    /// else none. It asks for no memory: its array is moved out.
+    pub fn left(self) -> Option<Vec<u8>>
+        ensures { IfSome result (λ left. (length left.items ≡ self.entry.size)
+            × (to_come self.entry left.items [] ≡ Yes)) }
+    {
+        if self.stopped.is_some() {
+            return None;
+        }
+        match self.verdict(self.chips.array()) {
+            Verdict::Yes => Some(self.chips.into_array()),
+            Verdict::No { .. } => None,
         }
     }
 }
@@ -260,11 +281,11 @@ pub fn check(
         ↔ DoesTaskOnEvery meaning.now start.now have.now want.now steps.now) }
 {
     let array = Vec::from_slice(alloc, have)?;
-    let mut checker = StepChecker::new(alloc, meaning, *start, array, want);
+    let mut checker = StepChecker::new(alloc, meaning, *start, array);
     for step in steps {
         checker.step(alloc, step)?;
     }
-    Ok(checker.verdict())
+    Ok(checker.verdict(want))
 }
 
 /// What [`check`] returns and, where that is a no, a chip that shows it: a run of the steps on that
@@ -290,11 +311,11 @@ pub fn check_shown(
         (even n (step == length steps.now) answer.1.page)) }
 {
     let array = Vec::from_slice(alloc, have)?;
-    let mut checker = StepChecker::new(alloc, meaning, *start, array, want);
+    let mut checker = StepChecker::new(alloc, meaning, *start, array);
     for step in steps {
         checker.step(alloc, step)?;
     }
-    let verdict = checker.verdict();
-    let witness = checker.witness();
+    let verdict = checker.verdict(want);
+    let witness = checker.witness(want);
     Ok((verdict, witness))
 }

@@ -125,6 +125,21 @@ impl<'a> AllChips<'a> {
         self.page
     }
 
+    /// What they hold.
+    pub(crate) fn array(&self) -> &[u8]
+        ensures array { result.now ≡ self.now.chips.array }
+        ensures size { length result.now ≡ self.now.kind.meaning.size }
+    {
+        self.array.as_slice()
+    }
+
+    /// What they hold, moved out.
+    pub(crate) fn into_array(self) -> Vec<u8>
+        ensures { result.items ≡ self.entry.chips.array }
+    {
+        self.array
+    }
+
     /// Whether the one that takes the fewest instructions is busy.
     fn may_be_busy(&self) -> bool
         ensures { result ≡ is_busy (some_left self.now.chips.busy) }

@@ -1,12 +1,12 @@
 //! All chips, of each page that may be.
 
-ghost use Rattle.std.specs.Prelude.{◌≡◌, ◌∷◌, [], true, length, map, IfOk, OnErr};
+ghost use Rattle.std.specs.Prelude.{◌≡◌, ℕ, ◌∷◌, [], true, length, map, IfOk, OnErr};
 ghost use Rattle.nor_base.specs.Chip.{page_sizes};
 ghost use Rattle.nor_check.specs.Chips.{one_like, last_settled};
 ghost use Rattle.nor_check.specs.Outcome.{at_end};
 ghost use Rattle.nor_check.specs.Order.{earlier};
 ghost use Rattle.nor_check.specs.Pages.{others, with_page, begun_each, StepsEach, IsToldBy};
-ghost use Rattle.nor_check.specs.Pages.{IsJudgedBy, worst_of, HaveSize};
+ghost use Rattle.nor_check.specs.Pages.{IsJudgedBy, worst_of, HaveSize, first_array};
 ghost use Rattle.nor_check.specs.View.{step_of};
 
 use crate::chips::AllChips;
@@ -105,6 +105,21 @@ impl<'a> AllPages<'a> {
             return own;
         }
         earliest(own, self.others.as_slice(), steps, target)
+    }
+
+    /// The array of the first of them.
+    pub(crate) fn array(&self) -> &[u8]
+        ensures first { result.now ≡ first_array self.now }
+        ensures size { (size : ℕ) → HaveSize size self.now → length result.now ≡ size }
+    {
+        self.own.array()
+    }
+
+    /// That array, moved out.
+    pub(crate) fn into_array(self) -> Vec<u8>
+        ensures { result.items ≡ first_array self.entry }
+    {
+        self.own.into_array()
     }
 
     /// The page of chips that have this verdict.

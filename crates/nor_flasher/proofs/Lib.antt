@@ -3,3 +3,5 @@ mod DoableLemmas
 mod LengthLemmas
 mod BegunLemmas
 mod StepsLemmas
+mod PackedLemmas
+mod OperationLemmas

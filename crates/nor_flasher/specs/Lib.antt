@@ -1,3 +1,4 @@
 pub mod Apart
 pub mod Laws
 pub mod Progress
+pub mod Packed

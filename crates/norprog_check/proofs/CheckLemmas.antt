@@ -33,16 +33,16 @@ taken_of t len job is = record { image = job.image; regions = is.regions; m = jo
 -- a checker before the first step: of each no, what shows it, and how many status reads are sent right before
 abbrev pub Shows : Parameters → Start → List ℕ → List ℕ → Fed → Type 0
 Shows m start have want fed =
-    (steps : List Step) (step : ℕ) (why : Why) (w : Witness) → IsShown fed steps (No step why) w → (n : ℕ) → w.reads < n
+    (steps : List Step) (step : ℕ) (why : Why) (w : Witness) → IsShown fed want steps (No step why) w → (n : ℕ) → w.reads < n
     → Witnesses (trial m start have want steps) step why (even n (step == length steps) w.page)
 
-abbrev pub CountsReads : Fed → Type 0
-CountsReads fed = (steps : List Step) (step : ℕ) (why : Why) (w : Witness) → IsShown fed steps (No step why) w → w.reads ≡ reads_before step steps
+abbrev pub CountsReads : Fed → List ℕ → Type 0
+CountsReads fed want = (steps : List Step) (step : ℕ) (why : Why) (w : Witness) → IsShown fed want steps (No step why) w → w.reads ≡ reads_before step steps
 
 -- the chip of what it says shows the no
 shown_on : (m : Parameters) (start : Start) (have want : List ℕ) (fed : Fed) (steps : List Step) (said : Said) (v : Verdict) (chip : Option ShowingChip)
-    → Shows m start have want fed → CountsReads fed → said.steps ≡ length steps
-    → ((step : ℕ) (why : Why) → v ≡ No step why → IsShown fed steps (No step why) said.witness) → TakesBy v said m.page chip → IsShownOn (trial m start have want steps) v chip
+    → Shows m start have want fed → CountsReads fed want → said.steps ≡ length steps
+    → ((step : ℕ) (why : Why) → v ≡ No step why → IsShown fed want steps (No step why) said.witness) → TakesBy v said m.page chip → IsShownOn (trial m start have want steps) v chip
 shown_on m start have want fed steps said Yes chip shows counts number shown takes = takes
 shown_on m start have want fed steps said (No step why) None shows counts number shown takes =
     subst (λ r. 2 ^ 32 ≤ r + 1) (counts steps step why _ (shown step why refl)) takes
@@ -61,14 +61,14 @@ shown_on m start have want fed steps said (No step why) (Some chip) shows counts
 
 -- what is found of the steps of a text
 pub judged_of : (job : Job) (have want : List ℕ) (fed : Fed) (said : Said) (found : Finding)
-    → ((steps : List Step) → IsWorst (trial job.meaning job.start have want steps) (to_come fed steps))
-    → ((steps : List Step) → (to_come fed steps ≡ Yes) ↔ DoesTaskOnEvery job.meaning job.start have want steps)
-    → Shows job.meaning job.start have want fed → CountsReads fed → found.verdict ≡ said.verdict → TakesChip said job.meaning.page found.chip
-    → (text : List ℕ) → IsSaidOf fed said text → IsJudged job have want found text
+    → ((steps : List Step) → IsWorst (trial job.meaning job.start have want steps) (to_come fed want steps))
+    → ((steps : List Step) → (to_come fed want steps ≡ Yes) ↔ DoesTaskOnEvery job.meaning job.start have want steps)
+    → Shows job.meaning job.start have want fed → CountsReads fed want → found.verdict ≡ said.verdict → TakesChip said job.meaning.page found.chip
+    → (text : List ℕ) → IsSaidOf fed want said text → IsJudged job have want found text
 judged_of job have want fed said found worst sure shows counts same takes text tells =
     let steps = tells.steps in
     let says = tells.says in
-    let is : found.verdict ≡ to_come fed steps = same ∙ says.told in
+    let is : found.verdict ≡ to_come fed want steps = same ∙ says.told in
     record {
       steps = steps;
       script = tells.script;

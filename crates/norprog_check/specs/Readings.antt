@@ -15,18 +15,18 @@ use Rattle.norprog_check.specs.declared.finding.ShowingChip.{ShowingChip}
 use Rattle.norprog_check.specs.declared.readings.Said.{Said}
 use Rattle.norprog_check.specs.Checked.{IsShownOn}
 
--- what a checker says that is fed with steps: how many they are, the verdict and, of a no, which page and how many status reads
--- before the step show it
-pub record SaysOf (fed : Fed) (steps : List Step) (said : Said) : Type 0 where
+-- what a checker says that is fed with steps, and then given a target: how many they are, the verdict and, of a no, which page and
+-- how many status reads before the step show it
+pub record SaysOf (fed : Fed) (want : List ℕ) (steps : List Step) (said : Said) : Type 0 where
   pub number : said.steps ≡ length steps
-  pub told : said.verdict ≡ to_come fed steps
-  pub shown : (step : ℕ) (why : Why) → said.verdict ≡ No step why → IsShown fed steps (No step why) said.witness
+  pub told : said.verdict ≡ to_come fed want steps
+  pub shown : (step : ℕ) (why : Why) → said.verdict ≡ No step why → IsShown fed want steps (No step why) said.witness
 
 -- with the steps of a text
-pub record IsSaidOf (fed : Fed) (said : Said) (text : List ℕ) : Type 0 where
+pub record IsSaidOf (fed : Fed) (want : List ℕ) (said : Said) (text : List ℕ) : Type 0 where
   pub steps : List Step
   pub script : IsScript text steps
-  pub says : SaysOf fed steps said
+  pub says : SaysOf fed want steps said
 
 -- the chip of what was said of a no at this step: busy for one status read more, with the page that was said
 pub record IsChipOf (said : Said) (step own : ℕ) (chip : ShowingChip) : Type 0 where

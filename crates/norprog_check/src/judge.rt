@@ -31,7 +31,7 @@ pub(crate) fn judge<A: ByteIn>(
     ensures stopped { IfErr result (StopsReader (A.ahead script.old) (A.ahead script.new)) }
     ensures count { CountsRead (A.count script.old) (A.count script.new) result }
 {
-    let checker = StepChecker::new(alloc, &job.meaning, job.start, have, want);
-    let said = feed_script(alloc, checker, script)?;
+    let checker = StepChecker::new(alloc, &job.meaning, job.start, have);
+    let said = feed_script(alloc, checker, want, script)?;
     Ok(finding_of(&said, &job.meaning))
 }

@@ -1,6 +1,6 @@
 //! The reading of a script for its steps, with which a checker is fed as they come.
 
-ghost use Rattle.std.specs.Prelude.{◌≡◌, ◌<◌, ◌+◌, ◌-◌, ◌^◌, ◌∷◌, List, IfOk, IfErr};
+ghost use Rattle.std.specs.Prelude.{◌≡◌, ◌<◌, ◌+◌, ◌-◌, ◌^◌, ◌∷◌, ℕ, List, length, IfOk, IfErr};
 ghost use Rattle.nor_base.specs.declared.step.Step.{Step};
 ghost use Rattle.nor_check.specs.Fed.{IsShown, to_come};
 ghost use Rattle.nor_check.specs.declared.verdict.Verdict.{Verdict};
@@ -26,18 +26,19 @@ pub(crate) struct Said {
     pub(crate) witness: Witness,
 }
 
-/// What a checker says that is fed with the steps of a script, each as it comes.
+/// What a checker says of a target that is fed with the steps of a script, each as it comes.
 ///
 /// A fault of the text, or of its device, is reported as [`StepReader::advance`] reports it;
 /// `Memory` also where the checker is refused a growth.
 pub(crate) fn feed_script<A: ByteIn>(
     alloc: Global,
     checker: StepChecker<'_>,
+    want: &[u8],
     script: &mut A,
 ) -> Result<Said, ReadFault>
-    requires begins { checker.number ≡ 0 }
-    ensures told { IfOk result
-        (λ said. HadText (A.ahead script.old) (A.ahead script.new) (IsSaidOf checker.entry said)) }
+    requires begins { (checker.number ≡ 0) × (length want.now ≡ checker.size) }
+    ensures told { IfOk result (λ said. HadText (A.ahead script.old) (A.ahead script.new)
+        (IsSaidOf checker.entry want.now said)) }
     ensures stopped { IfErr result (StopsReader (A.ahead script.old) (A.ahead script.new)) }
     ensures count { CountsRead (A.count script.old) (A.count script.new) result }
 {
@@ -47,20 +48,22 @@ pub(crate) fn feed_script<A: ByteIn>(
         feed(alloc, &mut checker, reader.view())?;
     }
     Ok(Said {
-        verdict: checker.verdict(),
+        verdict: checker.verdict(want),
         steps: checker.number(),
-        witness: checker.witness(),
+        witness: checker.witness(want),
     })
 }
 
 /// Gives a checker the next step; `Memory` where a growth is refused.
 fn feed(alloc: Global, checker: &mut StepChecker<'_>, step: StepView<'_>) -> Result<(), ReadFault>
     requires { checker.old.number < 2 ^ 64 - 1 }
-    ensures fed { IfOk result (λ _. (more : List Step)
-        → to_come checker.new more ≡ to_come checker.old (step_of step.entry ∷ more)) }
-    ensures shown { IfOk result (λ _. (more : List Step) (v : Verdict) (w : Witness)
-        → IsShown checker.new more v w → IsShown checker.old (step_of step.entry ∷ more) v w) }
+    ensures fed { IfOk result (λ _. (want : List ℕ) (more : List Step)
+        → to_come checker.new want more ≡ to_come checker.old want (step_of step.entry ∷ more)) }
+    ensures shown { IfOk result (λ _. (want : List ℕ) (more : List Step) (v : Verdict) (w : Witness)
+        → IsShown checker.new want more v w
+        → IsShown checker.old want (step_of step.entry ∷ more) v w) }
     ensures number { IfOk result (λ _. checker.new.number ≡ checker.old.number + 1) }
+    ensures size { checker.new.size ≡ checker.old.size }
     ensures refused { IfErr result (λ fault. fault ≡ Script Memory) }
 {
     let fed = match step {

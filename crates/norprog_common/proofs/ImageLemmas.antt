@@ -1,15 +1,17 @@
 -- The places that texts name.
-use Rattle.std.proofs.Common.{◌≡◌, ◌≢◌, ◌⊎◌, inl, inr, ℕ, ◌+◌, ◌-◌, ◌<◌, ◌≤◌, ◌^◌, Global, IfErr, IfOk, List, Option, Some, None, Result, Ok, Err, Vec, length, refl, subst, sym, arith}
+use Rattle.std.proofs.Common.{◌≡◌, ◌≢◌, ◌⊎◌, inl, inr, ℕ, ◌+◌, ◌-◌, ◌<◌, ◌≤◌, ◌^◌, IfErr, IfOk, List, Option, Some, None, Result, Ok, Err, length, refl, subst, sym, arith}
 use Rattle.std.specs.Prelude.{MatchResult}
 use Rattle.std.specs.List.{after_first, before_first, position_or_len}
 use Rattle.std.proofs.lemmas.Bool.{lt-ltb, le-ltb}
-use Rattle.nor_hex.specs.WrittenSegments.{hex_text}
+use Rattle.nor_hex.specs.Image.{Pairs}
+use Rattle.nor_hex.specs.Union.{HasJust}
 use Rattle.nor_job.specs.declared.fault.BuildFault.TheVariants.{Memory}
 use Rattle.nor_layout.specs.Region.{Region}
 use Rattle.nor_layout.specs.Text.{IsLayout}
-use Rattle.norprog_common.specs.Image.{At, Bin, Chip, InLayout, IsStart, IsTextOf, Misses, MissesIn, Named, OtherSize, OutOfMemory, RefusesText, Starts, StartsIn, TooFar, Where, Within, Written, bin_in, is_sign, place_by}
+use Rattle.norprog_common.specs.Image.{At, Bin, Chip, InLayout, IsDataOf, IsStart, Laid, Misses, MissesIn, Named, OtherSize, OutOfMemory, RefusesData, Starts, StartsIn, TooFar, Where, Within, bin_in, is_sign, place_by}
 use Rattle.norprog_common.specs.declared.faults.Refusal.{Refusal}
 use Rattle.norprog_common.specs.declared.faults.Refusal.TheVariants.{BinLength, BinSize, Build}
+use Rattle.norprog_common.specs.declared.image.ImageData.TheVariants as given
 use Rattle.nor_target.specs.Shares.{region_named}
 use Rattle.norprog_common.specs.Values.{base_of}
 
@@ -53,18 +55,15 @@ module _ (layout : Option (List ℕ)) (text : List ℕ) (regions given : List Re
 
 -- ---- raw bytes
 module _ (base start : ℕ) (layout : Option (List ℕ)) (bytes raw : List ℕ) (place : Where) (path : List ℕ) (same : raw ≡ bytes) (starts : IsStart layout (length bytes) place start) where
-  pub raw_texts : (result : Result (Vec ℕ Global) Refusal) → IfOk result (λ text. (base + start + length raw ≤ 2 ^ 32) × (text.items ≡ hex_text (base + start) raw))
-      → IfOk result (λ text. IsTextOf base layout bytes (Bin place path) text.items)
-  raw_texts (Ok text) (fits, is) =
-      subst (IsTextOf base layout bytes (Bin place path)) (sym (subst (λ (bs : List ℕ). text.items ≡ hex_text (base + start) bs) same is))
-      (Written place path start starts (subst (λ (bs : List ℕ). base + start + length bs ≤ 2 ^ 32) same fits))
-  raw_texts (Err why) has = tt
+  pub raw_lies : (image : Pairs) → (base + start + length raw ≤ 2 ^ 32) × HasJust (base + start) raw image
+      → IsDataOf base layout bytes (Bin place path) (given.Image image)
+  raw_lies image (fits, has) =
+      Laid place path start image starts (subst (λ (bs : List ℕ). base + start + length bs ≤ 2 ^ 32) same fits)
+      (subst (λ (bs : List ℕ). HasJust (base + start) bs image) same has)
 
-  pub raw_refused : (result : Result (Vec ℕ Global) Refusal)
-      → IfErr result (λ why. ((why ≡ BinSize) × ((2 ^ 32 ≤ base + start) ⊎ (2 ^ 32 < base + start + length raw))) ⊎ (why ≡ Build Memory))
-      → IfErr result (RefusesText base layout bytes (Bin place path))
-  raw_refused (Ok text) has = tt
-  raw_refused (Err why) (inl (told, far)) =
-      subst (RefusesText base layout bytes (Bin place path)) (sym told)
+  pub raw_refused : (why : Refusal) → ((why ≡ BinSize) × ((2 ^ 32 ≤ base + start) ⊎ (2 ^ 32 < base + start + length raw))) ⊎ (why ≡ Build Memory)
+      → RefusesData base layout bytes (Bin place path) why
+  raw_refused why (inl (told, far)) =
+      subst (RefusesData base layout bytes (Bin place path)) (sym told)
       (TooFar place path start starts (subst (λ (bs : List ℕ). (2 ^ 32 ≤ base + start) ⊎ (2 ^ 32 < base + start + length bs)) same far))
-  raw_refused (Err why) (inr told) = subst (RefusesText base layout bytes (Bin place path)) (sym told) (OutOfMemory place path)
+  raw_refused why (inr told) = subst (RefusesData base layout bytes (Bin place path)) (sym told) (OutOfMemory place path)

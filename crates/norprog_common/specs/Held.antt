@@ -6,7 +6,7 @@ use Rattle.norprog_common.specs.Chip.{origin_of, task_chip}
 use Rattle.norprog_common.specs.declared.inputs.Texts.{Texts}
 use Rattle.norprog_common.specs.declared.request.Request.{Request}
 
--- what the files of a job hold, the content aside: the text of the image's first file, and the image of all where there are several; the tables are those of SFDP bytes, or the sheet, and have no part in a chip of a size
+-- what the files of a job hold, the content aside: the text of the image's one file of Intel HEX, or in place of that the image of a raw file or of several files; the tables are those of SFDP bytes, or the sheet, and have no part in a chip of a size
 pub record Held : Type 0 where
   pub hex : List ℕ
   pub image : Option Pairs

@@ -1,12 +1,11 @@
 -- The image of a job, by the file that a command line names (this project's).
-use Rattle.std.specs.Prelude.{◌≡◌, ◌≢◌, ◌⊎◌, ◌++◌, map, ℕ, ◌+◌, ◌-◌, ◌<◌, ◌≤◌, ◌^◌, ◌==◌, Bool, true, false, nat_lt, if◌then◌else◌, List, length, Option, Some, None}
+use Rattle.std.specs.Prelude.{◌≡◌, ◌≢◌, ◌⊎◌, ◌++◌, map, ℕ, ◌+◌, ◌-◌, ◌<◌, ◌≤◌, ◌^◌, ◌==◌, Bool, true, false, nat_lt, if◌then◌else◌, List, [], length, Option, Some, None}
 use Rattle.std.specs.List.{after_first, before_first, list_any, position_or_len}
 use Rattle.nor_hex.specs.Faults.{IsFault, IsImage}
 use Rattle.nor_hex.specs.Image.{Pairs}
-use Rattle.nor_hex.specs.Union.{IsFirstClash, IsUnion}
+use Rattle.nor_hex.specs.Union.{HasJust, IsFirstClash, IsUnion}
 use Rattle.nor_hex.specs.declared.fault.HexFault.{HexFault}
 use Rattle.nor_hex.specs.declared.fault.HexFault.TheVariants as hex
-use Rattle.nor_hex.specs.WrittenSegments.{hex_text}
 use Rattle.nor_job.specs.Causes.{LayoutSays}
 use Rattle.nor_job.specs.Lifted.{lifted_hex, lifted_layout}
 use Rattle.nor_job.specs.declared.fault.BuildFault.TheVariants as fault
@@ -18,6 +17,8 @@ use Rattle.norprog_common.specs.Values.{base_of}
 use Rattle.norprog_common.specs.declared.faults.Refusal.{Refusal}
 use Rattle.norprog_common.specs.declared.given.ImageArgs.{ImageArgs}
 use Rattle.norprog_common.specs.declared.faults.Refusal.TheVariants.{BinLength, BinRegion, BinSize, Build, Conflict}
+use Rattle.norprog_common.specs.declared.image.ImageData.{ImageData}
+use Rattle.norprog_common.specs.declared.image.ImageData.TheVariants as given
 use Rattle.norprog_common.specs.declared.image.ImageFile.{ImageFile}
 use Rattle.norprog_common.specs.declared.image.ImageFile.TheVariants as file
 use Rattle.norprog_common.specs.declared.image.Place as declared
@@ -102,31 +103,48 @@ pub data Misses (layout : Option (List ℕ)) (len : ℕ) : Where → Refusal →
   InLayout : (name : List ℕ) (regions : List Region) (why : Refusal) → LayoutSays layout regions → MissesIn regions name len why
       → Misses layout len (Named name) why
 
--- the text of an image whose file has these bytes: Intel HEX as it is; of raw bytes the one that gives just these, from the base and their
--- place on
-pub data IsTextOf (base : ℕ) (layout : Option (List ℕ)) (bytes : List ℕ) : Image → List ℕ → Type 0 where
-  As_is : (path : List ℕ) → IsTextOf base layout bytes (Hex path) bytes
-  Written : (place : Where) (path : List ℕ) (start : ℕ) → IsStart layout (length bytes) place start → base + start + length bytes ≤ 2 ^ 32
-      → IsTextOf base layout bytes (Bin place path) (hex_text (base + start) bytes)
+-- the text, and the image in its place
+abbrev pub hex_in : ImageData → List ℕ
+hex_in (given.Text text) = text.items
+hex_in (given.Image image) = []
 
--- why there is none
-pub data RefusesText (base : ℕ) (layout : Option (List ℕ)) (bytes : List ℕ) : Image → Refusal → Type 0 where
-  Nowhere : (place : Where) (path : List ℕ) (why : Refusal) → Misses layout (length bytes) place why → RefusesText base layout bytes (Bin place path) why
+abbrev pub own_in : ImageData → Option Pairs
+own_in (given.Text text) = None
+own_in (given.Image image) = Some image
+
+-- what the file of an image gives that has these bytes: the text of Intel HEX as it is; raw bytes from the base and their place on
+pub data IsDataOf (base : ℕ) (layout : Option (List ℕ)) (bytes : List ℕ) : Image → ImageData → Type 0 where
+  As_is : (path : List ℕ) (its : ImageData) → hex_in its ≡ bytes → own_in its ≡ None → IsDataOf base layout bytes (Hex path) its
+  Laid : (place : Where) (path : List ℕ) (start : ℕ) (image : Pairs) → IsStart layout (length bytes) place start
+      → base + start + length bytes ≤ 2 ^ 32 → HasJust (base + start) bytes image → IsDataOf base layout bytes (Bin place path) (given.Image image)
+
+-- why it gives nothing
+pub data RefusesData (base : ℕ) (layout : Option (List ℕ)) (bytes : List ℕ) : Image → Refusal → Type 0 where
+  Nowhere : (place : Where) (path : List ℕ) (why : Refusal) → Misses layout (length bytes) place why → RefusesData base layout bytes (Bin place path) why
   TooFar : (place : Where) (path : List ℕ) (start : ℕ) → IsStart layout (length bytes) place start
-      → (2 ^ 32 ≤ base + start) ⊎ (2 ^ 32 < base + start + length bytes) → RefusesText base layout bytes (Bin place path) BinSize
-  OutOfMemory : (place : Where) (path : List ℕ) → RefusesText base layout bytes (Bin place path) (Build fault.Memory)
-
--- ---- several files
--- this gives what an image gives, and what a text of Intel HEX gives
-pub data IsJoined (image : Pairs) (text : List ℕ) (both : Pairs) : Type 0 where
-  Joined : (other : Pairs) → IsImage text other → IsUnion image other both → IsJoined image text both
+      → (2 ^ 32 ≤ base + start) ⊎ (2 ^ 32 < base + start + length bytes) → RefusesData base layout bytes (Bin place path) BinSize
+  OutOfMemory : (place : Where) (path : List ℕ) → RefusesData base layout bytes (Bin place path) (Build fault.Memory)
 
 -- the text has a fault
 pub data RefusesHex (text : List ℕ) : Refusal → Type 0 where
   NoHex : (why : HexFault) → (why ≢ hex.Memory → IsFault text why) → RefusesHex text (Build (lifted_hex why))
 
--- why there is none: the text has a fault; or both give this address, and no lower one, differently
-pub data RefusesJoin (image : Pairs) (text : List ℕ) : Refusal → Type 0 where
-  NoOther : (why : Refusal) → RefusesHex text why → RefusesJoin image text why
-  Clashes : (other : Pairs) (at : ℕ) → IsImage text other → IsFirstClash image other at → RefusesJoin image text (Conflict at)
-  NoRoom : RefusesJoin image text (Build fault.Memory)
+-- the image that is given; why there is none
+abbrev pub IsImageIn : ImageData → Pairs → Type 0
+IsImageIn (given.Text text) image = IsImage text.items image
+IsImageIn (given.Image own) image = image ≡ own
+
+abbrev pub RefusesImage : ImageData → Refusal → Type 0
+RefusesImage (given.Text text) why = RefusesHex text.items why
+RefusesImage (given.Image own) why = ⊥
+
+-- ---- several files
+-- this gives what an image gives, and what is given beside it
+pub data IsJoined (image : Pairs) (beside : ImageData) (both : Pairs) : Type 0 where
+  Joined : (other : Pairs) → IsImageIn beside other → IsUnion image other both → IsJoined image beside both
+
+-- why there is none: a text has a fault; or both give this address, and no lower one, differently
+pub data RefusesJoin (image : Pairs) (beside : ImageData) : Refusal → Type 0 where
+  NoOther : (why : Refusal) → RefusesImage beside why → RefusesJoin image beside why
+  Clashes : (other : Pairs) (at : ℕ) → IsImageIn beside other → IsFirstClash image other at → RefusesJoin image beside (Conflict at)
+  NoRoom : RefusesJoin image beside (Build fault.Memory)

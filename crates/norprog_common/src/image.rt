@@ -1,11 +1,12 @@
-//! The image of a job: its file, as a command line names it, and its text.
+//! The image of a job: its files, as a command line names them, and what each gives.
 
 ghost use Rattle.std.specs.Prelude.{◌≡◌, ◌≢◌, ◌⊎◌, ◌+◌, ◌-◌, ◌<◌, ◌≤◌, ◌^◌, length, option_map};
 ghost use Rattle.std.specs.Prelude.{◌++◌, IfErr, IfOk, MatchResult, map, slice_get};
-ghost use Rattle.nor_hex.specs.WrittenSegments.{hex_text};
+ghost use Rattle.nor_hex.specs.Union.{HasJust};
 ghost use Rattle.nor_job.specs.declared.fault.BuildFault.TheVariants.{Memory};
 ghost use Rattle.nor_target.specs.Shares.{region_named};
-ghost use Rattle.norprog_common.specs.Image.{IsStart, IsTextOf, Misses, MissesIn, RefusesText};
+ghost use Rattle.norprog_common.specs.Image.{IsDataOf, IsStart, Misses, MissesIn, RefusesData};
+ghost use Rattle.norprog_common.specs.Image.{hex_in, own_in};
 ghost use Rattle.norprog_common.specs.Image.{bin_in, fills_chip, image_in, images_in, place_by};
 ghost use Rattle.norprog_common.specs.Image.{is_placeless};
 ghost use Rattle.norprog_common.specs.Image.{Named, StartsIn, path_of, place_in};
@@ -15,7 +16,7 @@ ghost use Rattle.norprog_common.specs.declared.faults.Refusal.TheVariants.{Build
 use crate::faults::{Length, Refusal};
 use crate::given::ImageArgs;
 use crate::values::base as address;
-use nor_hex::{fits, hex_of};
+use nor_hex::{Image, fits};
 use nor_job::BuildFault;
 use nor_layout::Region;
 use std::alloc::{AllocError, Global};
@@ -41,6 +42,28 @@ pub enum ImageFile<'a> {
     Hex(&'a str),
     /// Raw bytes.
     Bin { place: Place<'a>, path: &'a str },
+}
+
+/// What the files of an image give.
+#[derive(Drop)]
+pub enum ImageData {
+    /// The text of one file of Intel HEX, which isn't read yet.
+    Text(Vec<u8>),
+    /// The bytes of a raw file, or of several files, at their addresses.
+    Image(Image),
+}
+
+impl ImageData {
+    /// The text, or the image in its place.
+    pub fn into_parts(self, alloc: Global) -> (Vec<u8>, Option<Image>)
+        ensures text { result.0.items ≡ hex_in self }
+        ensures image { result.1 ≡ own_in self }
+    {
+        match self {
+            ImageData::Text(text) => (text, None),
+            ImageData::Image(image) => (Vec::new(alloc), Some(image)),
+        }
+    }
 }
 
 /// The first of the files that are named, if there is one.
@@ -137,29 +160,30 @@ pub fn path_of(image: ImageFile<'_>) -> &str
     }
 }
 
-/// The HEX text of an image whose file has these bytes: of raw bytes the one that gives just these,
-/// from `base` plus their place on.
+/// What the file of an image gives that has these bytes: raw bytes lie from `base` plus their place
+/// on.
 ///
 /// `BinRegion` where no region has the name; `Layout` where the layout that has to have it is none;
 /// `BinLength` where the region has another size; `BinSize` where a byte would lie past FFFFFFFFh;
 /// `Memory`.
-pub fn image_text(
+pub fn image_data(
     alloc: Global,
     image: ImageFile<'_>,
     base: u32,
     layout: Option<&[u8]>,
     bytes: Vec<u8>,
-) -> Result<Vec<u8>, Refusal>
-    ensures text { IfOk result (λ text. IsTextOf base (option_map (λ t. t.now) layout.entry)
-        bytes.items (image_in image.entry) text.items) }
-    ensures refused { IfErr result (RefusesText base (option_map (λ t. t.now) layout.entry)
+) -> Result<ImageData, Refusal>
+    ensures gives { IfOk result (IsDataOf base (option_map (λ t. t.now) layout.entry) bytes.items
+        (image_in image.entry)) }
+    ensures refused { IfErr result (RefusesData base (option_map (λ t. t.now) layout.entry)
         bytes.items (image_in image.entry)) }
 {
     match image {
-        ImageFile::Hex(_) => Ok(bytes),
+        ImageFile::Hex(_) => Ok(ImageData::Text(bytes)),
         ImageFile::Bin { place, path: _ } => {
             let start = start_of(alloc, place, layout, bytes.len() as u64)?;
-            raw_text(alloc, base, start, bytes.as_slice())
+            let image = raw_image(alloc, base, start, bytes.as_slice())?;
+            Ok(ImageData::Image(image))
         }
     }
 }
@@ -244,10 +268,10 @@ fn start_in(region: &Region<'_>, len: u64) -> Result<u32, Refusal>
     }
 }
 
-/// The HEX text of these bytes from `base` plus `start` on.
-fn raw_text(alloc: Global, base: u32, start: u32, bytes: &[u8]) -> Result<Vec<u8>, Refusal>
-    ensures text { IfOk result (λ text. (base + start + length bytes.now ≤ 2 ^ 32)
-        × (text.items ≡ hex_text (base + start) bytes.now)) }
+/// These bytes from `base` plus `start` on.
+fn raw_image(alloc: Global, base: u32, start: u32, bytes: &[u8]) -> Result<Image, Refusal>
+    ensures image { IfOk result (λ image. (base + start + length bytes.now ≤ 2 ^ 32)
+        × HasJust (base + start) bytes.now image) }
     ensures refused { IfErr result (λ why. ((why ≡ BinSize) × ((2 ^ 32 ≤ base + start)
         ⊎ (2 ^ 32 < base + start + length bytes.now))) ⊎ (why ≡ Build Memory)) }
 {
@@ -257,8 +281,8 @@ fn raw_text(alloc: Global, base: u32, start: u32, bytes: &[u8]) -> Result<Vec<u8
     if !fits(bytes.len() as u64, first) {
         return Err(Refusal::BinSize);
     }
-    match hex_of(alloc, first, bytes) {
-        Ok(text) => Ok(text),
+    match Image::of_bytes(alloc, first, bytes) {
+        Ok(image) => Ok(image),
         Err(_) => Err(Refusal::MEMORY),
     }
 }

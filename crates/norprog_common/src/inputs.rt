@@ -11,9 +11,9 @@ use nor_job::Inputs;
 /// What the input files of a job hold, the content aside.
 #[derive(Drop)]
 pub struct Texts {
-    /// The text of the image's first file.
+    /// The text of the image's one file of Intel HEX.
     pub hex: Vec<u8>,
-    /// The image of all files, where there are several.
+    /// In place of that the image of a raw file, or of several files.
     pub image: Option<Image>,
     pub layout: Option<Vec<u8>>,
     /// The chip's tables, or the text of its sheet; nothing for a chip of a size.

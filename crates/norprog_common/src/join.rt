@@ -2,17 +2,17 @@
 
 ghost use Rattle.std.specs.Prelude.{IfErr, IfOk};
 ghost use Rattle.nor_hex.specs.Faults.{IsImage};
-ghost use Rattle.norprog_common.specs.Image.{IsJoined, RefusesHex, RefusesJoin};
+ghost use Rattle.norprog_common.specs.Image.{IsImageIn, IsJoined, RefusesHex, RefusesImage};
+ghost use Rattle.norprog_common.specs.Image.{RefusesJoin};
 
 use crate::faults::Refusal;
+use crate::image::ImageData;
 use nor_hex::{Image, UnionFault, read};
 use nor_job::BuildFault;
 use std::alloc::Global;
 
 /// The image of a text of Intel HEX.
-///
-/// `Build` as [`nor_hex::read`] reports a fault of the text.
-pub fn hex_image(alloc: Global, text: &[u8]) -> Result<Image, Refusal>
+fn hex_image(alloc: Global, text: &[u8]) -> Result<Image, Refusal>
     ensures image { IfOk result (λ image. IsImage text.now image) }
     ensures refused { IfErr result (RefusesHex text.now) }
 {
@@ -22,15 +22,28 @@ pub fn hex_image(alloc: Global, text: &[u8]) -> Result<Image, Refusal>
     }
 }
 
-/// The image that gives what this one gives, and what a text of Intel HEX gives.
+/// The image that is given: of a text the one that it spells.
 ///
-/// `Build` as [`hex_image`]; `Conflict` of the lowest address that both give, differently; `Memory`
-/// where a growth is refused.
-pub fn joined(alloc: Global, image: &Image, text: &[u8]) -> Result<Image, Refusal>
-    ensures joined { IfOk result (λ both. IsJoined image.now text.now both) }
-    ensures refused { IfErr result (RefusesJoin image.now text.now) }
+/// `Build` as [`nor_hex::read`] reports a fault of the text.
+pub fn given_image(alloc: Global, given: ImageData) -> Result<Image, Refusal>
+    ensures image { IfOk result (IsImageIn given) }
+    ensures refused { IfErr result (RefusesImage given) }
 {
-    let other = hex_image(alloc, text)?;
+    match given {
+        ImageData::Text(text) => hex_image(alloc, text.as_slice()),
+        ImageData::Image(image) => Ok(image),
+    }
+}
+
+/// The image that gives what this one gives, and what is given beside it.
+///
+/// `Build` as [`given_image`]; `Conflict` of the lowest address that both give, differently;
+/// `Memory` where a growth is refused.
+pub fn joined(alloc: Global, image: &Image, beside: ImageData) -> Result<Image, Refusal>
+    ensures joined { IfOk result (IsJoined image.now beside) }
+    ensures refused { IfErr result (RefusesJoin image.now beside) }
+{
+    let other = given_image(alloc, beside)?;
     match image.union(alloc, &other) {
         Ok(both) => Ok(both),
         Err(UnionFault::Conflict { address }) => Err(Refusal::Conflict(address)),

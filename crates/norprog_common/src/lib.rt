@@ -24,9 +24,11 @@ pub use given::{
     Aim, BuildArgs, CheckArgs, ChipArgs, DrawArgs, FlashArgs, Given, HexArgs, ImageArgs, ListArgs,
     OutFile, PlanArgs, PlayArgs, ReadArgs, RunArgs, ScriptArgs, SetupArgs,
 };
-pub use image::{ImageFile, Place, fills_chip, first_of, image_text, images_of, path_of};
+pub use image::{
+    ImageData, ImageFile, Place, fills_chip, first_of, image_data, images_of, path_of,
+};
 pub use inputs::{Texts, inputs_of};
-pub use join::{hex_image, joined};
+pub use join::{given_image, joined};
 pub use looked::look_through;
 pub use request::{Request, request_of};
 pub use rules::{ImageRules, job_rules, refuse_image, refuse_partial};

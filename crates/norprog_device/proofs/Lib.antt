@@ -1,3 +1,4 @@
 pub mod PartLemmas
 mod LineLemmas
 pub mod CarriedLemmas
+pub mod DoingLemmas

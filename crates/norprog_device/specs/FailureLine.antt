@@ -21,6 +21,7 @@ abbrev pub failure_line : ℕ → Failure → List ℕ
 failure_line step (failure.Exchange why) = failed_line step (fault_word why)
 failure_line step failure.Busy = wrong_line (wrong_number PollNever) step
 failure_line step failure.Carried = failed_line step (codes "carried")
+failure_line step failure.Memory = failed_line step (codes "memory")
 failure_line step (failure.Differs d) = codes "failed at " ++ (decimal step ++ other_line (codes " differs at ") (codes " want ") d)
 failure_line step (failure.Gives chip want) =
     codes "failed at " ++ (decimal step ++ (codes " differs chip " ++ (hex_pair chip ++ (codes " want " ++ (hex_pair want ++ codes "\n")))))

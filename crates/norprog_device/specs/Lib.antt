@@ -7,3 +7,4 @@ pub mod Shown
 pub mod FailureLine
 pub mod Reported
 pub mod FailureBlame
+pub mod Doing

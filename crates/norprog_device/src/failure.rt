@@ -1,7 +1,7 @@
 //! Why a step isn't done.
 
 ghost use Rattle.std.specs.Prelude.{◌≡◌};
-ghost use Rattle.norprog_device.specs.FailureBlame.{fault_of_failure};
+ghost use Rattle.norprog_device.specs.FailureBlame.{fault_of_failure, is_sent};
 
 use nor_reader::Difference;
 use nor_serprog::Fault;
@@ -15,6 +15,8 @@ pub enum Failure {
     Busy,
     /// It is no operation of the device.
     Carried,
+    /// Memory was refused for the steps that come next.
+    Memory,
     /// Of a step that reads the chip's bytes the first that is another.
     Differs(Difference),
     /// Of another step the first byte that is another.
@@ -33,7 +35,20 @@ pub fn fault_of_failure(why: Failure) -> Option<Fault>
 {
     match why {
         Failure::Exchange(fault) => Some(fault),
-        Failure::Busy | Failure::Carried => None,
+        Failure::Busy | Failure::Carried | Failure::Memory => None,
         Failure::Differs(_) | Failure::Gives { .. } => None,
+    }
+}
+
+/// Whether steps were sent where this one isn't done: none at `Carried`, and at `Memory` those
+/// before it.
+pub fn is_sent(step: u64, why: Failure) -> bool
+    ensures { result ≡ is_sent step why }
+{
+    match why {
+        Failure::Carried => false,
+        Failure::Memory => step != 0,
+        Failure::Exchange(_) | Failure::Busy => true,
+        Failure::Differs(_) | Failure::Gives { .. } => true,
     }
 }

@@ -24,6 +24,7 @@ pub fn write_failure<W: ByteOut>(step: u64, why: Failure, writer: &mut W) -> Res
         Failure::Exchange(fault) => write_failed(step, word(fault), writer),
         Failure::Busy => write_wrong(wrong_number(Wrong::PollNever), step, writer),
         Failure::Carried => write_failed(step, b"carried", writer),
+        Failure::Memory => write_failed(step, b"memory", writer),
         Failure::Differs(d) => write_other(step, d, writer),
         Failure::Gives { chip, want } => write_gives(step, chip, want, writer),
     }

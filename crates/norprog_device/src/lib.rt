@@ -7,13 +7,15 @@
 //! device is set, [`write_waiting`] which one is waited for, and [`write_word`] a text as a shell
 //! reads it; [`write_status`], [`write_digits`] and [`write_difference`] what lines show of a chip.
 //!
-//! [`Failure`] says why a device didn't do a step of a script: [`failure_at`] from where it
-//! halted, [`failure_by`] of a read after all steps; [`fault_of_failure`] how the exchange
-//! ended that ended it. [`write_failure`] writes its line, [`write_wrong`] that of a number of what
-//! goes wrong.
+//! [`do_window`] has a device do some steps of a script. [`Failure`] says why a device didn't do a
+//! step: [`failure_at`] from where it halted, [`failure_by`] of a read after all steps;
+//! [`fault_of_failure`] how the exchange ended that ended it, and [`is_sent`] whether steps were
+//! sent before. [`write_failure`] writes its line, [`write_wrong`] that of a number of what goes
+//! wrong.
 #![tactic(auto)]
 
 mod blame;
+mod doing;
 mod failure;
 mod failure_line;
 mod fault;
@@ -25,7 +27,8 @@ mod shell;
 mod shown;
 
 pub use blame::{fault_of_greeting, fault_of_mismatch, is_cut};
-pub use failure::{Failure, fault_of_failure};
+pub use doing::{Doing, Stop, do_window};
+pub use failure::{Failure, fault_of_failure, is_sent};
 pub use failure_line::{write_failure, write_wrong};
 pub use fault::DeviceFault;
 pub use line::{refuse_device, word, write_device};

@@ -18,8 +18,9 @@ use Rattle.norprog_flash.specs.Stops.{CantPlan}
 use Rattle.norprog_common.specs.declared.faults.Refusal.{Refusal}
 use Rattle.norprog_read.specs.declared.asked.Reading.{Reading}
 use Rattle.norprog_flash.specs.Task.{task_on}
-use Rattle.norprog_flash.specs.Worked as steps
-use Rattle.norprog_flash.specs.Worked.{Cannot, FailedAt, Goes, GoesOn, MissedIt, Stopped, Worked, WorksOut, flashing}
+use Rattle.norprog_device.specs.Doing as steps
+use Rattle.norprog_device.specs.Doing.{FailedAt}
+use Rattle.norprog_flash.specs.Worked.{Cannot, Goes, GoesOn, MissedIt, Stopped, Worked, WorksOut, doing_in, flashing_in}
 use Rattle.norprog_device.proofs.CarriedLemmas.{never_carried, never_misses}
 use Rattle.norprog_flash.proofs.PlannedLemmas.{every_flashes, every_keeps, every_rests}
 use Rattle.norprog_flash.specs.Work.{Plan}
@@ -30,12 +31,12 @@ module _ (close : Closes) (break : Breaks) (rest : Rests) (s : Session) (before 
   todo = record { aim = aims; planned = planned }
 
   worked_ends : (last : Wire) (by : ReadBy) (ending : Ending) → GivesBy s.reading.meaning (start_of (task_on s.job s.reading)) by
-      → AreCarried s.limits p.steps → WorksOut s read last (flashing p by) ending → EndsWork s before last out ending
+      → AreCarried s.limits p.steps → WorksOut (doing_in s) read last (flashing_in s p by) ending → EndsWork s before last out ending
   worked_ends last by ending way carried (Worked worked) =
       AllDone p read todo by way worked (every_flashes s before read p out planned whole close worked.done worked.steps)
-  worked_ends last by ending way carried (Stopped it (FailedAt halt why halted failed)) =
-      Halted p read todo halt why (never_carried s.reading.meaning s.limits s.job.ask.turns read last p.steps halt why carried halted failed) halted failed
-      (every_keeps s before read p out planned whole break last halt halted)
+  worked_ends last by ending way carried (Stopped it (FailedAt h)) =
+      Halted p read todo h.halt h.why (never_carried s.reading.meaning s.limits s.job.ask.turns read last p.steps h.halt h.why carried h.halted h.failed) h.halted h.failed
+      (every_keeps s before read p out planned whole break last h.halt h.halted)
   worked_ends last by ending way carried (Stopped it (steps.Starved step rested)) = Starved p read todo step rested (every_rests s before read p out planned whole rest last step rested)
   worked_ends last by ending way carried (MissedIt why missed) =
       Missed p read todo by why (never_misses missed.mismatch why missed.failed) way missed

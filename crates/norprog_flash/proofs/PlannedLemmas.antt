@@ -15,7 +15,8 @@ use Rattle.nor_serprog.specs.Done.{HasDoneAll, IsDoable}
 use Rattle.nor_serprog.specs.Row.{HasHalted}
 use Rattle.nor_base.specs.Wire.{Wire}
 use Rattle.norprog_flash.specs.Begun.{HasPlanned, Printed, Session}
-use Rattle.norprog_flash.specs.Worked.{HasRested, doing_in}
+use Rattle.norprog_device.specs.Doing.{HasRested}
+use Rattle.norprog_flash.specs.Worked.{doing_in}
 use Rattle.norprog_flash.specs.Task.{dump_of, goal_of, task_on}
 use Rattle.norprog.specs.Stepper.{Stepping, steps_by, update_of}
 use Rattle.norprog.specs.Update.{Update, update, IsDoneBy}

@@ -1,12 +1,15 @@
 -- The work of the narrowed task is the work of the task.
-use Rattle.std.proofs.Common.{◌≡◌, ◌⊎◌, inl, inr, ℕ, ◌<◌, ◌^◌, List, length, sym, ap, subst, ◌∙◌, arith}
+use Rattle.std.proofs.Common.{◌≡◌, ◌⊎◌, inl, inr, ℕ, ◌+◌, ◌<◌, ◌^◌, List, [], ◌∷◌, length, map, refl, sym, ap, subst, ◌∙◌, arith}
+use Rattle.std.specs.List.{enumerate_from}
 use Rattle.nor_base.specs.declared.step.Step.{Step}
 use Rattle.nor_base.specs.Parameters.{Parameters}
-use Rattle.nor_hex.specs.Image.{Pairs}
+use Rattle.nor_base.specs.Target.{target}
+use Rattle.nor_hex.specs.Image.{Pairs, byte_at}
 use Rattle.nor_job.proofs.ChipLemmas.{one_chip}
 use Rattle.nor_job.specs.declared.fault.BuildFault.{BuildFault}
 use Rattle.nor_job.specs.declared.fault.BuildFault.TheVariants.{Memory}
-use Rattle.nor_job.specs.Causes.{AreAccepted}
+use Rattle.nor_job.proofs.OneLemmas.{image_same, regions_same}
+use Rattle.nor_job.specs.Causes.{AreAccepted, HasRegions}
 use Rattle.nor_job.specs.Status.{start_of}
 use Rattle.nor_job.specs.Task.{Task}
 use Rattle.nor_job.specs.Wanted.{wanted}
@@ -100,3 +103,44 @@ module _ (keeps : TargetKeeps) (gives : TargetGives) (t : Task) (content old : L
         report = told r is;
       },
     )
+
+-- ---- work to the target of the content itself
+
+each_same : (f g : ℕ × ℕ → ℕ) → ((p : ℕ × ℕ) → f p ≡ g p) → (ps : List (ℕ × ℕ)) → map f ps ≡ map g ps
+each_same f g same [] = refl
+each_same f g same (p ∷ ps) = rw (same p, each_same f g same ps) refl
+
+-- a task has one target
+wanted_same : (t : Task) (a b : Pairs) (regions : List Region) (content : List ℕ) → ((address : ℕ) → byte_at a address ≡ byte_at b address)
+    → wanted t a regions content ≡ wanted t b regions content
+unfolding target
+wanted_same t a b regions content same = each_same _ _ (λ p. rw (same (t.base + p.0)) refl) (enumerate_from 0 content)
+
+module _ (t : Task) (content : List ℕ) (goal : Goal) (g : IsGoal t content goal) where
+  pub fresh_is : (lines : List ℕ) (report : Report) (plan : HasPlan t content lines report)
+      → (steps : List Step) × IsWork t content content (record { goal = goal.bytes.items; steps = steps; lines = lines; report = report })
+  fresh_is lines report plan =
+      let named : HasRegions t g.image g.regions = g.accepted.named in
+      let other : HasRegions t plan.image plan.regions = plan.accepted.named in
+      let regions = regions_same t.layout g.regions plan.regions named.layout other.layout in
+      let is : goal.bytes.items ≡ wanted t plan.image plan.regions content =
+      g.bytes ∙ ap (λ rs. wanted t g.image rs content) regions
+      ∙ wanted_same t g.image plan.image plan.regions content (image_same t.image t.hex g.image plan.image named.imaged.spelled other.imaged.spelled) in (
+        plan.steps,
+        record {
+          image = plan.image;
+          regions = plan.regions;
+          m = plan.m;
+          accepted = plan.accepted;
+          goal_is = is;
+          workable = subst (λ (w : List ℕ). CanBeDone (update plan.m (start_of t) t.verify content w)) (sym is) plan.workable;
+          planned = subst (λ (w : List ℕ). IsDoneBy (update plan.m (start_of t) t.verify content w) plan.steps) (sym is) plan.planned;
+          lines = subst (λ (w : List ℕ). lines ≡ plan_text plan.m (start_of t) content w) (sym is) plan.text;
+          report = subst (λ (w : List ℕ). report ≡ report_of (update plan.m (start_of t) t.verify content w) (ignored_of t plan.image plan.regions plan.m) plan.steps) (sym is) plan.told;
+        },
+      )
+
+  pub fresh_refused : (why : BuildFault) → StopsPlanning t content content why ⊎ (why ≡ Memory) → RefusesWork t content content why
+  fresh_refused why (inl stops) = inr stops
+  fresh_refused why (inr memory) =
+      subst (RefusesWork t content content) (sym memory) (inr (record { image = g.image; regions = g.regions; m = g.m; accepted = g.accepted; cause = tt }))

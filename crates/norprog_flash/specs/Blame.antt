@@ -4,7 +4,7 @@ use Rattle.nor_serprog.specs.declared.fault.Fault.{Fault}
 use Rattle.norprog_device.specs.Blame.{fault_of_greeting}
 use Rattle.norprog_device.specs.FailureBlame.{fault_of_failure}
 use Rattle.norprog_flash.specs.declared.ending.Ending.{Ending}
-use Rattle.norprog_flash.specs.declared.ending.Ending.TheVariants.{Planned, Compared, Done, Failed, NoMemory}
+use Rattle.norprog_flash.specs.declared.ending.Ending.TheVariants.{Planned, Compared, Done, Failed}
 use Rattle.norprog_flash.specs.declared.ending.Unflashed.{Unflashed}
 use Rattle.norprog_flash.specs.declared.ending.Unflashed.TheVariants.{Refused, Device, Unlike, Closed}
 use Rattle.norprog_read.specs.Blame.{fault_of_unlike}
@@ -15,7 +15,6 @@ fault_of_ending Planned = None
 fault_of_ending (Compared comparison) = None
 fault_of_ending (Done transactions) = None
 fault_of_ending (Failed step why) = fault_of_failure why
-fault_of_ending (NoMemory step) = None
 
 -- how the exchange did for which work isn't begun
 abbrev pub fault_of_stop : Unflashed → Option Fault

@@ -12,14 +12,15 @@ use Rattle.nor_serprog.specs.Steps.{IsFirstNotCarried}
 use Rattle.norprog_common.specs.declared.given.Aim.TheVariants as aim
 use Rattle.nor_base.specs.Wire.{Wire}
 use Rattle.norprog_device.specs.declared.failure.Failure.{Failure}
-use Rattle.norprog_device.specs.declared.failure.Failure.TheVariants.{Carried}
+use Rattle.norprog_device.specs.Doing.{HasRested}
+use Rattle.norprog_device.specs.declared.failure.Failure.TheVariants.{Carried, Memory}
 use Rattle.norprog_device.specs.Reported.{IsFailureAt}
 use Rattle.norprog_flash.specs.declared.ending.Ending.{Ending}
-use Rattle.norprog_flash.specs.declared.ending.Ending.TheVariants.{Planned, Compared, Done, Failed, NoMemory}
+use Rattle.norprog_flash.specs.declared.ending.Ending.TheVariants.{Planned, Compared, Done, Failed}
 use Rattle.norprog_flash.specs.declared.job.Job.{Job}
 use Rattle.norprog_flash.specs.Begun.{HasPlanned, HasRead, Printed, PrintsPlan, Session}
 use Rattle.norprog_flash.specs.Task.{dump_of, goal_of, task_on}
-use Rattle.norprog_flash.specs.Worked.{doing_in, flashing, HasMissed, HasRested, HasWorked}
+use Rattle.norprog_flash.specs.Worked.{doing_in, flashing_in, HasMissed, HasWorked}
 use Rattle.norprog_read.specs.declared.asked.Reading.{Reading}
 use Rattle.norprog_flash.specs.declared.compared.Comparison.{Comparison}
 use Rattle.norprog_flash.specs.Compared.{IsComparison}
@@ -64,7 +65,7 @@ pub data EndsWork (s : Session) (before after : Wire) (out : Printed) : Ending �
   -- each step was done, and then the chip gave just what it must hold, and past its end what one that holds just this gives, unless it may be
   -- larger, by reads of no more bytes than the device gives at once
   AllDone : (p : Plan) (read : Wire) (todo : IsToDo s before read p out) (by : ReadBy)
-      → GivesBy s.reading.meaning (start_of (task_on s.job s.reading)) by → (worked : HasWorked s read after (flashing p by) (Ok tt))
+      → GivesBy s.reading.meaning (start_of (task_on s.job s.reading)) by → (worked : HasWorked (doing_in s) read after (flashing_in s p by) (Ok tt))
       → EveryChipFlashes todo worked.done → EndsWork s before after out (Done (length p.steps))
   -- a step can't be done by this device: nothing was sent after the chip was read
   NotCarried : (p : Plan) (step : ℕ) → IsToDo s before after p out → IsFirstNotCarried s.limits p.steps step → EndsWork s before after out (Failed step Carried)
@@ -72,10 +73,10 @@ pub data EndsWork (s : Session) (before after : Wire) (out : Printed) : Ending �
   Halted : (p : Plan) (read : Wire) (todo : IsToDo s before read p out) (halt : Halt) (why : Failure) → why ≢ Carried
       → (halted : HasHalted read after s.limits s.job.ask.turns p.steps halt) → IsFailureAt s.reading.meaning p.steps halt why
       → EveryChipKeeps todo halt.step (halted.at ∷ halted.beyond) → EndsWork s before after out (Failed halt.step why)
-  -- memory was refused for the next step, of which nothing was sent
+  -- memory was refused for the steps from this one on, of which nothing was sent
   Starved : (p : Plan) (read : Wire) (todo : IsToDo s before read p out) (step : ℕ) → (rested : HasRested (doing_in s) read after p.steps step)
-      → EveryChipKeeps todo step (rested.next ∷ []) → EndsWork s before after out (NoMemory step)
+      → EveryChipKeeps todo step (rested.next ∷ []) → EndsWork s before after out (Failed step Memory)
   -- each step was done, but then the chip didn't give what it must hold
   Missed : (p : Plan) (read : Wire) (todo : IsToDo s before read p out) (by : ReadBy) (why : Failure) → why ≢ Carried
-      → GivesBy s.reading.meaning (start_of (task_on s.job s.reading)) by → (missed : HasMissed s read after (flashing p by) why)
+      → GivesBy s.reading.meaning (start_of (task_on s.job s.reading)) by → (missed : HasMissed (doing_in s) read after (flashing_in s p by) why)
       → EveryChipFlashes todo missed.worked.done → EndsWork s before after out (Failed (length p.steps) why)

@@ -11,7 +11,6 @@ pub mod Way
 pub mod Begun
 pub mod Survey
 pub mod Worked
-pub mod Doing
 pub mod Ended
 pub mod Line
 pub mod Blame

@@ -1,14 +1,13 @@
 -- What is written of how work on a chip ends (this project's).
-use Rattle.std.specs.Prelude.{ℕ, Bool, true, false, if◌then◌else◌, List, [], ◌++◌, codes, decimal}
+use Rattle.std.specs.Prelude.{ℕ, Bool, false, if◌then◌else◌, List, [], ◌++◌, codes, decimal}
 use Rattle.nor_base.specs.declared.meaning.Part.{Part}
 use Rattle.nor_base.specs.Script.{hex_pair}
 use Rattle.nor_script.specs.Hexadecimal.{hex_number}
-use Rattle.norprog_device.specs.declared.failure.Failure.{Failure}
-use Rattle.norprog_device.specs.declared.failure.Failure.TheVariants.{Carried}
-use Rattle.norprog_device.specs.FailureLine.{failed_line, failure_line}
+use Rattle.norprog_device.specs.FailureBlame.{is_sent}
+use Rattle.norprog_device.specs.FailureLine.{failure_line}
 use Rattle.norprog_device.specs.Shown.{status_line}
 use Rattle.norprog_flash.specs.declared.ending.Ending.{Ending}
-use Rattle.norprog_flash.specs.declared.ending.Ending.TheVariants.{Planned, Compared, Done, Failed, NoMemory}
+use Rattle.norprog_flash.specs.declared.ending.Ending.TheVariants.{Planned, Compared, Done, Failed}
 use Rattle.norprog_flash.specs.declared.compared.Comparison.{Comparison}
 use Rattle.norprog_flash.specs.declared.compared.Comparison.TheVariants.{Same, Differs}
 
@@ -25,21 +24,14 @@ ending_line Planned = []
 ending_line (Compared comparison) = comparison_line comparison
 ending_line (Done transactions) = codes "ok " ++ (decimal transactions ++ codes "\n")
 ending_line (Failed step why) = failure_line step why
-ending_line (NoMemory step) = failed_line step (codes "memory")
 
 -- a status by which a chip can't take the work
 abbrev pub closed_line : Part → ℕ → List ℕ
 closed_line = status_line (codes "unlike status ")
 
--- a step that failed so was sent
-abbrev pub is_sent : Failure → Bool
-is_sent Carried = false
-is_sent other = true
-
 -- steps were sent, and the chip isn't known to hold what they leave
 abbrev pub is_partial : Ending → Bool
-is_partial (Failed step why) = is_sent why
-is_partial (NoMemory step) = true
+is_partial (Failed step why) = is_sent step why
 is_partial other = false
 
 -- 0 where all that was wanted was done or is so, 3 where the chip may hold a part of it, else 1
@@ -48,5 +40,4 @@ status_of Planned = 0
 status_of (Compared (Same bytes)) = 0
 status_of (Compared (Differs at chip want bytes)) = 1
 status_of (Done transactions) = 0
-status_of (Failed step why) = if is_sent why then 3 else 1
-status_of (NoMemory step) = 3
+status_of (Failed step why) = if is_sent step why then 3 else 1

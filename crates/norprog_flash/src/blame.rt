@@ -26,7 +26,6 @@ fn fault_of_ending(ending: Ending) -> Option<Fault>
     match ending {
         Ending::Failed { why, step: _ } => fault_of_failure(why),
         Ending::Planned | Ending::Compared(_) | Ending::Done { .. } => None,
-        Ending::NoMemory { .. } => None,
     }
 }
 

@@ -22,13 +22,14 @@ use crate::ending::Ending;
 use crate::job::{Job, inputs_for};
 use crate::planned::Work;
 use crate::survey::{Unbegun, look_through};
-use crate::work::do_work;
+use crate::windows::Steps;
+use crate::work::{Back, do_work};
 use nor_base::{ByteIn, ByteOut, Meaning, put_all};
 use nor_flasher::{breaks, closes, doable};
 use nor_serprog::Limits;
 use norprog::Stepper;
 use norprog_common::{Aim, Refusal};
-use norprog_device::Failure;
+use norprog_device::{Doing, Failure};
 use norprog_read::Reading;
 use std::alloc::{AllocError, Global};
 
@@ -174,7 +175,8 @@ fn work_on<R: ByteIn, W: ByteOut, P: ByteOut>(
     let have = held.reading.content.as_slice();
     let want = work.goal.as_slice();
     let stepper = Stepper::new(alloc, meaning, &start, true, have, want);
-    let seen = match look_through(alloc, stepper, limits, work.report.steps) {
+    let all = work.report.steps;
+    let survey = match look_through(alloc, stepper, limits, all) {
         Ok(seen) => seen,
         Err(Unbegun::Memory) => return Err(AllocError),
         Err(Unbegun::Carried(step)) => {
@@ -182,8 +184,20 @@ fn work_on<R: ByteIn, W: ByteOut, P: ByteOut>(
             return Ok(Ending::Failed { step, why });
         }
     };
-    let stepper = Stepper::new(alloc, meaning, &start, true, have, want);
-    Ok(do_work(
-        alloc, from, to, limits, job, held, work, stepper, seen, progress,
-    ))
+    let steps = Steps {
+        stepper: Stepper::new(alloc, meaning, &start, true, have, want),
+        all,
+        survey,
+    };
+    let doing = Doing {
+        limits,
+        turns: job.ask.turns,
+        meaning,
+    };
+    let back = Back {
+        bytes: want,
+        by: held.by,
+        larger: job.ask.any_size,
+    };
+    Ok(do_work(alloc, from, to, &doing, steps, &back, progress))
 }

@@ -28,13 +28,8 @@ pub enum Ending {
         /// The step, counted from 0; the number of steps where the chip isn't known to hold what
         /// they leave.
         step: u64,
-        /// Why: at `Carried` no step was sent.
+        /// Why: at `Carried` no step was sent, at `Memory` none from this one on.
         why: Failure,
-    },
-    /// Memory was refused for the next steps; those before this one were done.
-    NoMemory {
-        /// The step, counted from 0.
-        step: u64,
     },
 }
 

@@ -32,13 +32,6 @@ pub fn write_ending<W: ByteOut>(ending: Ending, writer: &mut W) -> Result<(), Fa
             )
         }
         Ending::Failed { step, why } => write_failure(step, why, writer),
-        Ending::NoMemory { step } => {
-            let mut number = Buffer::new();
-            put_parts(
-                writer,
-                &[b"failed at ", number.format(step).as_bytes(), b" memory\n"],
-            )
-        }
     }
 }
 

@@ -41,6 +41,42 @@ pub fn work_for(
         × IsWork inputs.now content.now old.now (plan_of work steps)) }
     ensures refused { IfErr result (RefusesWork inputs.now content.now old.now) }
 {
+    if old == content {
+        fresh_work(alloc, inputs, content)
+    } else {
+        resumed_work(alloc, inputs, content, old)
+    }
+}
+
+/// The work to the target of the content itself: the inputs' own plan has its lines.
+fn fresh_work(alloc: Global, inputs: &Inputs<'_>, content: &[u8]) -> Result<Work, BuildFault>
+    ensures work { IfOk result
+        (λ work. (steps : List Step)
+        × IsWork inputs.now content.now content.now (plan_of work steps)) }
+    ensures refused { IfErr result (RefusesWork inputs.now content.now content.now) }
+{
+    let goal = goal_of(alloc, inputs, content)?;
+    let (lines, report) = plan_lines(alloc, inputs, content)?;
+    Ok(Work {
+        goal: goal.bytes,
+        lines,
+        report,
+    })
+}
+
+/// The work to the target of other bytes.
+fn resumed_work(
+    alloc: Global,
+    inputs: &Inputs<'_>,
+    content: &[u8],
+    old: &[u8],
+) -> Result<Work, BuildFault>
+    requires sizes { length content.now ≡ length old.now }
+    ensures work { IfOk result
+        (λ work. (steps : List Step)
+        × IsWork inputs.now content.now old.now (plan_of work steps)) }
+    ensures refused { IfErr result (RefusesWork inputs.now content.now old.now) }
+{
     let goal = goal_of(alloc, inputs, old)?;
     let image = difference(alloc, content, goal.bytes.as_slice())?;
     targets();

@@ -4,7 +4,7 @@ ghost use Rattle.std.specs.Prelude.{◌≡◌, ◌≤◌, false};
 ghost use Rattle.nor_base.specs.Device.{Counts, Writes};
 ghost use Rattle.norprog_common.specs.Told.{Says, output};
 ghost use Rattle.norprog_flash.specs.Answer.{family_of, state_told};
-ghost use Rattle.norprog_flash.specs.Line.{ending_line, is_partial, is_sent, status_of};
+ghost use Rattle.norprog_flash.specs.Line.{ending_line, is_partial, status_of};
 ghost use Rattle.norprog_flash.specs.State.{state_front, state_line};
 
 use crate::compared::Comparison;
@@ -13,7 +13,7 @@ use crate::line::write_ending;
 use crate::options::{first_name, write_way_on};
 use nor_base::{ByteOut, Failed, Part, put_all, put_parts};
 use norprog_common::{FlashArgs, part, refuse_lines};
-use norprog_device::Failure;
+use norprog_device::is_sent;
 
 /// What is written around the name of the file that has what the chip held before the first try.
 const HALF_DONE: &[u8] = b"norprog: the chip is half done, and what it held is in ";
@@ -78,20 +78,8 @@ fn is_partial(ending: Ending) -> bool
     ensures { result ≡ is_partial ending }
 {
     match ending {
-        Ending::Failed { why, step: _ } => is_sent(why),
-        Ending::NoMemory { .. } => true,
+        Ending::Failed { step, why } => is_sent(step, why),
         Ending::Planned | Ending::Compared(_) | Ending::Done { .. } => false,
-    }
-}
-
-/// Whether a step that failed so was sent.
-fn is_sent(why: Failure) -> bool
-    ensures { result ≡ is_sent why }
-{
-    match why {
-        Failure::Carried => false,
-        Failure::Exchange(_) | Failure::Busy => true,
-        Failure::Differs(_) | Failure::Gives { .. } => true,
     }
 }
 
@@ -105,7 +93,6 @@ fn status_of(ending: Ending) -> u8
         Ending::Compared(Comparison::Differs { .. }) => 1,
         Ending::Failed { .. } if is_partial(ending) => 3,
         Ending::Failed { .. } => 1,
-        Ending::NoMemory { .. } => 3,
     }
 }
 

@@ -1,5 +1,5 @@
 -- How the listing of the script that was opened ends.
-use Rattle.std.proofs.Common.{◌≡◌, ◌<◌, ℕ, Bool, List, [], ◌∷◌, ◌++◌, Ok, Err, arith, subst, sym}
+use Rattle.std.proofs.Common.{◌≡◌, ℕ, Bool, List, [], ◌∷◌, ◌++◌, Ok, Err, subst, sym}
 use Rattle.nor_base.specs.Chip.{begins4}
 use Rattle.nor_base.specs.Device.{Ahead, one_more}
 use Rattle.nor_base.specs.Parameters.{Parameters}

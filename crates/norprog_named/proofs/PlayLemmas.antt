@@ -1,5 +1,5 @@
 -- A play that ended, or didn't begin.
-use Rattle.std.proofs.Common.{◌≡◌, ◌∙◌, ◌<◌, ◌+◌, ℕ, Bool, List, ap, arith, subst}
+use Rattle.std.proofs.Common.{◌≡◌, ◌∙◌, ◌<◌, ℕ, Bool, List, ap, subst}
 use Rattle.nor_base.proofs.DeviceLaws.{risen_some}
 use Rattle.nor_base.specs.Device.{raised}
 use Rattle.std.specs.Prelude.{All}

@@ -1,5 +1,5 @@
 -- How a play on the files that were opened ends.
-use Rattle.std.proofs.Common.{◌≡◌, ◌<◌, ℕ, true, false, List, [], ◌∷◌, ◌++◌, Option, Some, None, Result, Ok, Err, IfOk, IfErr, is_ok, arith, refl, subst, sym}
+use Rattle.std.proofs.Common.{◌≡◌, ℕ, true, false, List, [], ◌∷◌, ◌++◌, Option, Some, None, Result, Ok, Err, IfOk, IfErr, is_ok, arith, refl, subst, sym}
 use Rattle.nor_base.proofs.DeviceLaws.{risen_some}
 use Rattle.nor_base.specs.Device.{Ahead, one_more}
 use Rattle.nor_job.specs.declared.fault.BuildFault.TheVariants as fault

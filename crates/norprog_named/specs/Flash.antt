@@ -4,10 +4,11 @@ use Rattle.nor_serprog.specs.Greeting.{Greeted}
 use Rattle.nor_serprog.specs.declared.fault.GreetFault.{GreetFault}
 use Rattle.nor_serprog.specs.declared.limits.Limits.{Limits}
 use Rattle.norprog_common.specs.Chip.{origin_of}
-use Rattle.norprog_common.specs.Image.{Image, IsTextOf, RefusesText, image_in, images_in, path_of}
+use Rattle.norprog_common.specs.Image.{Image, IsDataOf, RefusesData, hex_in, image_in, images_in, own_in, path_of}
 use Rattle.norprog_common.specs.declared.faults.FileName.{FileName}
 use Rattle.norprog_common.specs.declared.faults.FileName.TheVariants as file
 use Rattle.norprog_common.specs.declared.faults.Refusal.{Refusal}
+use Rattle.norprog_common.specs.declared.image.ImageData.{ImageData}
 use Rattle.norprog_device.specs.Blame.{is_cut}
 use Rattle.norprog_device.specs.Opened.{LetsGo}
 use Rattle.norprog_device.specs.declared.fault.DeviceFault.TheVariants.{Greet}
@@ -45,15 +46,15 @@ pub data ReadsAsked : Option Image → List ℕ → List Event → Type 0 where
   NoImage : (bytes : List ℕ) → ReadsAsked None bytes []
   OfImage : (image : Image) (bytes : List ℕ) → ReadsAsked (Some image) bytes (Given (path_of image) bytes ∷ [])
 
--- the text of an image whose file has these bytes
-abbrev pub IsAskedText : ℕ → Option (List ℕ) → List ℕ → Option Image → List ℕ → Type 0
-IsAskedText base layout bytes None text = text ≡ bytes
-IsAskedText base layout bytes (Some image) text = IsTextOf base layout bytes image text
+-- what its file gives that has these bytes
+abbrev pub IsAskedData : ℕ → Option (List ℕ) → List ℕ → Option Image → ImageData → Type 0
+IsAskedData base layout bytes None given = hex_in given ≡ bytes
+IsAskedData base layout bytes (Some image) given = IsDataOf base layout bytes image given
 
--- why there is none
+-- why it gives nothing
 abbrev pub RefusesAsked : ℕ → Option (List ℕ) → List ℕ → Option Image → Refusal → Type 0
 RefusesAsked base layout bytes None why = ⊥
-RefusesAsked base layout bytes (Some image) why = RefusesText base layout bytes image why
+RefusesAsked base layout bytes (Some image) why = RefusesData base layout bytes image why
 
 -- the files that are read, each with its option, in their order
 abbrev pub flash_files : FlashRequest → List (FileName × List ℕ)
@@ -61,28 +62,31 @@ flash_files r =
     asked_files (asked_in r) ++ (named_by file.Layout (option_map (λ t. t.now) r.layout) ++ (chip_files (option_map origin_of r.read.chip)
     ++ named_by file.Resume (option_map (λ t. t.now) r.resume)))
 
+-- the bytes of a job's layout
+abbrev pub layout_in : FlashTexts → Option (List ℕ)
+layout_in held = option_map (λ bytes. bytes.items) held.layout
+
 -- each was read whole, and has these bytes
 pub data ReadsFlash (r : FlashRequest) (held : FlashTexts) : List Event → Type 0 where
   Reads_all : (image layout tables old : List Event) → ReadsAsked (asked_in r) held.hex.items image
-      → Reads (option_map (λ t. t.now) r.layout) (option_map (λ bytes. bytes.items) held.layout) layout
+      → Reads (option_map (λ t. t.now) r.layout) (layout_in held) layout
       → ReadsNamed (option_map origin_of r.read.chip) held.sfdp.items tables
       → Reads (option_map (λ t. t.now) r.resume) (option_map (λ bytes. bytes.items) held.old) old
       → ReadsFlash r held (image ++ (layout ++ (tables ++ old)))
 
--- they were, and then the image's further files, and these are the texts of the job: that of the image is made of its first file's bytes; or one
--- can't be read, the first has no text, or they give no image
+-- they were, and then the image's further files, and these are the texts of the job: its image is what they give together; or one can't be read,
+-- the first gives nothing, or they give no image
 pub data EndsReading (r : FlashRequest) : Result FlashTexts Refusal → List Event → Type 0 where
-  HasTexts : (read texts : FlashTexts) (log more : List Event) → ReadsFlash r read log
-      → IsAskedText r.base (option_map (λ bytes. bytes.items) read.layout) read.hex.items (asked_in r) texts.hex.items
-      → Gathers r.base (option_map (λ bytes. bytes.items) read.layout) texts.hex.items (drop 1 (images_in r.images.now)) (Ok texts.image) more
-      → texts ≡ record read { hex = texts.hex; image = texts.image } → EndsReading r (Ok texts) (log ++ more)
+  HasTexts : (read texts : FlashTexts) (first whole : ImageData) (log more : List Event) → ReadsFlash r read log
+      → IsAskedData r.base (layout_in read) read.hex.items (asked_in r) first
+      → Gathers r.base (layout_in read) first (drop 1 (images_in r.images.now)) (Ok whole) more → texts.hex.items ≡ hex_in whole
+      → texts ≡ record read { hex = texts.hex; image = own_in whole } → EndsReading r (Ok texts) (log ++ more)
   NoFile : (log : List Event) (why : Refusal) → StopsOpening (flash_files r) log why → EndsReading r (Err why) log
-  NoText : (read : FlashTexts) (log : List Event) (why : Refusal) → ReadsFlash r read log
-      → RefusesAsked r.base (option_map (λ bytes. bytes.items) read.layout) read.hex.items (asked_in r) why → EndsReading r (Err why) log
-  NoWhole : (read : FlashTexts) (text : List ℕ) (log more : List Event) (why : Refusal) → ReadsFlash r read log
-      → IsAskedText r.base (option_map (λ bytes. bytes.items) read.layout) read.hex.items (asked_in r) text
-      → Gathers r.base (option_map (λ bytes. bytes.items) read.layout) text (drop 1 (images_in r.images.now)) (Err why) more
-      → EndsReading r (Err why) (log ++ more)
+  NoData : (read : FlashTexts) (log : List Event) (why : Refusal) → ReadsFlash r read log
+      → RefusesAsked r.base (layout_in read) read.hex.items (asked_in r) why → EndsReading r (Err why) log
+  NoWhole : (read : FlashTexts) (first : ImageData) (log more : List Event) (why : Refusal) → ReadsFlash r read log
+      → IsAskedData r.base (layout_in read) read.hex.items (asked_in r) first
+      → Gathers r.base (layout_in read) first (drop 1 (images_in r.images.now)) (Err why) more → EndsReading r (Err why) (log ++ more)
 
 -- standard output failed only where work was refused
 abbrev pub StillWorks : Result Ending Unflashed → ℕ → ℕ → Type 0
@@ -171,5 +175,5 @@ pub data EndsFlash (r : FlashRequest) (out : Printed) : List Event → Result En
   -- the files were read, and the job of their texts ended so
   Worked : (held : FlashTexts) (job : Job) (read work : List Event) (answer : Result Ending Unflashed) → EndsReading r (Ok held) read → IsJobOf r held job
       → EndsJob r.read.device.now r.before.now job out work answer → EndsFlash r out (read ++ work) answer
-  -- one can't be read, or the image has no text
+  -- one can't be read, or they give no image
   NoInput : (log : List Event) (why : Refusal) → EndsReading r (Err why) log → out.after ≡ out.before → EndsFlash r out log (Err (Refused why))

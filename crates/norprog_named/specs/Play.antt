@@ -55,9 +55,8 @@ pub record IsCourseOf (p : Play) (r : Rehearsed) (c : Course) : Type 0 where
   pub meaning : c.meaning.now ≡ p.meaning
   pub expected : expectation_of c.expected ≡ p.expected
   pub content : c.content.now ≡ p.content
-  pub steps : c.steps.now ≡ r.steps.items
+  pub steps : c.steps.now ≡ r.steps
   pub left : c.left.now ≡ r.left.items
-  pub transactions : c.transactions ≡ r.transactions
   pub turns : c.turns ≡ p.limit
 
 -- how a play ends, by the device of this name

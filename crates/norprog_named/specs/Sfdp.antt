@@ -3,7 +3,6 @@ use Rattle.std.specs.Prelude.{List, ℕ, Result, Ok, Err}
 use Rattle.nor_base.specs.Parameters.{Parameters}
 use Rattle.norprog_common.specs.Chip.{origin_of}
 use Rattle.norprog_common.specs.Setup.{IsKnown, RefusesChipOf, setup_task}
-use Rattle.norprog_common.specs.declared.faults.FileName.TheVariants as file
 use Rattle.norprog_common.specs.declared.faults.Refusal.{Refusal}
 use Rattle.norprog_common.specs.declared.setup.Setup.{Setup}
 use Rattle.norprog_files.specs.Files.{Event, StopsOpening}

@@ -8,7 +8,7 @@ ghost use Rattle.norprog_files.specs.Files.{Did};
 ghost use Rattle.norprog_flash.specs.Blame.{fault_in as told_in};
 ghost use Rattle.norprog_named.specs.Flash.{EndsFlash, EndsGreeted, EndsHeld, EndsJob};
 ghost use Rattle.norprog_named.specs.Flash.{EndsReading, IsJobOf, ReadsFlash, StillWorks};
-ghost use Rattle.norprog_named.specs.Flash.{IsAskedText, ReadsAsked, RefusesAsked};
+ghost use Rattle.norprog_named.specs.Flash.{IsAskedData, ReadsAsked, RefusesAsked};
 ghost use Rattle.norprog_named.specs.Flash.{asked_files, asked_in, file_for, flash_files};
 ghost use Rattle.norprog_flash.specs.Begun.{printed};
 ghost use Rattle.norprog_named.specs.Flash.{reading_of};
@@ -19,7 +19,7 @@ use crate::saved::save_if;
 use nor_base::{ByteIn, ByteOut};
 use nor_hex::Image;
 use nor_serprog::{Limits, greet};
-use norprog_common::{Aim, FileName, ImageFile, Refusal, image_text};
+use norprog_common::{Aim, FileName, ImageData, ImageFile, Refusal, image_data};
 use norprog_device::{DeviceFault, is_cut, let_go};
 use norprog_files::{Files, Trail};
 use norprog_flash::{Ending, FlashRequest, Job, Unflashed, fault_in, go_on, hold, look_at};
@@ -29,9 +29,9 @@ use std::alloc::Global;
 /// What the files of a request hold.
 #[derive(Drop)]
 pub(crate) struct FlashTexts {
-    /// The text of the image's first file.
+    /// The text of the image's one file of Intel HEX.
     pub(crate) hex: Vec<u8>,
-    /// The image of all files, where there are several.
+    /// In place of that the image of a raw file, or of several files.
     pub(crate) image: Option<Image>,
     pub(crate) layout: Option<Vec<u8>>,
     /// The tables; nothing where no file of them is named.
@@ -70,7 +70,7 @@ pub fn flash<F: Files, O: ByteOut, P: ByteOut>(
 }
 
 /// Reads the files of a request whole, in the order image, layout, tables, older content, further
-/// files of the image. Of a raw image the text is made.
+/// files of the image.
 fn read_texts<F: Files>(
     alloc: Global,
     files: &F,
@@ -81,42 +81,25 @@ fn read_texts<F: Files>(
         (EndsReading request.now result) }
 {
     let read = read_files(alloc, files, trail, request)?;
-    let mut texts = texts_of(alloc, request, read)?;
-    let image = whole_image(
+    let FlashTexts {
+        hex: bytes,
+        layout,
+        sfdp,
+        old,
+        ..
+    } = read;
+    let lay = bytes_in(&layout);
+    let first = asked_data(alloc, request, lay, bytes)?;
+    let whole = whole_image(
         alloc,
         files,
         trail,
         request.images,
         request.base,
-        bytes_in(&texts.layout),
-        texts.hex.as_slice(),
+        lay,
+        first,
     )?;
-    texts.image = image;
-    Ok(texts)
-}
-
-/// Puts the image's text in place of the bytes of its file.
-fn texts_of(
-    alloc: Global,
-    request: &FlashRequest<'_>,
-    read: FlashTexts,
-) -> Result<FlashTexts, Refusal>
-    ensures text { IfOk result (λ texts. IsAskedText request.now.base
-        (option_map (λ bytes. bytes.items) read.layout) read.hex.items
-        (asked_in request.now) texts.hex.items
-        × (texts ≡ record read { hex = texts.hex })) }
-    ensures refused { IfErr result (RefusesAsked request.now.base
-        (option_map (λ bytes. bytes.items) read.layout) read.hex.items
-        (asked_in request.now)) }
-{
-    let FlashTexts {
-        hex: bytes,
-        image,
-        layout,
-        sfdp,
-        old,
-    } = read;
-    let hex = asked_text(alloc, request, bytes_in(&layout), bytes)?;
+    let (hex, image) = whole.into_parts(alloc);
     Ok(FlashTexts {
         hex,
         image,
@@ -126,21 +109,21 @@ fn texts_of(
     })
 }
 
-/// The text of the image that has a file with these bytes.
-fn asked_text(
+/// What the image's file gives that has these bytes.
+fn asked_data(
     alloc: Global,
     request: &FlashRequest<'_>,
     layout: Option<&[u8]>,
     bytes: Vec<u8>,
-) -> Result<Vec<u8>, Refusal>
-    ensures text { IfOk result (λ text. IsAskedText request.now.base
-        (option_map (λ t. t.now) layout.entry) bytes.items (asked_in request.now) text.items) }
+) -> Result<ImageData, Refusal>
+    ensures gives { IfOk result (IsAskedData request.now.base
+        (option_map (λ t. t.now) layout.entry) bytes.items (asked_in request.now)) }
     ensures refused { IfErr result (RefusesAsked request.now.base
         (option_map (λ t. t.now) layout.entry) bytes.items (asked_in request.now)) }
 {
     match request.image {
-        Some(image) => image_text(alloc, image, request.base, layout, bytes),
-        None => Ok(bytes),
+        Some(image) => image_data(alloc, image, request.base, layout, bytes),
+        None => Ok(ImageData::Text(bytes)),
     }
 }
 
@@ -161,7 +144,7 @@ fn read_asked<F: Files>(
     }
 }
 
-/// The same, with the bytes of the image's file in place of its text.
+/// The same, with the bytes of the image's first file in place of what they give.
 fn read_files<F: Files>(
     alloc: Global,
     files: &F,

@@ -1,9 +1,9 @@
 //! The files of a job.
 
-ghost use Rattle.std.specs.Prelude.{◌≡◌, ◌∷◌, [], ℕ, IfErr, IfOk, List, drop, map, option_map};
+ghost use Rattle.std.specs.Prelude.{◌≡◌, ◌∷◌, [], drop, map, option_map};
 ghost use Rattle.norprog_common.specs.Chip.{origin_of};
 ghost use Rattle.norprog_common.specs.Held.{held_in, task_by};
-ghost use Rattle.norprog_common.specs.Image.{IsTextOf, RefusesText, image_in, images_in};
+ghost use Rattle.norprog_common.specs.Image.{image_in, images_in};
 ghost use Rattle.norprog_files.specs.Files.{Did};
 ghost use Rattle.norprog_named.specs.Gathered.{Gathers, Joins, JoinsAll};
 ghost use Rattle.norprog_named.specs.Job.{OpensJob, Reading, Reads};
@@ -13,15 +13,14 @@ ghost use Rattle.norprog_named.specs.Job.{image_file, job_files, named_by, origi
 
 use nor_hex::Image;
 use norprog_common::{
-    Chip, FileName, ImageArgs, ImageFile, Refusal, Request, Texts, hex_image, image_text,
-    images_of, joined,
+    Chip, FileName, ImageArgs, ImageData, ImageFile, Refusal, Request, Texts, given_image,
+    image_data, images_of, joined,
 };
 use norprog_files::{Files, Trail};
 use std::alloc::Global;
 
 /// Opens the files that a job reads, in their order: what those hold that are read whole, the
-/// content, and how many bytes that has. Of a raw image the text is made; the image's further files
-/// come last.
+/// content, and how many bytes that has. The image's further files come last.
 pub(crate) fn open_job<F: Files>(
     alloc: Global,
     files: &F,
@@ -33,21 +32,34 @@ pub(crate) fn open_job<F: Files>(
         (F.Input.ahead job.1) job.2) result) }
 {
     let (read, content, len) = open_files(alloc, files, trail, request)?;
-    let mut texts = texts_of(alloc, request, read)?;
-    let image = whole_image(
+    let Texts {
+        hex: bytes,
+        layout,
+        sfdp,
+        ..
+    } = read;
+    let lay = bytes_in(&layout);
+    let first = image_data(alloc, request.image, request.base, lay, bytes)?;
+    let whole = whole_image(
         alloc,
         files,
         trail,
         &request.images,
         request.base,
-        bytes_in(&texts.layout),
-        texts.hex.as_slice(),
+        lay,
+        first,
     )?;
-    texts.image = image;
+    let (hex, image) = whole.into_parts(alloc);
+    let texts = Texts {
+        hex,
+        image,
+        layout,
+        sfdp,
+    };
     Ok((texts, content, len))
 }
 
-/// The same, with the bytes of the image's file in place of its text.
+/// The same, with the bytes of the image's first file in place of what they give.
 fn open_files<F: Files>(
     alloc: Global,
     files: &F,
@@ -71,30 +83,6 @@ fn open_files<F: Files>(
     Ok((read, content, len))
 }
 
-/// Puts the image's text in place of the bytes of its file.
-fn texts_of(alloc: Global, request: &Request<'_>, read: Texts) -> Result<Texts, Refusal>
-    ensures text { IfOk result (λ texts. (text : List ℕ)
-        × IsTextOf request.now.base (held_in read).layout (held_in read).hex
-        (image_in request.now.image) text
-        × (held_in texts ≡ record (held_in read) { hex = text })) }
-    ensures refused { IfErr result (RefusesText request.now.base (held_in read).layout
-        (held_in read).hex (image_in request.now.image)) }
-{
-    let Texts {
-        hex: bytes,
-        image,
-        layout,
-        sfdp,
-    } = read;
-    let hex = image_text(alloc, request.image, request.base, bytes_in(&layout), bytes)?;
-    Ok(Texts {
-        hex,
-        image,
-        layout,
-        sfdp,
-    })
-}
-
 /// Reads the file of an image whole.
 pub(crate) fn read_image<F: Files>(
     alloc: Global,
@@ -112,8 +100,7 @@ pub(crate) fn read_image<F: Files>(
     }
 }
 
-/// The image that all files give together, of which the first has this text; none where there is no
-/// other.
+/// What all files of an image give together, of which the first gives this.
 pub(crate) fn whole_image<F: Files>(
     alloc: Global,
     files: &F,
@@ -121,22 +108,22 @@ pub(crate) fn whole_image<F: Files>(
     given: &ImageArgs<'_>,
     base: u32,
     layout: Option<&[u8]>,
-    text: &[u8],
-) -> Result<Option<Image>, Refusal>
+    first: ImageData,
+) -> Result<ImageData, Refusal>
     ensures { Did (F.Trail.did trail.old) (F.Trail.did trail.new)
-        (Gathers base (option_map (λ t. t.now) layout.entry) text.now
-        (drop 1 (images_in given.now)) result) }
+        (Gathers base (option_map (λ t. t.now) layout.entry) first (drop 1 (images_in given.now))
+        result) }
 {
     let Ok(images) = images_of(alloc, given) else {
         return Err(Refusal::MEMORY);
     };
     match images.as_slice().split_first() {
-        None => Ok(None),
-        Some((_, more)) => gather(alloc, files, trail, more, base, layout, text),
+        None => Ok(first),
+        Some((_, more)) => gather(alloc, files, trail, more, base, layout, first),
     }
 }
 
-/// The image of a text and these files, if there are some.
+/// What these files give together with the first.
 fn gather<F: Files>(
     alloc: Global,
     files: &F,
@@ -144,18 +131,18 @@ fn gather<F: Files>(
     more: &[ImageFile<'_>],
     base: u32,
     layout: Option<&[u8]>,
-    text: &[u8],
-) -> Result<Option<Image>, Refusal>
+    first: ImageData,
+) -> Result<ImageData, Refusal>
     ensures { Did (F.Trail.did trail.old) (F.Trail.did trail.new)
-        (Gathers base (option_map (λ t. t.now) layout.entry) text.now (map image_in more.now)
+        (Gathers base (option_map (λ t. t.now) layout.entry) first (map image_in more.now)
         result) }
 {
     if more.is_empty() {
-        return Ok(None);
+        return Ok(first);
     }
-    let first = hex_image(alloc, text)?;
-    let all = join_all(alloc, files, trail, more, base, layout, first)?;
-    Ok(Some(all))
+    let image = given_image(alloc, first)?;
+    let all = join_all(alloc, files, trail, more, base, layout, image)?;
+    Ok(ImageData::Image(all))
 }
 
 /// The image that this one and all of these files give together.
@@ -196,8 +183,8 @@ fn join_file<F: Files>(
         result) }
 {
     let bytes = read_image(alloc, files, trail, file)?;
-    let text = image_text(alloc, file, base, layout, bytes)?;
-    joined(alloc, image, text.as_slice())
+    let beside = image_data(alloc, file, base, layout, bytes)?;
+    joined(alloc, image, beside)
 }
 
 pub(crate) fn bytes_in(bytes: &Option<Vec<u8>>) -> Option<&[u8]>

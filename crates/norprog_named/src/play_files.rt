@@ -65,7 +65,7 @@ fn play_job<F: Files, P: ByteOut>(
     requires chip { (length job.content.items ≡ job.meaning.size)
         × IsPossible job.meaning expected.start }
     ensures { Did (F.Trail.did trail.old) (F.Trail.did trail.new)
-        (λ log. EndsPlaying device.now (play_of job.steps.items (expectation_of expected.entry)
+        (λ log. EndsPlaying device.now (play_of job.steps (expectation_of expected.entry)
         job.meaning job.content.items limit) log result) }
 {
     let Job {
@@ -83,9 +83,8 @@ fn play_job<F: Files, P: ByteOut>(
         meaning: &meaning,
         expected,
         content,
-        steps: rehearsed.steps.as_slice(),
+        steps: &rehearsed.steps,
         left: rehearsed.left.as_slice(),
-        transactions: rehearsed.transactions,
         turns: limit,
     };
     let (mut from, mut to) = files.open_device(trail, alloc, device)?;

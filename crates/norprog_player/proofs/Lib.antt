@@ -4,3 +4,4 @@ mod LineLemmas
 mod PutLemmas
 mod SizeLemmas
 mod TakenLemmas
+mod WindowLemmas

@@ -1,5 +1,5 @@
 -- What was compared by marked cells was what was to be compared.
-use Rattle.std.proofs.Common.{◌≡◌, Bool, true, false, ℕ, ◌*◌, ◌/◌, ◌%◌, ◌<◌, inl, inr, List, length, Result, Ok, Err, subst, arith}
+use Rattle.std.proofs.Common.{◌≡◌, Bool, true, false, ℕ, ◌*◌, ◌/◌, ◌<◌, inl, inr, List, length, Result, Ok, Err, subst, arith}
 use Rattle.std.specs.Prelude.{◌↔◌, ◌⊎◌}
 use Rattle.nor_base.specs.Wire.{Wire}
 use Rattle.nor_cells.specs.Cells.{IsInCellOf}

@@ -16,7 +16,7 @@ use Rattle.nor_base.specs.Run.{Halt, poll_clocks, is_verify, matched, halt_on, p
 use Rattle.nor_base.specs.Sample.{sampled_count}
 use Rattle.nor_base.specs.Step.{step_clocks}
 use Rattle.nor_base.proofs.ListLaws.{first_left, one_taken}
-use Rattle.nor_base.proofs.OutcomeLaws.{later_ok, ok_is}
+use Rattle.nor_base.proofs.OutcomeLaws.{ok_is}
 use Rattle.nor_serprog.specs.Done.{IsDoable}
 use Rattle.norprog_player.specs.Put.{AreAnswered, Goes, IsTaken, put_as}
 use Rattle.norprog_player.proofs.TakenLemmas.{goes_on}

@@ -1,16 +1,19 @@
 -- A script that goes well on the chip in memory: it takes each step.
-use Rattle.std.proofs.Common.{◌≡◌, ℕ, Bool, true, false, if◌then◌else◌, List, [], ◌∷◌, Vec, Global, length, Result, Ok, Err, refl, sym, ◌∙◌, ap, subst}
+use Rattle.std.proofs.Common.{◌≡◌, ℕ, ◌==◌, Bool, true, false, if◌then◌else◌, List, [], ◌∷◌, Vec, Global, length, Result, Ok, Err, refl, sym, ◌∙◌, ap, subst, arith, eq-eqb}
+use Rattle.std.proofs.lemmas.Bool.{or_left}
 use Rattle.std.proofs.lemmas.Slice.Eq.{bytes_eq-Decides}
 use Rattle.std.specs.Str.{bytes_eq}
 use Rattle.nor_base.specs.declared.step.Step.{Step}
 use Rattle.nor_base.specs.declared.step.Step.TheVariants.{Send, Poll, Verify}
 use Rattle.nor_base.specs.declared.wrong.Wrong.{Wrong}
 use Rattle.nor_base.specs.declared.wrong.Wrong.TheVariants as wrong
-use Rattle.nor_base.specs.Chip.{Setting, Chip, is_settled, ready}
+use Rattle.nor_base.specs.declared.meaning.Start.{Start}
+use Rattle.nor_base.specs.Chip.{Setting, Chip, chip_of, is_settled, may_page, ready}
+use Rattle.nor_base.specs.Parameters.{Parameters}
 use Rattle.nor_base.specs.Port.{Shown}
 use Rattle.nor_chip.specs.Ready.{ready_chip}
 use Rattle.nor_base.specs.Effect.{effect}
-use Rattle.nor_base.specs.Run.{Stop, Halt, poll_clocks, says_busy, is_verify, done, matched, halt_on, poll_or_halt, polled_for, step_for, play_on, played, trail, DoesTaskOnEvery}
+use Rattle.nor_base.specs.Run.{Stop, Halt, poll_clocks, says_busy, is_verify, done, matched, halt_on, poll_or_halt, polled_for, step_for, play_on, played, DoesTaskOnEvery}
 use Rattle.nor_check.specs.declared.verdict.Verdict.TheVariants.{No as Says}
 use Rattle.nor_check.specs.declared.verdict.Why.{Why}
 use Rattle.nor_check.specs.Outcome.{trial}
@@ -20,7 +23,9 @@ use Rattle.nor_play.specs.declared.fault.PlayFault.{PlayFault}
 use Rattle.nor_play.specs.declared.fault.PlayFault.TheVariants as fault
 use Rattle.nor_base.specs.Step.{step_clocks}
 use Rattle.nor_base.proofs.OutcomeLaws.{later_ok}
+use Rattle.nor_laws.proofs.BoundedLaws.{bounded_is_run}
 use Rattle.nor_laws.proofs.EffectLaws.{keeps_size}
+use Rattle.nor_laws.specs.Laws.{IsBelow}
 use Rattle.norprog_player.specs.declared.rehearsal.Rehearsal.TheVariants as rehearsal
 use Rattle.norprog_player.specs.Rehearsal.{Rehearses}
 
@@ -109,16 +114,36 @@ without_end s count (Err stop) d h = h
 pub left_whole : (s : Setting) (c d : Chip) (steps : List Step) → play s 1 c steps ≡ Ok d → length d.array ≡ length c.array
 left_whole s c d steps h = keeps s c d steps (without_end s (length steps) (played s 1 c steps) d h)
 
+-- steps that do the same on every chip do so on the one that is never busy
+settled_end : (s : Setting) (count : ℕ) (d : Chip) → is_settled s d ≡ true → at_end s count (Ok d) ≡ Ok d
+settled_end s count d is = ap (ended count d) is
+
+pub left_same : (m : Parameters) (start : Start) (content : List ℕ) (left : Vec ℕ Global) (steps : List Step) → DoesTaskOnEvery m start content left.items steps
+    → Rehearses (chip_of m start [] false) (ready (chip_of m start [] false) content) steps (rehearsal.Well left)
+left_same m start content left steps every =
+    let s = chip_of m start [] false in
+    let own : may_page m m.page ≡ true = or_left (m.page == m.page) _ (eq-eqb m.page m.page refl) in
+    let does = every s (record { its_meaning = refl; its_start = refl; its_page = own }) in
+    let below : IsBelow 1 (ready s content) = record { left = omega arith; to_come = λ n. omega arith } in
+    let plays : play s 1 (ready s content) steps ≡ Ok does.final =
+    ap (at_end s (length steps)) (bounded_is_run s 1 (ready s content) steps below ∙ does.good.runs) ∙ settled_end s (length steps) does.final does.good.settled in (
+      record {
+        left = does.final;
+        ends = plays;
+        every = subst (λ (l : List ℕ). DoesTaskOnEvery m start content l steps) (sym does.array) every;
+      },
+      sym does.array,
+    )
+
 -- a play on a ready chip that leaves these bytes, judged by them
 pub well : (before after : Shown) (s : Setting) (content : List ℕ) (left : Vec ℕ Global) (steps : List Step) (count : ℕ) → before ≡ ready_chip s content → EndsPlay before after 1 steps count
-    → left.items ≡ after.chip.array → DoesTaskOnEvery s.meaning s.start content after.chip.array steps → Rehearses s (ready s content) steps (rehearsal.Well count left)
+    → left.items ≡ after.chip.array → DoesTaskOnEvery s.meaning s.start content after.chip.array steps → Rehearses s (ready s content) steps (rehearsal.Well left)
 well before after s content left steps count is ends holds every = (
   record {
     left = after.chip;
     ends = subst (λ (b : Shown). play b.setting 1 b.chip steps ≡ Ok after.chip) is ends.ends;
     every = every;
   },
-  subst (λ (b : Shown). count ≡ length (trail b.setting b.chip steps)) is ends.counted,
   holds,
 )
 

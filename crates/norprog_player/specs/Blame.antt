@@ -1,8 +1,6 @@
 -- Which exchange with a device ended a play on it (this project's).
 use Rattle.std.specs.Prelude.{Option, Some, None, Result, Ok, Err}
 use Rattle.nor_serprog.specs.declared.fault.Fault.{Fault}
-use Rattle.nor_serprog.specs.declared.fault.Reason.{Reason}
-use Rattle.nor_serprog.specs.declared.fault.Reason.TheVariants as reason
 use Rattle.norprog_device.specs.Blame.{fault_of_greeting, fault_of_mismatch}
 use Rattle.norprog_device.specs.FailureBlame.{fault_of_failure}
 use Rattle.norprog_player.specs.declared.ending.Ending.{Ending}

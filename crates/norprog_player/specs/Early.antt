@@ -6,7 +6,6 @@ use Rattle.nor_base.specs.declared.wrong.Wrong.{Wrong}
 use Rattle.nor_base.specs.Chip.{Chip, chip_of}
 use Rattle.nor_base.specs.Parameters.{Parameters}
 use Rattle.nor_base.specs.Port.{Shown}
-use Rattle.nor_base.specs.Run.{trail}
 use Rattle.nor_chip.specs.Ready.{ready_chip}
 use Rattle.nor_play.specs.Play.{play}
 use Rattle.norprog_device.specs.declared.failure.Failure.TheVariants.{Carried}
@@ -44,17 +43,16 @@ pub record IsFirstOfNone (shown : Shown) (steps : List Step) (at : ℕ) : Type 0
   pub widest : AreWidest limits
   pub first : IsFirstNotCarried limits steps at
 
--- they go well on it, in so many transactions, and leave these bytes; they do the same on every chip of its meaning and start, and each is an
--- operation of some device; and so a device does them
+-- they go well on it and leave these bytes; they do the same on every chip of its meaning and start, and each is an operation of some device;
+-- and so a device does them
 pub record MayPlay (shown : Shown) (steps : List Step) (r : Rehearsed) : Type 0 where
   pub same : DoesSame shown.setting shown.chip steps
   pub left : r.left.items ≡ same.left.array
   pub whole : length r.left.items ≡ length shown.chip.array
-  pub counted : r.transactions ≡ length (trail shown.setting shown.chip steps)
   pub limits : Limits
   pub widest : AreWidest limits
   pub carried : AreCarried limits steps
-  pub put : ArePut shown steps r.steps.items
+  pub put : ArePut shown steps r.steps
 
 -- they end so whatever the device is
 abbrev pub EndsInMemory : Shown → List Step → Ending → Type 0
@@ -63,7 +61,7 @@ EndsInMemory shown steps (No at why) = DoesOther shown.setting shown.chip steps 
 EndsInMemory shown steps (Failed at Carried) = IsFirstOfNone shown steps at
 EndsInMemory shown steps other = ⊥
 
--- so, or they may be played, in so many transactions
+-- so, or they may be played
 abbrev pub EndsEarly : Shown → List Step → Early → Type 0
 EndsEarly shown steps (Ends ending) = EndsInMemory shown steps ending
 EndsEarly shown steps (Goes rehearsed) = MayPlay shown steps rehearsed

@@ -1,17 +1,16 @@
 -- How steps end on the chip behind a device (this project's).
-use Rattle.std.specs.Prelude.{◌≡◌, ◌≢◌, ℕ, Bool, true, false, List, length, Ok, Err}
+use Rattle.std.specs.Prelude.{◌≡◌, ◌≢◌, ℕ, Bool, true, false, List, length, Err}
 use Rattle.nor_base.specs.Wire.{Wire}
 use Rattle.nor_cells.specs.Compared.{IsCompared, IsReadBack}
 use Rattle.nor_cells.specs.Edges.{IsBlank}
 use Rattle.nor_reader.specs.declared.difference.Mismatch.{Mismatch}
-use Rattle.nor_serprog.specs.declared.halt.Halt.{Halt}
 use Rattle.nor_serprog.specs.declared.limits.Limits.{Limits}
 use Rattle.nor_serprog.specs.Done.{HasDoneAll}
-use Rattle.nor_serprog.specs.Row.{HasHalted}
 use Rattle.nor_serprog.specs.Steps.{AreCarried, IsFirstNotCarried}
-use Rattle.norprog_device.specs.declared.failure.Failure.{Failure}
 use Rattle.norprog_device.specs.declared.failure.Failure.TheVariants.{Carried}
-use Rattle.norprog_device.specs.Reported.{IsFailureAt, failure_by}
+use Rattle.norprog_device.specs.declared.doing.Stop.{Stop}
+use Rattle.norprog_device.specs.Doing.{Doing, StopsSteps}
+use Rattle.norprog_device.specs.Reported.{failure_by}
 use Rattle.norprog_player.specs.declared.course.Course.{Course}
 use Rattle.norprog_player.specs.declared.ending.Ending.{Ending}
 use Rattle.norprog_player.specs.declared.ending.Ending.TheVariants.{Done, Unlike, Failed}
@@ -41,6 +40,10 @@ abbrev pub again : Limits → Course → Comparison
 again limits c =
     comparison limits (access_of c.meaning.now c.expected.start) c.left.now (IsReadBack (IsCompared c.meaning.now c.expected.start c.content.now c.steps.now) c.left.now)
 
+-- how the device does the steps
+abbrev pub doing : Limits → Course → Doing
+doing limits c = record { limits = limits; turns = c.turns; m = c.meaning.now }
+
 -- each step is an operation of the device; the chip was asked and compared, unless it is trusted
 pub record Begins (limits : Limits) (c : Course) (before between : Wire) : Type 0 where
   pub carried : AreCarried limits c.steps.now
@@ -59,12 +62,12 @@ pub data EndsOnChip (limits : Limits) (c : Course) (before after : Wire) : Endin
   -- each is, but the chip isn't known to be the one that is expected: no step was sent
   NotKnown : (why : Unlikeness) → AreCarried limits c.steps.now → c.expected.trusted ≡ false → IsUnknown (asks limits c) (first limits c) before after why
       → EndsOnChip limits c before after (Unlike why)
-  -- the device halted at a step
-  Halted : (between : Wire) (halt : Halt) (why : Failure) → Begins limits c before between → HasHalted between after limits c.turns c.steps.now halt
-      → IsFailureAt c.meaning.now c.steps.now halt why → why ≢ Carried → EndsOnChip limits c before after (Failed halt.step why)
+  -- the device halted at a step, or memory was refused for the next ones
+  Stopped : (between : Wire) (stop : Stop) → Begins limits c before between → StopsSteps (doing limits c) between after c.steps.now stop
+      → stop.why ≢ Carried → EndsOnChip limits c before after (Failed stop.step stop.why)
   -- all were done, but the chip isn't known to hold what they leave
   NotLeft : (reached : Wire) (why : Mismatch) → DoesAll limits c before reached → c.expected.trusted ≡ false
       → ComparesWhole reached after (again limits c) (Err why) → EndsOnChip limits c before after (Failed (length c.steps.now) (failure_by why))
   -- all were done, and it holds that, unless it is trusted
   AllDone : (reached : Wire) (blank : Bool) → DoesAll limits c before reached → Compares (again limits c) c.expected.trusted reached after
-      → SaysBlank (expectation_of c.expected) c.content.now blank → EndsOnChip limits c before after (Done c.transactions blank)
+      → SaysBlank (expectation_of c.expected) c.content.now blank → EndsOnChip limits c before after (Done (length c.steps.now) blank)

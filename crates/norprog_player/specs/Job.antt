@@ -1,5 +1,5 @@
 -- What is to be played on which chip, and why that isn't known (this project's).
-use Rattle.std.specs.Prelude.{◌≡◌, ◌≢◌, ⊤, ℕ, ◌+◌, List, length, Result, Ok, Err}
+use Rattle.std.specs.Prelude.{◌≡◌, ◌≢◌, ⊤, ℕ, List, length, Result, Ok, Err}
 use Rattle.nor_base.specs.declared.step.Step.{Step}
 use Rattle.nor_base.specs.Device.{Ahead, Gives, IsAtEnd, raised}
 use Rattle.nor_base.specs.Parameters.{Parameters}

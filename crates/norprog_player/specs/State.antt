@@ -1,15 +1,9 @@
 -- What is told beside an ending, and its status (this project's).
-use Rattle.std.specs.Prelude.{ℕ, Bool, true, false, if◌then◌else◌, List, [], codes}
-use Rattle.norprog_device.specs.declared.failure.Failure.{Failure}
-use Rattle.norprog_device.specs.declared.failure.Failure.TheVariants.{Carried}
+use Rattle.std.specs.Prelude.{ℕ, Bool, false, if◌then◌else◌, List, [], codes}
 use Rattle.norprog_common.specs.Lines.{program_line}
+use Rattle.norprog_device.specs.FailureBlame.{is_sent}
 use Rattle.norprog_player.specs.declared.ending.Ending.{Ending}
 use Rattle.norprog_player.specs.declared.ending.Ending.TheVariants.{Done, Wrong as GoesWrong, No, Unlike, Failed}
-
--- a step that failed so was sent
-abbrev pub is_sent : Failure → Bool
-is_sent Carried = false
-is_sent other = true
 
 -- steps were sent, and not all of them are known to be done
 abbrev pub is_partial : Ending → Bool
@@ -17,7 +11,7 @@ is_partial (Done transactions blank) = false
 is_partial (GoesWrong step why) = false
 is_partial (No step why) = false
 is_partial (Unlike why) = false
-is_partial (Failed step why) = is_sent why
+is_partial (Failed step why) = is_sent step why
 
 -- what is written then
 abbrev pub state_line : List ℕ
@@ -32,4 +26,4 @@ status_of (Done transactions blank) = 0
 status_of (GoesWrong step why) = 1
 status_of (No step why) = 1
 status_of (Unlike why) = 1
-status_of (Failed step why) = if is_sent why then 3 else 1
+status_of (Failed step why) = if is_sent step why then 3 else 1

@@ -1,7 +1,8 @@
 //! What a device is to do on which chip.
 
 use crate::expected::Expected;
-use nor_base::{Meaning, Step};
+use nor_base::Meaning;
+use nor_flasher::PackedSteps;
 
 /// What a device is to do on which chip.
 #[derive(Clone, Copy)]
@@ -11,11 +12,9 @@ pub struct Course<'a> {
     /// What the chip holds before the steps, from address 0 on.
     pub content: &'a [u8],
     /// As a device does them.
-    pub steps: &'a [Step],
+    pub steps: &'a PackedSteps,
     /// What the chip holds after them, from address 0 on.
     pub left: &'a [u8],
-    /// Transactions of the chip in memory, one for each step.
-    pub transactions: u128,
     /// Most status reads of one poll.
     pub turns: u64,
 }

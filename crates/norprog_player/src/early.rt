@@ -7,8 +7,9 @@ ghost use Rattle.norprog_player.specs.Early.{chip_with, EndsEarly};
 use crate::ending::Ending;
 use crate::put::put_steps;
 use crate::rehearsal::{Rehearsal, rehearse};
-use nor_base::{Meaning, Start, Step};
-use nor_serprog::{Limits, carried};
+use nor_base::{Meaning, Start};
+use nor_flasher::PackedSteps;
+use nor_serprog::Limits;
 use norprog_device::Failure;
 use std::alloc::{AllocError, Global};
 
@@ -33,11 +34,9 @@ fn widest() -> Limits
 #[derive(Drop)]
 pub struct Rehearsed {
     /// The steps as a device does them.
-    pub steps: Vec<Step>,
+    pub steps: PackedSteps,
     /// What the chip holds after them, from address 0 on.
     pub left: Vec<u8>,
-    /// Transactions of the chip in memory, one for each step.
-    pub transactions: u128,
 }
 
 /// What is known of a play before a device is asked.
@@ -59,25 +58,21 @@ pub fn ends_early(
     meaning: &Meaning,
     start: Start,
     content: &[u8],
-    steps: Vec<Step>,
+    steps: PackedSteps,
 ) -> Result<Early, AllocError>
     requires size { length content.now ≡ meaning.now.size }
     requires mode { IsPossible meaning.now start }
-    ensures { IfOk result (EndsEarly (chip_with meaning.now start content.now) steps.items) }
+    ensures { IfOk result (EndsEarly (chip_with meaning.now start content.now) steps) }
 {
-    let (transactions, left) = match rehearse(alloc, meaning, start, content, steps.as_slice())? {
-        Rehearsal::Well { transactions, left } => (transactions, left),
+    let left = match rehearse(alloc, meaning, start, content, &steps)? {
+        Rehearsal::Well { left } => left,
         Rehearsal::Wrong { step, why } => return Ok(Early::Ends(Ending::Wrong { step, why })),
         Rehearsal::No { step, why } => return Ok(Early::Ends(Ending::No { step, why })),
     };
-    if let Err(step) = carried(steps.as_slice(), &widest()) {
+    if let Some(step) = steps.first_not_carried(alloc, &widest())? {
         let why = Failure::Carried;
         return Ok(Early::Ends(Ending::Failed { step, why }));
     }
     let steps = put_steps(alloc, meaning, start, content, steps)?;
-    Ok(Early::Goes(Rehearsed {
-        steps,
-        left,
-        transactions,
-    }))
+    Ok(Early::Goes(Rehearsed { steps, left }))
 }

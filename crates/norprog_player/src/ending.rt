@@ -12,7 +12,7 @@ pub enum Ending {
     /// The device did each step, and gave the bytes that the chip in memory gave.
     Done {
         /// Transactions of the chip in memory, one for each step.
-        transactions: u128,
+        transactions: u64,
         /// The chip isn't trusted and its content is FFh alone, so what was compared says nothing
         /// of which chip it is.
         blank: bool,

@@ -4,14 +4,15 @@ ghost use Rattle.std.specs.Prelude.{◌≡◌, IfOk, IfErr};
 ghost use Rattle.nor_base.specs.Script.{IsScript};
 ghost use Rattle.nor_job.specs.Status.{start_of};
 ghost use Rattle.norprog_common.specs.Content.{CountsReader};
-ghost use Rattle.nor_script.specs.Stream.{HadText};
+ghost use Rattle.nor_script.specs.Stream.{HadText, IsSpelled};
 ghost use Rattle.norprog_player.specs.Job.{IsSized, IsReady, RefusesSize, RefusesScript};
 ghost use Rattle.norprog_player.specs.Job.{source, sources, RefusesJob};
 ghost use Rattle.norprog_common.specs.Reading.{GivesSome};
 ghost use Rattle.norprog_player.specs.Job.{CountsScript, IsOfChip, IsEarly};
 
 use crate::script::read_steps;
-use nor_base::{ByteIn, Meaning, Start, Step};
+use nor_base::{ByteIn, Meaning, Start};
+use nor_flasher::PackedSteps;
 use nor_job::{BuildFault, Inputs};
 use nor_script::ReadFault;
 use norprog_common::{FileName, Refusal, known_chip, read_content};
@@ -22,7 +23,7 @@ use std::alloc::Global;
 pub struct Job {
     pub meaning: Meaning,
     pub start: Start,
-    pub steps: Vec<Step>,
+    pub steps: PackedSteps,
     /// What the chip holds, from address 0 on.
     pub content: Vec<u8>,
 }
@@ -41,7 +42,7 @@ pub fn job_of<A: ByteIn, R: ByteIn>(
 ) -> Result<Job, Refusal>
     ensures ready { IfOk result (λ job. (job.start ≡ start_of inputs.now) × IsReady (sources
         inputs.now len (source (A.ahead script.old) (A.ahead script.new))
-        (source (R.ahead content.old) (R.ahead content.new))) job.meaning job.steps.items
+        (source (R.ahead content.old) (R.ahead content.new))) job.meaning job.steps
         job.content.items) }
     ensures refused { IfErr result (RefusesJob (sources inputs.now len
         (source (A.ahead script.old) (A.ahead script.new))
@@ -64,10 +65,12 @@ pub fn job_of<A: ByteIn, R: ByteIn>(
 }
 
 /// The steps of a script: its fault, or `File` of `Script` where its reader fails.
-fn steps_of<A: ByteIn>(alloc: Global, script: &mut A) -> Result<Vec<Step>, Refusal>
+fn steps_of<A: ByteIn>(alloc: Global, script: &mut A) -> Result<PackedSteps, Refusal>
     ensures read { IfOk result
         (λ steps. HadText (A.ahead script.old) (A.ahead script.new)
-        (λ text. IsScript text steps.items)) }
+        (λ text. IsScript text steps)) }
+    ensures spelled { IfOk result
+        (λ _. HadText (A.ahead script.old) (A.ahead script.new) IsSpelled) }
     ensures refused { IfErr result (RefusesScript (A.ahead script.old) (A.ahead script.new)) }
     ensures gave { GivesSome (A.ahead script.old) (A.ahead script.new) }
     ensures count { CountsScript (A.count script.old) (A.count script.new) result }

@@ -1,9 +1,9 @@
-//! A script on a device that speaks serprog, with a chip in memory beside it (docs/FORMATS.md,
-//! sections 9 and 14).
+//! A script on a device that speaks serprog, judged in memory before (docs/FORMATS.md, sections 9
+//! and 14).
 //!
-//! [`job_of`] reads what is to be played from the bytes of the inputs. [`ends_early`] plays it on a
-//! chip in memory, checks that every chip does the same, and tells how it ends whatever the device
-//! is, or what a device is to do. [`play_on`] has one do that, from its handshake on, over any
+//! [`job_of`] reads what is to be played from the bytes of the inputs. [`ends_early`] checks that
+//! every chip does the same, and tells how it ends whatever the device is, or what a device is to
+//! do. [`play_on`] has one do that, from its handshake on, over any
 //! reader and writer, and [`play_on_device`] the part of it after the test of the line: no step
 //! goes out before each is one operation of the device and, unless the chip behind it is trusted,
 //! what they touch of that chip was read and is what it is to hold. [`report_ending`] tells how it
@@ -29,6 +29,7 @@ mod request;
 mod script;
 mod state;
 mod unplayed;
+mod windows;
 
 pub use course::Course;
 pub use device::play_on_device;

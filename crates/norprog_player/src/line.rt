@@ -40,7 +40,7 @@ pub fn write_ending<W: ByteOut>(ending: &Ending, writer: &mut W) -> Result<(), F
 
 /// Writes `ok N`, and `blank` on a line before it where the content says nothing of which chip it
 /// is.
-fn write_done<W: ByteOut>(transactions: u128, blank: bool, writer: &mut W) -> Result<(), Failed>
+fn write_done<W: ByteOut>(transactions: u64, blank: bool, writer: &mut W) -> Result<(), Failed>
     ensures bytes { Writes (W.held writer.old) (W.held writer.new) result
         (done_line transactions blank) }
     ensures count { Counts (W.count writer.old) (W.count writer.new) result }

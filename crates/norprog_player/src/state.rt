@@ -4,13 +4,13 @@ ghost use Rattle.std.specs.Prelude.{◌≡◌, ◌≤◌, false};
 ghost use Rattle.nor_base.specs.Device.{Writes, Counts};
 ghost use Rattle.norprog_common.specs.Told.{Says, output};
 ghost use Rattle.norprog_player.specs.Line.{ending_line};
-ghost use Rattle.norprog_player.specs.State.{is_partial, is_sent, state_told, status_of};
+ghost use Rattle.norprog_player.specs.State.{is_partial, state_told, status_of};
 
 use crate::ending::Ending;
 use crate::line::write_ending;
 use nor_base::{ByteOut, Failed, put_all};
 use norprog_common::refuse_lines;
-use norprog_device::Failure;
+use norprog_device::is_sent;
 
 /// What is written where the chip may hold a part of what the steps do.
 const STATE: &[u8] =
@@ -52,20 +52,9 @@ fn is_partial(ending: &Ending) -> bool
     ensures { result ≡ is_partial ending.now }
 {
     match *ending {
-        Ending::Failed { why, step: _ } => is_sent(why),
+        Ending::Failed { step, why } => is_sent(step, why),
         Ending::Done { .. } | Ending::Wrong { .. } | Ending::No { .. } | Ending::Unlike { .. } =>
             false,
-    }
-}
-
-/// Whether a step that failed so was sent.
-fn is_sent(why: Failure) -> bool
-    ensures { result ≡ is_sent why }
-{
-    match why {
-        Failure::Carried => false,
-        Failure::Exchange(_) | Failure::Busy => true,
-        Failure::Differs(_) | Failure::Gives { .. } => true,
     }
 }
 

@@ -12,7 +12,7 @@ use crate::store::{Store, Untold};
 use nor_base::{ByteOut, IntoWrite, Part, put_parts};
 use nor_script::hex_pair;
 use norprog_common::{Aim, Chip, ChipArgs, ImageArgs, ImageFile, job_rules, refuse};
-use norprog_device::refuse_device;
+use norprog_device::{Failure, refuse_device};
 use norprog_flash::{Ending, FlashArgs, FlashRequest, Unflashed, report_ending, write_ending};
 use norprog_named::flash;
 use norprog_read::{ReadRequest, write_unlike};
@@ -386,19 +386,30 @@ fn chips_are_flashed(rt: HostRuntime) -> Result<(), Fail> {
     Ok(())
 }
 
-/// Where memory is refused on the way the chip may be half done.
+/// Where memory is refused on the way the chip may be half done, but not before the first step.
 #[test]
 fn memory_may_end(rt: HostRuntime) {
-    let alloc = rt.alloc();
-    let ending = Ending::NoMemory { step: 12 };
+    ends_starved(&rt, rt.alloc(), 12, b"failed at 12 memory\n", 3);
+    ends_starved(&rt, rt.alloc(), 0, b"failed at 0 memory\n", 1);
+}
+
+/// Where memory is refused for this step, with this line and this status.
+fn ends_starved(rt: &impl Abort, alloc: Global, step: u64, want: &[u8], status: usize) {
+    let ending = Ending::Failed {
+        step,
+        why: Failure::Memory,
+    };
     let mut out = IntoWrite::new(Held::new(alloc, 100));
     let mut err = IntoWrite::new(Held::new(alloc, 1000));
-    let status = report_ending(ending, &no_texts(alloc), &mut out, &mut err);
-    same(&rt, "its status", usize::from(status), 3);
+    let ended = report_ending(ending, &no_texts(alloc), &mut out, &mut err);
+    same(rt, "its status", usize::from(ended), status);
     let line = out.into_inner().bytes;
-    holds(
-        &rt,
-        "its line",
-        line.as_slice() == b"failed at 12 memory\n".as_slice(),
+    holds(rt, "its line", line.as_slice() == want);
+    let told = err.into_inner().bytes;
+    same(
+        rt,
+        "what is told",
+        usize::from(told.is_empty()),
+        usize::from(status == 1),
     );
 }

@@ -1,10 +1,13 @@
 //! Which cells are compared, worked out by hand.
 
+ghost use Rattle.std.specs.Prelude.{◌≡◌, length};
+
 use crate::ports::PLAIN;
 use crate::same::{holds, same};
-use nor_cells::{compared_cells, mark_wraps};
+use nor_base::{Meaning, Step};
+use nor_cells::{TouchedCells, mark_wraps};
 use nor_script::read;
-use std::alloc::Global;
+use std::alloc::{AllocError, Global};
 use std::process::Abort;
 use test_samples::small_chip;
 use test_samples::texts::ONE_BYTE;
@@ -63,6 +66,22 @@ fn content(alloc: Global, held: &[usize]) -> Vec<u8> {
     bytes
 }
 
+/// The cells that are compared before steps, which come in two parts.
+fn compared(
+    alloc: Global,
+    chip: &Meaning,
+    content: &[u8],
+    steps: &[Step],
+) -> Result<Vec<bool>, AllocError>
+    requires { length content.now ≡ chip.now.size }
+{
+    let (first, others) = steps.split_at(steps.len() / 2);
+    let mut cells = TouchedCells::new(alloc, chip, &PLAIN)?;
+    cells.touch(first);
+    cells.touch(others);
+    cells.compared(alloc, content)
+}
+
 /// Whether just these of the 32 cells are marked.
 fn just(marks: &[bool], cells: &[usize]) -> bool {
     let mut so = marks.len() == 32;
@@ -80,7 +99,7 @@ fn cells_are_compared(rt: HostRuntime) {
         let content = content(rt.alloc(), row.held);
         holds(&rt, "content", content.len() == chip.size as usize);
         match read(rt.alloc(), row.text.as_bytes()) {
-            Ok(steps) => match compared_cells(rt.alloc(), &chip, &PLAIN, &content, &steps) {
+            Ok(steps) => match compared(rt.alloc(), &chip, &content, &steps) {
                 Ok(marks) => holds(&rt, "cells", just(&marks, row.cells)),
                 Err(_) => holds(&rt, "memory", false),
             },

@@ -1,5 +1,7 @@
 //! Checks where memory is refused.
 
+ghost use Rattle.std.specs.Prelude.{◌≡◌};
+
 use crate::ports::PLAIN;
 use crate::same::holds;
 use nor_base::Step;
@@ -37,7 +39,7 @@ fn checks(
     check(alloc, steps, &chip, &PLAIN, &BLANK, want)
 }
 
-/// As [`checks`], fed with one step after another.
+/// As [`checks`], fed with one step after another. On a yes the chips are left with what is wanted.
 fn feeds(
     rt: &impl Abort,
     alloc: Global,
@@ -48,9 +50,15 @@ fn feeds(
     let chip = small_chip();
     let size = chip.size as usize;
     holds(rt, "bytes", have.len() == size && want.len() == size);
-    let mut checker = StepChecker::new(alloc, &chip, PLAIN, have, want);
+    let mut checker = StepChecker::new(alloc, &chip, PLAIN, have);
     feed_all(rt, alloc, &mut checker, steps)?;
-    Ok(checker.verdict())
+    let said = checker.verdict(want);
+    let same = match checker.left() {
+        Some(left) => left.as_slice() == want,
+        None => false,
+    };
+    holds(rt, "left", same == (said == Verdict::Yes));
+    Ok(said)
 }
 
 /// Feeds a checker with borrowed clocks.
@@ -59,7 +67,9 @@ fn feed_all(
     alloc: Global,
     checker: &mut StepChecker<'_>,
     steps: &[Step],
-) -> Result<(), CheckFault> {
+) -> Result<(), CheckFault>
+    ensures size { checker.new.size ≡ checker.old.size }
+{
     for step in steps {
         holds(rt, "few steps", checker.number() <= 1000);
         match step {

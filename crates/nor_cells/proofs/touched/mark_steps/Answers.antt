@@ -11,7 +11,7 @@ loop-step-preserved c = record {
       c.mark_step-mode4.new.marks c.loop-step-test.true c.step-item.is c.loop-step.invariant.mode c.loop-step.invariant.marked c.mark_step-mode4.ensures.marked;
 }
 
-pub returns : goal.returns
-returns c =
+pub returns-clause-marked : goal.returns-clause-marked
+returns-clause-marked c =
     marked_to_end c.args.meaning.now c.args.mode4 c.args.steps.now c.loop-step.step-index c.args.marks.now c.loop-step.marks (omega (arith, c.loop-step-test.false))
     c.loop-step.invariant.marked

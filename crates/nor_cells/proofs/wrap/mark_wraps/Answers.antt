@@ -1,5 +1,5 @@
 -- One size more; no content is so long that a larger one would show.
-use Rattle.std.proofs.Common.{◌≡◌, ◌^◌, ◌≤◌, arith, sym, subst}
+use Rattle.std.proofs.Common.{arith, subst}
 use Rattle.nor_cells.specs.Marks.{MarkedBy}
 use Rattle.nor_cells.specs.Wrap.{TellsApart}
 use Rattle.nor_cells.proofs.WrapLemmas.{wrap_next, wrap_all, shifted}

@@ -10,7 +10,8 @@ use Rattle.nor_check.proofs.checker.check.Given as goal
 
 abbrev pub invariant-loop-step : goal.invariant-loop-step
 invariant-loop-step l = record {
-  worst : IsWorst (trial l.meaning l.start l.have l.want l.steps) (to_come l.checker (drop l.step-index l.steps));
-  yes : (to_come l.checker (drop l.step-index l.steps) ≡ Yes) ↔ DoesTaskOnEvery l.meaning l.start l.have l.want l.steps;
+  worst : IsWorst (trial l.meaning l.start l.have l.want l.steps) (to_come l.checker l.want (drop l.step-index l.steps));
+  yes : (to_come l.checker l.want (drop l.step-index l.steps) ≡ Yes) ↔ DoesTaskOnEvery l.meaning l.start l.have l.want l.steps;
   number : l.checker.number ≡ l.step-index;
+  size : l.checker.size ≡ l.meaning.size;
 }

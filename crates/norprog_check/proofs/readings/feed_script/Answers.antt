@@ -17,7 +17,8 @@ loop-reader-init g c = record {
   above = [];
   read = has_begun _ _ c.in_ok-reader.ensures.begun.0;
   number = c.in_ok-reader.ensures.begun.1;
-  fed = c.requires.begins;
+  fed = c.requires.begins.0;
+  size = refl;
   told = λ more. refl;
   shown = λ more v w h. h;
   count = c.in_ok-reader.ensures.count;
@@ -49,8 +50,9 @@ loop-reader-preserved g c =
       read = has_more _ _ _ v.above c.advance.new.self.step v.read read.0 read.1;
       number = omega (arith, more, v.number, length-append v.above (c.advance.new.self.step ∷ []));
       fed = omega (arith, c.in_ok-feed.ensures.number, v.fed, length-append v.above (c.advance.new.self.step ∷ []));
-      told = fed_more _ _ _ v.above c.advance.new.self.step _ v.told c.view.ensures c.in_ok-feed.ensures.fed;
-      shown = shown_more _ _ _ v.above c.advance.new.self.step _ v.shown c.view.ensures c.in_ok-feed.ensures.shown;
+      size = c.feed.ensures.size ∙ v.size;
+      told = fed_more c.args.want.now _ _ _ v.above c.advance.new.self.step _ v.told c.view.ensures (c.in_ok-feed.ensures.fed c.args.want.now);
+      shown = shown_more c.args.want.now _ _ _ v.above c.advance.new.self.step _ v.shown c.view.ensures (c.in_ok-feed.ensures.shown c.args.want.now);
       count = c.in_ok-advance.ensures.count ∙ v.count;
     }
 
@@ -59,5 +61,5 @@ returns-clause-told g c =
     let v = c.loop-reader.invariant in
     let read : Advances (reading (g.A.ByteIn.ahead c.loop-reader.script) c.loop-reader.reader.held) (reading (g.A.ByteIn.ahead c.advance.new.source) c.advance.new.self.held) c.loop-reader.reader.steps c.advance.new.self.step (Ok false) =
     subst (λ b. Advances (reading (g.A.ByteIn.ahead c.loop-reader.script) c.loop-reader.reader.held) (reading (g.A.ByteIn.ahead c.advance.new.source) c.advance.new.self.held) c.loop-reader.reader.steps c.advance.new.self.step (Ok b)) c.if-branch.false c.in_ok-advance.ensures.step in
-    feeds_all _ c.args.checker c.loop-reader.checker (reading (g.A.ByteIn.ahead c.loop-reader.script) c.loop-reader.reader.held) (reading (g.A.ByteIn.ahead c.advance.new.source) c.advance.new.self.held) v.above c.loop-reader.reader.steps c.advance.new.self.step _ v.read v.number read v.told v.shown
+    feeds_all _ c.args.want.now c.args.checker c.loop-reader.checker (reading (g.A.ByteIn.ahead c.loop-reader.script) c.loop-reader.reader.held) (reading (g.A.ByteIn.ahead c.advance.new.source) c.advance.new.self.held) v.above c.loop-reader.reader.steps c.advance.new.self.step _ v.read v.number read v.told v.shown
     (c.number.ensures ∙ v.fed) c.verdict.ensures c.witness.ensures

@@ -11,8 +11,9 @@ invariant-loop-reader g l = record {
   read : HasRead (reading (g.A.ByteIn.ahead l.fn.script) []) (reading (g.A.ByteIn.ahead l.script) l.reader.held) above;
   number : l.reader.steps ≡ length above;
   fed : l.checker.number ≡ length above;
-  told : IsFedWith l.fn.checker l.checker above;
-  shown : ShowsWith l.fn.checker l.checker above;
+  size : l.checker.size ≡ l.fn.checker.size;
+  told : IsFedWith l.want l.fn.checker l.checker above;
+  shown : ShowsWith l.want l.fn.checker l.checker above;
   count : g.A.ByteIn.count l.script ≡ g.A.ByteIn.count l.fn.script;
 }
 

@@ -5,7 +5,7 @@ use Rattle.norprog_common.proofs.join.joined.Goals as goal
 
 pub returns-in_err-other-clause-refused : goal.returns-in_err-other-clause-refused
 returns-in_err-other-clause-refused c =
-    handed_on (RefusesJoin c.args.image.now c.args.text.now) _ _ c.from_residual.ensures.1 (NoOther _ c.in_err-other.ensures.refused)
+    handed_on (RefusesJoin c.args.image.now c.args.beside) _ _ c.from_residual.ensures.1 (NoOther _ c.in_err-other.ensures.refused)
 
 pub returns-in-Ok-clause-joined : goal.returns-in-Ok-clause-joined
 returns-in-Ok-clause-joined c = Joined c.in_ok-other.other c.in_ok-other.ensures.image c.in-Ok.ensures.union

@@ -1,19 +1,30 @@
 -- The work goes on so, by the steps that the steppers make.
-use Rattle.std.proofs.Common.{ℕ, List, ◌∙◌, ap, length, All, refl, sym, subst}
+use Rattle.std.proofs.Common.{◌≡◌, ℕ, List, ◌∙◌, ap, length, All, refl, sym, subst}
 use Rattle.nor_base.specs.declared.step.Step.{Step}
-use Rattle.nor_base.specs.Wire.{wire}
+use Rattle.nor_base.specs.Wire.{Wire, wire}
+use Rattle.nor_reader.specs.declared.by.ReadBy.{ReadBy}
 use Rattle.nor_serprog.specs.Done.{IsDoable}
 use Rattle.nor_serprog.specs.Steps.{AreCarried}
 use Rattle.norprog.specs.Stepper.{steps_by, update_of}
 use Rattle.norprog_flash.specs.Survey.{IsUnbegun}
 use Rattle.norprog_flash.specs.declared.survey.Unbegun.TheVariants.{Carried}
-use Rattle.norprog_flash.specs.Begun.{session}
+use Rattle.norprog_flash.specs.Begun.{Session, session}
 use Rattle.norprog_device.specs.declared.failure.Failure.TheVariants as failure
+use Rattle.norprog_flash.specs.declared.ending.Ending.{Ending}
 use Rattle.norprog_flash.specs.declared.ending.Ending.TheVariants.{Failed}
-use Rattle.norprog_flash.specs.Worked.{Cannot, Goes, GoesOn, WorksOut, flashing}
-use Rattle.norprog_flash.specs.Work.{plan_of}
+use Rattle.norprog_flash.specs.Worked.{Back, Cannot, Goes, GoesOn, WorksOut, doing_in, flashing, flashing_in}
+use Rattle.norprog_flash.specs.Work.{Plan, plan_of}
 use Rattle.norprog_flash.proofs.PlannedLemmas.{count_is, steps_are, steps_doable}
 use Rattle.norprog_flash.proofs.device.work_on.Goals as goal
+
+-- the steps that were made are those of the plan, and a slice of its goal is that
+of_plan : (s : Session) (before after : Wire) (p : Plan) (by : ReadBy) (ending : Ending) (steps : List Step) (bytes : List ℕ) → p.steps ≡ steps → bytes ≡ p.goal
+    → WorksOut (doing_in s) before after (flashing steps (record { bytes = bytes; by = by; larger = s.job.ask.any_size })) ending
+    → WorksOut (doing_in s) before after (flashing_in s p by) ending
+of_plan s before after p by ending steps bytes those all works =
+    let back : List ℕ → Back = λ xs. record { bytes = xs; by = by; larger = s.job.ask.any_size } in
+    subst (λ (xs : List Step). WorksOut (doing_in s) before after (flashing xs (back p.goal)) ending) (sym those)
+    (subst (λ (xs : List ℕ). WorksOut (doing_in s) before after (flashing steps (back xs)) ending) all works)
 
 pub returns-in-Err-Carried-clause-goes : goal.returns-in-Err-Carried-clause-goes
 returns-in-Err-Carried-clause-goes g c = λ steps is.
@@ -31,21 +42,21 @@ do_work-requires-clause-all g c =
     let steps = c.requires.planned.0 in
     let is = c.requires.planned.1 in
     count_is s is.0 is.1 (plan_of c.args.work.now steps) is.2 is.3
-    ∙ ap length (steps_are s is.0 is.1 (plan_of c.args.work.now steps) is.2 is.3 c.new-stepper-2.result _ _ _ c.said_start-start.ensures c.as_slice-have.ensures.value c.as_slice-want.ensures.value c.new-stepper-2.ensures.update c.new-stepper-2.ensures.only)
+    ∙ ap length (steps_are s is.0 is.1 (plan_of c.args.work.now steps) is.2 is.3 c.new.result _ _ _ c.said_start-start.ensures c.as_slice-have.ensures.value c.as_slice-want.ensures.value c.new.ensures.update c.new.ensures.only)
 
 pub do_work-requires-clause-form : goal.do_work-requires-clause-form
 do_work-requires-clause-form g c =
     let s = session c.args.job.now c.args.limits.now c.args.held.now.reading in
     let steps = c.requires.planned.0 in
     let is = c.requires.planned.1 in
-    subst (All IsDoable) (steps_are s is.0 is.1 (plan_of c.args.work.now steps) is.2 is.3 c.new-stepper-2.result _ _ _ c.said_start-start.ensures c.as_slice-have.ensures.value c.as_slice-want.ensures.value c.new-stepper-2.ensures.update c.new-stepper-2.ensures.only)
+    subst (All IsDoable) (steps_are s is.0 is.1 (plan_of c.args.work.now steps) is.2 is.3 c.new.result _ _ _ c.said_start-start.ensures c.as_slice-have.ensures.value c.as_slice-want.ensures.value c.new.ensures.update c.new.ensures.only)
     (steps_doable s is.0 is.1 (plan_of c.args.work.now steps) is.2 is.3 c.doable.ensures.doable)
 
 pub returns-clause-goes : goal.returns-clause-goes
 returns-clause-goes g c = λ steps is.
     let s = session c.args.job.now c.args.limits.now c.args.held.now.reading in
-    let those = steps_are s is.0 is.1 (plan_of c.args.work.now steps) is.2 is.3 c.new-stepper-2.result _ _ _ c.said_start-start.ensures c.as_slice-have.ensures.value c.as_slice-want.ensures.value c.new-stepper-2.ensures.update c.new-stepper-2.ensures.only in
-    let first = steps_are s is.0 is.1 (plan_of c.args.work.now steps) is.2 is.3 c.new-stepper.result _ _ _ c.said_start-start.ensures c.as_slice-have.ensures.value c.as_slice-want.ensures.value c.new-stepper.ensures.update c.new-stepper.ensures.only in
+    let p = plan_of c.args.work.now steps in
+    let those = steps_are s is.0 is.1 p is.2 is.3 c.new.result _ _ _ c.said_start-start.ensures c.as_slice-have.ensures.value c.as_slice-want.ensures.value c.new.ensures.update c.new.ensures.only in
+    let first = steps_are s is.0 is.1 p is.2 is.3 c.new-stepper.result _ _ _ c.said_start-start.ensures c.as_slice-have.ensures.value c.as_slice-want.ensures.value c.new-stepper.ensures.update c.new-stepper.ensures.only in
     Goes c.args.held.now.by c.do_work.result c.requires.way (subst (AreCarried c.args.limits.now) (sym first) c.in-Ok.ensures.seen.carried)
-    (subst (λ (xs : List Step). WorksOut s (wire (g.W.ByteOut.held c.args.to.now) (g.R.ByteIn.ahead c.args.from.now)) (wire (g.W.ByteOut.held c.do_work.new.to) (g.R.ByteIn.ahead c.do_work.new.from))
-    (flashing (plan_of c.args.work.now xs) c.args.held.now.by) c.do_work.result) (sym those) c.do_work.ensures.ends)
+    (of_plan s _ _ p c.args.held.now.by c.do_work.result _ _ those c.as_slice-want.ensures.value c.do_work.ensures.ends)

@@ -1,5 +1,5 @@
 -- The request that the values spell, or usage; and its report.
-use Rattle.std.proofs.Common.{◌∙◌, [], ap, arith, is_some, option_map, refl, sym}
+use Rattle.std.proofs.Common.{◌∙◌, [], ap, is_some, refl, sym}
 use Rattle.std.specs.Prelude.{◌&&◌, Bool}
 use Rattle.nor_base.proofs.FaultLaws.{answered}
 use Rattle.norprog_files.proofs.FilesLemmas.{adds_none}

@@ -1,5 +1,5 @@
 -- The request that the values spell, or why there is none; and its verdict's line.
-use Rattle.std.proofs.Common.{[], arith, refl}
+use Rattle.std.proofs.Common.{[], refl}
 use Rattle.nor_base.proofs.FaultLaws.{answered}
 use Rattle.norprog_files.proofs.FilesLemmas.{adds_none}
 use Rattle.norprog_named.specs.Asked.{CutOff, EndsRunAsked, Printed, Spelled, Unworked, Unspelled}

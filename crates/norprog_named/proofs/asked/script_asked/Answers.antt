@@ -1,5 +1,5 @@
 -- The request that the values spell, or usage; and its number of steps.
-use Rattle.std.proofs.Common.{[], arith, refl, sym}
+use Rattle.std.proofs.Common.{[], refl, sym}
 use Rattle.nor_base.proofs.FaultLaws.{answered}
 use Rattle.norprog_files.proofs.FilesLemmas.{adds_none}
 use Rattle.norprog_named.specs.Asked.{CutOff, EndsScriptAsked, Formed, Printed, Unformed, Unworked}

@@ -1,5 +1,5 @@
 -- The chip that the values spell, or usage; and the lines of its meaning.
-use Rattle.std.proofs.Common.{[], arith, refl, sym}
+use Rattle.std.proofs.Common.{[], refl, sym}
 use Rattle.nor_base.proofs.FaultLaws.{answered}
 use Rattle.norprog_files.proofs.FilesLemmas.{adds_none}
 use Rattle.norprog_named.specs.Asked.{CutOff, EndsSfdpAsked, Formed, Printed, Unformed, Unworked}

@@ -1,5 +1,5 @@
 -- Each step that ends it.
-use Rattle.std.proofs.Common.{[], ◌∷◌, ◌++◌, arith}
+use Rattle.std.proofs.Common.{[], ◌∷◌, ◌++◌}
 use Rattle.nor_job.specs.Written.{passed}
 use Rattle.nor_base.proofs.DeviceLaws.{risen_some}
 use Rattle.nor_base.proofs.FaultLaws.{answered}

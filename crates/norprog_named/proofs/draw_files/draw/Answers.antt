@@ -1,5 +1,5 @@
 -- Each step that ends it.
-use Rattle.std.proofs.Common.{ℕ, List, [], ◌∷◌, arith, subst, sym, take}
+use Rattle.std.proofs.Common.{ℕ, List, [], ◌∷◌, subst, sym, take}
 use Rattle.std.specs.Io.KnownBytes.{Appends}
 use Rattle.nor_base.specs.Script.{IsScript}
 use Rattle.nor_base.specs.declared.step.Step.{Step}

@@ -1,5 +1,5 @@
 -- Each step that ends it.
-use Rattle.std.proofs.Common.{[], ◌∷◌, Err, arith, subst, sym}
+use Rattle.std.proofs.Common.{[], ◌∷◌, Err, subst, sym}
 use Rattle.nor_base.proofs.DeviceLaws.{risen_some}
 use Rattle.nor_base.proofs.FaultLaws.{answered}
 use Rattle.norprog_common.specs.declared.faults.Refusal.{Refusal}

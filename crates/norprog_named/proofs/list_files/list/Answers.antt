@@ -1,5 +1,5 @@
 -- What was printed of the script that was opened, or why there is nothing.
-use Rattle.std.proofs.Common.{[], ap, ◌∙◌, arith, refl}
+use Rattle.std.proofs.Common.{[], ap, ◌∙◌, refl}
 use Rattle.nor_base.proofs.DeviceLaws.{risen_some}
 use Rattle.nor_base.specs.Chip.{begins4}
 use Rattle.nor_base.proofs.FaultLaws.{answered}

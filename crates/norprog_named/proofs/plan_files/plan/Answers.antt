@@ -1,5 +1,5 @@
 -- Each step that ends it.
-use Rattle.std.proofs.Common.{◌++◌, List, ℕ, arith, refl, subst, ◌∙◌, ap}
+use Rattle.std.proofs.Common.{◌++◌, List, ℕ, refl, subst, ◌∙◌, ap}
 use Rattle.std.specs.Io.KnownBytes.{Appends}
 use Rattle.nor_base.specs.Device.{Cuts, one_more}
 use Rattle.nor_base.proofs.DeviceLaws.{Appends-append, risen_some}

@@ -1,5 +1,5 @@
 -- The file took the picture, and was closed.
-use Rattle.std.proofs.Common.{[], ◌∷◌, ◌++◌, arith, subst, sym}
+use Rattle.std.proofs.Common.{[], ◌∷◌, ◌++◌, subst, sym}
 use Rattle.std.specs.Prelude.{MatchResult}
 use Rattle.nor_base.proofs.FaultLaws.{answered}
 use Rattle.norprog_files.specs.Files.{Event, closing}

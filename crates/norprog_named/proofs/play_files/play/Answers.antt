@@ -81,7 +81,7 @@ returns g c =
     let did = c.play_job.ensures in (
       _,
       adds_both (adds_both tables.1 (adds_both c.in_ok-content.ensures.did c.in_ok-script.ensures.did)) did.1,
-      Played (play_of job.steps.items _ job.meaning job.content.items r.limit) _ did.0 c.play_job.result (record {
+      Played (play_of job.steps _ job.meaning job.content.items r.limit) _ did.0 c.play_job.result (record {
         sources = s;
         opens = Opens_all _ _ tables.0 tables.2 is;
         ready = c.in_ok-job.ensures.ready.1;

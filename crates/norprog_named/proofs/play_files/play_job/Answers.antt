@@ -1,9 +1,7 @@
 -- How it ends in memory, and by the device.
-use Rattle.std.proofs.Common.{[], ◌∷◌, refl, subst, sym}
-use Rattle.std.specs.Prelude.{All}
+use Rattle.std.proofs.Common.{[], ◌∷◌, refl}
 use Rattle.nor_base.proofs.FaultLaws.{answered}
 use Rattle.nor_job.specs.declared.fault.BuildFault.TheVariants.{Memory}
-use Rattle.nor_serprog.specs.Done.{IsDoable}
 use Rattle.norprog_common.specs.declared.faults.Refusal.TheVariants.{Build}
 use Rattle.norprog_files.specs.Files.{Denied}
 use Rattle.norprog_files.proofs.FilesLemmas.{adds_both, adds_none}
@@ -15,7 +13,7 @@ use Rattle.norprog_named.proofs.play_files.play_job.Goals as goal
 
 pub returns-in_err-ending : goal.returns-in_err-ending
 returns-in_err-ending g c =
-    let p = play_of c.args.job.steps.items (expectation_of c.args.expected) c.args.job.meaning c.args.job.content.items c.args.limit in
+    let p = play_of c.args.job.steps (expectation_of c.args.expected) c.args.job.meaning c.args.job.content.items c.args.limit in
     ([], adds_none _, answered _ (EndsPlaying c.args.device.now p []) (Refused (Build Memory)) NoMemory c.from_residual.ensures.1)
 
 pub returns-in-Ends : goal.returns-in-Ends
@@ -24,7 +22,7 @@ returns-in-Ends g c = ([], adds_none _, InMemory c.in-Ends.ending (rw (c.as_slic
 pub returns-in_err-from : goal.returns-in_err-from
 returns-in_err-from g c =
     let device = c.args.device.now in
-    let p = play_of c.args.job.steps.items (expectation_of c.args.expected) c.args.job.meaning c.args.job.content.items c.args.limit in
+    let p = play_of c.args.job.steps (expectation_of c.args.expected) c.args.job.meaning c.args.job.content.items c.args.limit in
     let may = rw (c.as_slice-content.ensures.value, c.in-Goes.is) at c.in_ok-ending.ensures in
     let log = Denied device ∷ [] in (
       log,
@@ -35,7 +33,7 @@ returns-in_err-from g c =
 pub play_on-ended-requires-clause-form : goal.play_on-ended-requires-clause-form
 play_on-ended-requires-clause-form g c =
     let may = rw (c.as_slice-content.ensures.value, c.in-Goes.is) at c.in_ok-ending.ensures in
-    subst (All IsDoable) (sym c.as_slice.ensures.value) (put_doable _ _ _ may.put)
+    put_doable _ _ _ may.put
 
 pub returns : goal.returns
 returns g c =
@@ -46,9 +44,8 @@ returns g c =
         meaning = refl;
         expected = refl;
         content = c.as_slice-content.ensures.value;
-        steps = c.as_slice.ensures.value;
-        left = c.as_slice-2.ensures.value;
-        transactions = refl;
+        steps = refl;
+        left = c.as_slice.ensures.value;
         turns = refl;
       }) c.play_on-ended.ensures,
     )

@@ -1,5 +1,5 @@
 -- The status, the tables, and the register that moves addresses.
-use Rattle.std.proofs.Common.{◌≡◌, Option, Result, Ok, Err, inr, subst}
+use Rattle.std.proofs.Common.{Option, Result, Ok, Err, inr, subst}
 use Rattle.std.specs.Prelude.{MatchResult}
 use Rattle.nor_base.proofs.FaultLaws.{answered}
 use Rattle.nor_base.specs.Wire.{Wire, wire}

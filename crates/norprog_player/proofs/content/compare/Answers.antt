@@ -1,5 +1,5 @@
 -- Piece by piece.
-use Rattle.std.proofs.Common.{refl, ◌∙◌, arith}
+use Rattle.std.proofs.Common.{arith}
 use Rattle.nor_cells.specs.Marks.{IsMarked}
 use Rattle.nor_base.specs.Wire.{wire}
 use Rattle.norprog_player.specs.Compared.{comparison}

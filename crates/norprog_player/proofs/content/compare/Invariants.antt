@@ -1,5 +1,5 @@
 -- The marked bytes so far were read.
-use Rattle.std.proofs.Common.{◌≡◌, ◌≤◌, ◌-◌, length}
+use Rattle.std.proofs.Common.{◌≤◌, ◌-◌, length}
 use Rattle.nor_base.specs.Wire.{wire}
 use Rattle.norprog_player.specs.Compared.{comparison, HasComparedTo}
 use Rattle.nor_cells.specs.Marks.{IsMarked}

@@ -1,5 +1,5 @@
 -- Where the steps end, beside what was compared.
-use Rattle.std.proofs.Common.{◌≡◌, ◌*◌, Bool, List, length, Err, refl, subst, sym}
+use Rattle.std.proofs.Common.{◌≡◌, ◌*◌, Bool, List, length, Err, subst}
 use Rattle.nor_base.specs.Chip.{begins4}
 use Rattle.nor_base.specs.Wire.{Wire, wire}
 use Rattle.nor_cells.specs.Compared.{IsAsked}
@@ -7,17 +7,15 @@ use Rattle.nor_cells.specs.Marks.{AreMarks, IsMarked}
 use Rattle.nor_cells.specs.Touched.{IsTouched}
 use Rattle.nor_serprog.specs.Steps.{AreCarried}
 use Rattle.nor_serprog.specs.declared.limits.Limits.{Limits}
-use Rattle.norprog_device.specs.declared.failure.Failure.{Failure}
-use Rattle.norprog_device.proofs.CarriedLemmas.{never_carried}
 use Rattle.norprog_player.specs.Access.{access_of}
 use Rattle.norprog_player.specs.declared.access.Access.{Access}
 use Rattle.norprog_player.specs.declared.course.Course.{Course}
-use Rattle.norprog_player.specs.declared.ending.Ending.TheVariants.{Failed}
 use Rattle.norprog_player.specs.Asked.{BeginsWith, IsUnknown}
 use Rattle.norprog_player.specs.Compared.{comparison}
-use Rattle.norprog_player.specs.Ending.{AllDone, Begins, EndsOnChip, Halted, NotKnown, NotLeft, asks}
+use Rattle.norprog_player.specs.Ending.{AllDone, Begins, NotKnown, NotLeft, Stopped, asks, doing}
 use Rattle.norprog_player.specs.Likeness.{Compares, ComparesWhole}
 use Rattle.norprog_player.proofs.LikenessLemmas.{begins_alike, compares_alike, marked_alike, marked_since, unknown_alike, whole_alike}
+use Rattle.norprog_player.proofs.WindowLemmas.{never_stops}
 use Rattle.norprog_player.proofs.device.play_compared.Goals as goal
 
 -- it was asked and compared, by what the code says of its access and its marks
@@ -45,10 +43,11 @@ returns-in-Err g c =
 
 pub returns-in-Err-do_steps : goal.returns-in-Err-do_steps
 returns-in-Err-do_steps g c =
-    Halted _ c.in-Err-do_steps.halt _
+    let stop = c.in-Err-do_steps.field-0 in
+    let stops = rw c.doing_of-doing.ensures at c.in-Err-do_steps.ensures.stopped in
+    Stopped _ stop
     (begun c.args.limits.now c.args.course.now _ c.args.cells.now _ _ c.access_of-access.ensures c.requires.cells c.requires.sizes.0 c.requires.carried c.in_default.ensures)
-    c.in-Err-do_steps.ensures.done c.failure_at-why.ensures
-    (never_carried _ _ c.args.course.now.turns _ _ _ c.in-Err-do_steps.halt _ c.requires.carried c.in-Err-do_steps.ensures.done c.failure_at-why.ensures)
+    stops (never_stops (doing c.args.limits.now c.args.course.now) _ _ _ stop c.requires.carried stops)
 
 pub returns-in-Ok : goal.returns-in-Ok
 returns-in-Ok g c =
@@ -58,14 +57,15 @@ returns-in-Ok g c =
     let marks = c.mark_wraps.new.marks in
     let reached = wire (g.W.ByteOut.held c.do_steps.new.to) (g.R.ByteIn.ahead c.do_steps.new.from) in
     let after = wire (g.W.ByteOut.held c.compare_unless_trusted.new.to) (g.R.ByteIn.ahead c.compare_unless_trusted.new.from) in
-    AllDone reached c.says_blank.result (record {
+    rw c.len.ensures
+    (AllDone reached c.says_blank.result (record {
       between = _;
       begins = begun limits course _ c.args.cells.now _ _ c.access_of-access.ensures c.requires.cells c.requires.sizes.0 c.requires.carried c.in_default.ensures;
-      does = c.in_default-do_steps.ensures.done;
+      does = rw c.doing_of-doing.ensures at c.in_default-do_steps.ensures.done;
     })
     (compares_alike limits _ left _ _ (marked_since _ _ _ _ c.args.cells.now marks c.requires.cells c.mark_wraps.ensures c.requires.sizes.1) course.expected.trusted reached after
     (subst (λ (a : Access). Compares (comparison limits a left (IsMarked marks)) course.expected.trusted reached after) c.access_of-access.ensures c.in-Ok.ensures.compared))
-    c.says_blank.ensures
+    c.says_blank.ensures)
 
 pub returns-in-Err-compare_unless_trusted : goal.returns-in-Err-compare_unless_trusted
 returns-in-Err-compare_unless_trusted g c =
@@ -77,11 +77,11 @@ returns-in-Err-compare_unless_trusted g c =
     let before = wire (g.W.ByteOut.held c.args.to.now) (g.R.ByteIn.ahead c.args.from.now) in
     let reached = wire (g.W.ByteOut.held c.do_steps.new.to) (g.R.ByteIn.ahead c.do_steps.new.from) in
     let after = wire (g.W.ByteOut.held c.compare_unless_trusted.new.to) (g.R.ByteIn.ahead c.compare_unless_trusted.new.from) in
-    subst (λ (f : Failure). EndsOnChip limits course before after (Failed (length course.steps.now) f)) (sym c.failure_by.ensures)
+    rw (c.failure_by.ensures, c.len-in-Err-compare_unless_trusted.ensures)
     (NotLeft reached why (record {
       between = _;
       begins = begun limits course _ c.args.cells.now _ _ c.access_of-access.ensures c.requires.cells c.requires.sizes.0 c.requires.carried c.in_default.ensures;
-      does = c.in_default-do_steps.ensures.done;
+      does = rw c.doing_of-doing.ensures at c.in_default-do_steps.ensures.done;
     }) c.in-Err-compare_unless_trusted.ensures.compared.0
     (whole_alike limits _ left _ _ (marked_since _ _ _ _ c.args.cells.now marks c.requires.cells c.mark_wraps.ensures c.requires.sizes.1) reached after (Err why)
     (subst (λ (a : Access). ComparesWhole reached after (comparison limits a left (IsMarked marks)) (Err why)) c.access_of-access.ensures

@@ -3,5 +3,5 @@ use Rattle.std.proofs.Common.{refl}
 use Rattle.norprog_player.specs.Ending.{NotCarried}
 use Rattle.norprog_player.proofs.device.play_on_device.Goals as goal
 
-pub returns-in-Err : goal.returns-in-Err
-returns-in-Err g c = record { ends = NotCarried c.in-Err.step c.in-Err.ensures refl }
+pub returns-in-Some : goal.returns-in-Some
+returns-in-Some g c = record { ends = NotCarried c.in-Some.step (rw c.in-Some.is at c.in_ok-step.ensures) refl }

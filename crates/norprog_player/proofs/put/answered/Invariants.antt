@@ -8,7 +8,7 @@ use Rattle.norprog_player.proofs.put.answered.Given as goal
 
 abbrev pub invariant-loop-step : goal.invariant-loop-step
 invariant-loop-step l = record {
-  put : AreAnswered l.fn.chip (take l.step-index l.steps) l.put.items l.chip;
-  form : All IsDoable l.put.items;
+  put : AreAnswered l.fn.chip (take l.step-index l.steps) l.put l.chip;
+  form : All IsDoable l.put;
   rest : GoesOn l.fn.chip l.steps l.chip (drop l.step-index l.steps);
 }

@@ -5,8 +5,8 @@ use Rattle.norprog_player.proofs.script.read_steps.Given as goal
 
 abbrev pub invariant-loop-reader : goal.invariant-loop-reader
 invariant-loop-reader g l = record {
-  read : HasRead (reading (g.A.ByteIn.ahead l.fn.script) []) (reading (g.A.ByteIn.ahead l.script) l.reader.held) l.steps.items;
-  number : l.reader.steps ≡ length l.steps.items;
+  read : HasRead (reading (g.A.ByteIn.ahead l.fn.script) []) (reading (g.A.ByteIn.ahead l.script) l.reader.held) l.steps;
+  number : l.reader.steps ≡ length l.steps;
   count : g.A.ByteIn.count l.script ≡ g.A.ByteIn.count l.fn.script;
 }
 
