@@ -9,9 +9,9 @@ use norprog_device::Failure;
 /// How a script ends on a device.
 #[derive(Clone, Copy, PartialEq, Eq, Drop)]
 pub enum Ending {
-    /// The device did each step, and gave the bytes that the chip in memory gave.
+    /// The device did each step, and gave the bytes that the chip in memory gives.
     Done {
-        /// Transactions of the chip in memory, one for each step.
+        /// How many steps there are: each is one transaction.
         transactions: u64,
         /// The chip isn't trusted and its content is FFh alone, so what was compared says nothing
         /// of which chip it is.

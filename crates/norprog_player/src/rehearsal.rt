@@ -37,11 +37,11 @@ pub enum Rehearsal {
     },
 }
 
-/// Checks that steps do the same on every chip that holds these bytes ([`StepChecker`]). Where they
-/// don't, it plays them on a ready chip in memory that is never busy, to tell which goes wrong.
+/// Checks that steps do the same on every chip that holds these bytes. Where they don't, it first
+/// plays them on a ready chip in memory that is never busy.
 ///
-/// Memory is taken for one more such content; where a step tells chips of different pages apart,
-/// more. Where they don't do the same, it is taken for three more, and for the clocks of all steps.
+/// Memory is taken for one more such content; for more where a step tells pages apart. Where they
+/// don't do the same, it is for three more, and for the clocks of all steps.
 pub fn rehearse(
     alloc: Global,
     meaning: &Meaning,
