@@ -1,3 +1,4 @@
+mod WithinLemmas
 mod ApartLemmas
 mod DoableLemmas
 mod LengthLemmas

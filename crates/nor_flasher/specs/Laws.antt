@@ -14,31 +14,29 @@ use Rattle.nor_serprog.specs.Carried.{operation_clocks}
 use Rattle.nor_serprog.specs.Row.{HasHalted}
 use Rattle.nor_serprog.specs.Steps.{IsFirstNotCarried}
 use Rattle.nor_loop.specs.Laws.{ReadTwice}
-use Rattle.nor_flasher.specs.Apart.{ClosesApart, BreaksApart, chip_read}
+use Rattle.nor_flasher.specs.Apart.{given, BreaksApart, ChipRead, ClosesApart}
+use Rattle.nor_flasher.specs.Within.{IsPlannedWithin}
 
--- a device read a content twice, and later did planned work on it
+-- a device read a chip twice, from one address up to another, and later did work on it that is planned for the content
 abbrev pub Closes : Type 0
-Closes = (h0 h1 h2 h3 : Option (List ℕ)) (a0 a1 a2 a3 : Ahead) (limits : Limits) (turns : ℕ) (m : Parameters) (start : Start) (verify : Bool)
-    (content : List ℕ) (goal : List ℕ → List ℕ) (steps : List Step)
-    → IsWorkable m start content (goal content) → ArePlanned m start verify content (goal content) steps
-    → ReadTwice (wire h0 a0) (wire h1 a1) m start content → HasDoneAll (wire h2 a2) (wire h3 a3) limits turns steps
-    → ClosesApart (wire h0 a0) (wire h1 a1) (wire h2 a2) (wire h3 a3) (chip_read m start content) goal steps
+Closes = (h0 h1 h2 h3 : Option (List ℕ)) (a0 a1 a2 a3 : Ahead) (limits : Limits) (turns : ℕ) (c : ChipRead) (goal : List ℕ → List ℕ)
+    (steps : List Step) → IsPlannedWithin c goal steps → ReadTwice (wire h0 a0) (wire h1 a1) c.m c.start (given c)
+    → HasDoneAll (wire h2 a2) (wire h3 a3) limits turns steps
+    → ClosesApart (wire h0 a0) (wire h1 a1) (wire h2 a2) (wire h3 a3) c goal steps
 
 -- or it halted in that work, which was planned for one lane
 abbrev pub Breaks : Type 0
-Breaks = (h0 h1 h2 h3 : Option (List ℕ)) (a0 a1 a2 a3 : Ahead) (limits : Limits) (turns : ℕ) (m : Parameters) (start : Start) (verify : Bool)
-    (content goal : List ℕ) (steps : List Step) (halt : Halt)
-    → start.quad ≡ false → IsWorkable m start content goal → ArePlanned m start verify content goal steps
-    → ReadTwice (wire h0 a0) (wire h1 a1) m start content → (halted : HasHalted (wire h2 a2) (wire h3 a3) limits turns steps halt)
-    → BreaksApart (wire h0 a0) (wire h1 a1) (wire h2 a2) (chip_read m start content) goal steps halt.step (halted.at ∷ halted.beyond)
+Breaks = (h0 h1 h2 h3 : Option (List ℕ)) (a0 a1 a2 a3 : Ahead) (limits : Limits) (turns : ℕ) (c : ChipRead) (goal : List ℕ → List ℕ)
+    (steps : List Step) (halt : Halt) → c.start.quad ≡ false → IsPlannedWithin c goal steps
+    → ReadTwice (wire h0 a0) (wire h1 a1) c.m c.start (given c) → (halted : HasHalted (wire h2 a2) (wire h3 a3) limits turns steps halt)
+    → BreaksApart (wire h0 a0) (wire h1 a1) (wire h2 a2) c goal steps halt.step (halted.at ∷ halted.beyond)
 
 -- or it did the steps before one of that work, and nothing more was asked of it
 abbrev pub Rests : Type 0
-Rests = (h0 h1 h2 h3 : Option (List ℕ)) (a0 a1 a2 a3 : Ahead) (limits : Limits) (turns : ℕ) (m : Parameters) (start : Start) (verify : Bool)
-    (content goal : List ℕ) (front : List Step) (x : Step) (rest : List Step)
-    → start.quad ≡ false → IsWorkable m start content goal → ArePlanned m start verify content goal (front ++ (x ∷ rest))
-    → ReadTwice (wire h0 a0) (wire h1 a1) m start content → HasDoneAll (wire h2 a2) (wire h3 a3) limits turns front
-    → BreaksApart (wire h0 a0) (wire h1 a1) (wire h2 a2) (chip_read m start content) goal (front ++ (x ∷ rest)) (length front) (x ∷ [])
+Rests = (h0 h1 h2 h3 : Option (List ℕ)) (a0 a1 a2 a3 : Ahead) (limits : Limits) (turns : ℕ) (c : ChipRead) (goal : List ℕ → List ℕ)
+    (front : List Step) (x : Step) (rest : List Step) → c.start.quad ≡ false → IsPlannedWithin c goal (front ++ (x ∷ rest))
+    → ReadTwice (wire h0 a0) (wire h1 a1) c.m c.start (given c) → HasDoneAll (wire h2 a2) (wire h3 a3) limits turns front
+    → BreaksApart (wire h0 a0) (wire h1 a1) (wire h2 a2) c goal (front ++ (x ∷ rest)) (length front) (x ∷ [])
 
 -- each step of planned work can be handed to a device
 abbrev pub PlannedIsDoable : Type 0

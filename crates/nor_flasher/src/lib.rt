@@ -3,8 +3,9 @@
 //! steps that are a part of them. [`PackedSteps`] keeps steps in little memory, and an [`Unpacker`]
 //! makes them again.
 //!
-//! [`closes`], [`breaks`] and [`doable`] do nothing. Their contracts are laws of content that was
-//! read twice and of planned work that a programmer then did, or broke off.
+//! [`within`], [`closes`], [`breaks`] and [`doable`] do nothing. Their contracts are laws of a chip
+//! that was read twice, all of it or a part, and of planned work within that, which a programmer
+//! then did, or broke off.
 #![tactic(auto)]
 
 mod kept;
@@ -13,7 +14,7 @@ mod packed;
 mod progress;
 mod steps;
 
-pub use laws::{breaks, closes, doable};
+pub use laws::{breaks, closes, doable, within};
 pub use nor_serprog::Halt;
 pub use packed::{PackedSteps, Unpacker};
 pub use progress::{Progress, bus_bytes};

@@ -1,5 +1,5 @@
 -- Where the work is broken off, at most one unit is in the making.
-use Rattle.std.proofs.Common.{◌≡◌, inl, inr, ℕ, zero, suc, not, ◌&&◌, Bool, true, false, if◌then◌else◌, List, [], ◌∷◌, ◌++◌, length, map, Option, Some, None, Result, Ok, Err, refl, sym, ◌∙◌, ap, subst, append_assoc, arith}
+use Rattle.std.proofs.Common.{◌≡◌, inl, inr, ℕ, zero, suc, not, ◌&&◌, Bool, true, false, if◌then◌else◌, List, [], ◌∷◌, ◌++◌, map, Option, Some, None, Result, Ok, Err, refl, sym, ◌∙◌, ap, subst, append_assoc, arith}
 use Rattle.std.specs.Prelude.{replicate}
 use Rattle.std.specs.List.{AllByRecursion, list_all}
 use Rattle.std.specs.Str.{bytes_eq}
@@ -28,13 +28,15 @@ use Rattle.nor_laws.proofs.EffectLaws.{taken}
 use Rattle.nor_laws.proofs.PollLaws.{left_with, read_busy, read_idle}
 use Rattle.nor_plan_laws.specs.Laws.{PlannedDoesTask, OneUnitInTheMaking}
 use Rattle.nor_serprog.specs.Row.{IsForm, enable_clocks}
-use Rattle.nor_loop.specs.Log.{Operation, clocks, Explains}
+use Rattle.nor_loop.specs.Log.{Operation, Explains}
 use Rattle.nor_loop.specs.Laws.{LoopBreaks}
 use Rattle.nor_loop.specs.Loop.{DoesSome}
 use Rattle.nor_loop.specs.Steps.{status_read, AreLogOf, IsBegun, IsFirstBegun, next_clocks}
 use Rattle.nor_loop.proofs.EnterLemmas.{plain, seen_06}
 use Rattle.nor_loop.proofs.FollowLemmas.{in_parts, status_clocks, done_same, poll_left, step_same, goes}
 use Rattle.nor_loop.proofs.LatchLemmas.{is_calm, latch_after, lowered_calm, mode_of, latch_of, calm_now, calm_later}
+use Rattle.nor_loop.proofs.LoopLemmas.{told_first}
+use Rattle.nor_loop.proofs.ReadLemmas.{its_mode}
 use Rattle.nor_loop.proofs.SomeLemmas.{sent_by, read_by, poll_by, took, sent_step, read_step, poll_step, same_bytes}
 
 -- what holds of the arrays of some chips
@@ -396,37 +398,29 @@ planned_here : (m : Parameters) (start : Start) (verify : Bool) (content goal : 
     → AreStepsOf s.meaning (ready s content).mode4 (planned m start verify content goal) steps
 planned_here m start verify content goal steps s is those =
     let these = planned m start verify content goal in
-    let mode : begins4 m start ≡ begins4 s.meaning s.start = sym (ap (λ (n : Parameters). begins4 n s.start) is.its_meaning ∙ ap (begins4 m) is.its_start) in
     subst (λ (n : Parameters). AreStepsOf n (begins4 s.meaning s.start) these steps) (sym is.its_meaning)
-    (subst (λ b. AreStepsOf m b these steps) mode those)
+    (subst (λ b. AreStepsOf m b these steps) (sym (its_mode m start s is)) those)
 
 pub loop_breaks : PlannedDoesTask → OneUnitInTheMaking → VerifyKeeps → LoopBreaks
-loop_breaks does making keeps m start verify content goal steps first again work at row reads able those one two begun s held after may =
-    let front = in_parts s (ready s held) after first (again ++ work) may.explains in
-    let told = one.tells s held front.between (record { is = may.is; size = may.size; explains = front.first }) in
-    let back = in_parts s front.between after again work front.second in
-    let retold = two.tells s held back.between
-    (record {
-      is = may.is;
-      size = may.size;
-      explains = subst (λ (c : Chip). Explains s c again back.between) told.1 back.first;
-    }) in
-    let on : Explains s (ready s content) work after =
-    subst (λ (array : List ℕ). Explains s (ready s array) work after) told.0
-    (subst (λ (c : Chip). Explains s c work after) retold.1 back.second) in
-    let its = does m start verify content goal steps able those s may.is in
-    let P = IsInTheMaking (planned_units m start content goal) content goal in
-    let c = ready s content in
-    let tail = row ++ begun.rest in
-    let trails = making m start verify content goal steps able those s may.is in
-    let are = planned_here m start verify content goal steps s may.is those in
-    let reached = reach P s c after its.final begun.front tail begun.done begun.begun (planned m start verify content goal) false
-    (subst (λ (l : List Step). AreStepsOf s.meaning c.mode4 (planned m start verify content goal) l) begun.those are)
-    (lowered_calm m start (strategy m start) (planned_ops m start verify content goal)) (λ none. refl)
-    (subst (λ (l : List Step). run s c l ≡ Ok its.final) begun.those its.good.runs) (none_made (planned_units m start content goal) content goal)
-    (subst (λ (l : List Step). AllHold P (trail s c l)) begun.those trails) begun.logged
-    (subst (λ (l : List Operation). Explains s c l after) begun.joined on) in
+loop_breaks does making keeps w c first again work at row reads doing one two begun s held after may =
+    let told = told_first w.m w.start c first (again ++ work) one.tells s held after may in
+    let on = (told_first w.m w.start c again work two.tells s held after told.1).1.explains in
+    let by = doing held may.content told.0 in
+    let goal = w.goal held in
+    let its = does w.m w.start w.verify held goal w.steps by.workable by.planned s may.is in
+    let units = planned_units w.m w.start held goal in
+    let P = IsInTheMaking units held goal in
+    let d = ready s held in
+    let trails = making w.m w.start w.verify held goal w.steps by.workable by.planned s may.is in
+    let are = planned_here w.m w.start w.verify held goal w.steps s may.is by.planned in
+    let these = planned w.m w.start w.verify held goal in
+    let reached = reach P s d after its.final begun.front (row ++ begun.rest) begun.done begun.begun these false
+    (subst (λ (l : List Step). AreStepsOf s.meaning d.mode4 these l) begun.those are)
+    (lowered_calm w.m w.start (strategy w.m w.start) (planned_ops w.m w.start w.verify held goal)) (λ none. refl)
+    (subst (λ (l : List Step). run s d l ≡ Ok its.final) begun.those its.good.runs) (none_made units held goal)
+    (subst (λ (l : List Step). AllHold P (trail s d l)) begun.those trails) begun.logged
+    (subst (λ (l : List Operation). Explains s d l after) begun.joined on) in
     record {
       held_it = told.0;
-      part = λ d some. row_holds keeps P s after d its.final reads row begun.rest begun.begun begun.form begun.last reached some;
+      part = λ e some. row_holds keeps P s after e its.final reads row begun.rest begun.begun begun.form begun.last reached some;
     }

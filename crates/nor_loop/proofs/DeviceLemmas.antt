@@ -12,7 +12,6 @@ use Rattle.nor_base.proofs.ListLaws.{all_append}
 use Rattle.nor_base.proofs.DeviceLaws.{Appends-none, Appends-append, Gives-append}
 use Rattle.nor_base.specs.Wire.{wire}
 use Rattle.nor_serprog.specs.declared.limits.Limits.{Limits}
-use Rattle.nor_base.specs.Run.{DoesTaskOnEvery}
 use Rattle.nor_serprog.specs.declared.halt.Halt.{Halt}
 use Rattle.nor_serprog.specs.declared.fault.Reason.{Reason}
 use Rattle.nor_serprog.specs.declared.fault.Reason.TheVariants as reason
@@ -216,26 +215,27 @@ halt_is_logged h i a b limits turns steps halt halted =
 
 -- planned work does the task, so the loop closes
 pub device_closes : PlannedDoesTask → ToldLoopCloses → LoopIsExplained → DeviceCloses
-device_closes does closes shown h i j a b c limits turns m start verify content goal steps able planned twice did =
-    let all = all_logged i j b c limits turns steps did in
-    let joined = append_assoc twice.first twice.again all.log in
-    let task : DoesTaskOnEvery m start content (goal content) steps = does m start verify content (goal content) steps able planned in record {
+device_closes does closes shown h i j a b c limits turns w k content doing whole there twice did =
+    let all = all_logged i j b c limits turns w.steps did in
+    let joined = append_assoc twice.first twice.again all.log in record {
       log = twice.first ++ (twice.again ++ all.log);
       wire = subst (HasLogged (wire h a) (wire j c)) joined (logged_both h i j a b c (twice.first ++ twice.again) all.log twice.wire all.wire);
-      every = closes m start content goal steps twice.first twice.again all.log twice.reads.tells twice.rereads.tells task all.is;
+      every = closes w.m w.start k w.goal w.steps twice.first twice.again all.log twice.reads.tells twice.rereads.tells
+          (λ held its has.
+          let by = doing held its has in does w.m w.start w.verify held (w.goal held) w.steps by.workable by.planned) all.is;
       some =
-          let one = shown m start verify content (goal content) steps twice.first twice.again all.log able planned twice.reads twice.rereads all.is in
+          let one = shown w k content twice.first twice.again all.log doing twice.reads twice.rereads all.is whole there in
           (one.0, content, one.1, one.2);
     }
 
 pub device_breaks : LoopBreaks → DeviceBreaks
-device_breaks breaks h i j a b c limits turns m start verify content goal steps halt able planned twice halted =
-    let at = halt_logged i j b c limits turns steps halt halted in
+device_breaks breaks h i j a b c limits turns w k halt doing twice halted =
+    let at = halt_logged i j b c limits turns w.steps halt halted in
     let joined = append_assoc twice.first twice.again at.log in record {
       held = at.held;
       ahead = at.ahead;
       log = twice.first ++ (twice.again ++ at.log);
       wire = subst (HasLogged (wire h a) (wire at.held at.ahead)) joined (logged_both h i at.held a b at.ahead (twice.first ++ twice.again) at.log twice.wire at.wire);
-      every = λ reads. breaks m start verify content goal steps twice.first twice.again at.log halt.step (halted.at ∷ halted.beyond) reads able planned twice.reads
-          twice.rereads at.begun;
+      every = λ reads.
+          breaks w k twice.first twice.again at.log halt.step (halted.at ∷ halted.beyond) reads doing twice.reads twice.rereads at.begun;
     }

@@ -7,7 +7,8 @@ use Rattle.nor_base.specs.Device.{Ahead}
 use Rattle.nor_base.specs.Parameters.{Parameters}
 use Rattle.nor_base.specs.Wire.{Wire, wire}
 use Rattle.nor_loop.specs.Log.{Operation, HasLogged}
-use Rattle.nor_loop.specs.Loop.{MayBe, EveryChipEnds, EveryChipHoldsPart}
+use Rattle.nor_loop.specs.Loop.{EveryChipEnds, EveryChipHoldsPart, MayBe, Work}
+use Rattle.nor_loop.specs.Reads.{Chunk}
 use Rattle.nor_loop.specs.Steps.{next_clocks}
 
 -- what went out and came back is a log. Every ready chip that explains it ends with the goal of what it held, and some chip explains it
@@ -19,9 +20,9 @@ pub record ClosesLoop (old new : Wire) (m : Parameters) (start : Start) (goal : 
 
 -- what went out and was answered before a row of steps, of which the first stopped, is a log. Every chip that explains the log has at most
 -- one unit in the making, also after it did some of the row, of a poll any number of status reads
-pub record BreaksLoop (before : Wire) (m : Parameters) (start : Start) (content goal : List ℕ) (row : List Step) : Type 0 where
+pub record BreaksLoop (before : Wire) (w : Work) (c : Chunk) (row : List Step) : Type 0 where
   pub held : Option (List ℕ)
   pub ahead : Ahead
   pub log : List Operation
   pub wire : HasLogged before (wire held ahead) log
-  pub every : (reads : ℕ) → EveryChipHoldsPart m start content goal log (next_clocks reads row)
+  pub every : (reads : ℕ) → EveryChipHoldsPart w c log (next_clocks reads row)

@@ -1,12 +1,11 @@
 -- Laws of logs (this project's).
-use Rattle.std.specs.Prelude.{◌≡◌, ◌≤◌, ◌<◌, ◌⊎◌, ℕ, ◌^◌, true, false, Bool, List, ◌∷◌, ◌++◌, length, Option, Some}
+use Rattle.std.specs.Prelude.{◌≡◌, ◌≤◌, ◌<◌, ◌⊎◌, ℕ, ◌+◌, ◌^◌, true, false, List, ◌∷◌, ◌++◌, length, Option, Some}
 use Rattle.std.specs.List.{AllByRecursion, concat}
 use Rattle.nor_base.specs.declared.meaning.Start.{Start}
 use Rattle.nor_base.specs.declared.step.Step.{Step}
 use Rattle.nor_base.specs.Parameters.{Parameters}
 use Rattle.nor_base.specs.Chip.{Setting, Chip, IsChipOf, begins4, ready}
 use Rattle.nor_base.specs.Instructions.{is_there}
-use Rattle.nor_base.specs.Planned.{ArePlanned, IsWorkable}
 use Rattle.nor_base.specs.Run.{DoesTaskOnEvery}
 use Rattle.nor_base.specs.Device.{Ahead, Finite}
 use Rattle.nor_base.specs.Wire.{Wire, wire}
@@ -16,9 +15,9 @@ use Rattle.nor_serprog.specs.Done.{HasDoneAll}
 use Rattle.nor_serprog.specs.Row.{HasHalted}
 use Rattle.nor_loop.specs.Device.{ClosesLoop, BreaksLoop}
 use Rattle.nor_loop.specs.Log.{Operation, Explains, HasLogged}
-use Rattle.nor_loop.specs.Reads.{ReadsAll, EntersAndReads, reads_from}
+use Rattle.nor_loop.specs.Reads.{chunk, reads_from, Chunk, EntersAndReads, ReadsAll, ReadsPart}
 use Rattle.nor_loop.specs.Steps.{AreLogOf, AreBegun, next_clocks}
-use Rattle.nor_loop.specs.Loop.{MayBe, EndsAs, EveryChipEnds, EveryChipHoldsPart}
+use Rattle.nor_loop.specs.Loop.{EndsAs, EveryChipEnds, EveryChipHoldsPart, Has, IsContent, IsDoneForAll, MayBe, Work}
 
 -- a chip can be read whole from the mode that it begins in: its addresses fit three bytes, or that mode has four, or it has 13h
 abbrev pub IsReadable : Parameters → Start → Type 0
@@ -36,38 +35,40 @@ ReadsKeep = (m : Parameters) (start : Start) (pieces : List (List ℕ)) (s : Set
     → m.size ≤ 2 ^ 32 → IsReadable m start → AllByRecursion (λ piece. 0 < length piece) pieces → length (concat pieces) ≤ m.size
     → MayBe m start (reads_from (begins4 m start) 0 pieces) s held after → after ≡ ready s held
 
--- a log reports a content: every chip that explains it held that, and is as it was
-abbrev pub Tells : Parameters → Start → List ℕ → List Operation → Type 0
-Tells m start content log = (s : Setting) (held : List ℕ) (after : Chip) → MayBe m start log s held after → (held ≡ content) × (after ≡ ready s held)
+-- a log reports a chunk: every chip that explains it held that, and is as it was
+abbrev pub Tells : Parameters → Start → Chunk → List Operation → Type 0
+Tells m start c log = (s : Setting) (held : List ℕ) (after : Chip) → MayBe m start log s held after → Has c held × (after ≡ ready s held)
 
--- and each chip with that content explains it
-abbrev pub Shows : Parameters → Start → List ℕ → List Operation → Type 0
-Shows m start content log = (s : Setting) → IsChipOf m start s → Explains s (ready s content) log (ready s content)
+-- and each chip that has it explains it
+abbrev pub Shows : Parameters → Start → Chunk → List Operation → Type 0
+Shows m start c log = (s : Setting) (held : List ℕ) → IsChipOf m start s → IsContent m held → Has c held → Explains s (ready s held) log (ready s held)
 
--- a log reads a content: it reports it, and leaves out no chip that has it
-pub record IsReading (m : Parameters) (start : Start) (content : List ℕ) (log : List Operation) : Type 0 where
-  pub tells : Tells m start content log
-  pub shows : Shows m start content log
+-- a log reads a chunk: it reports it, and leaves out no chip that has it
+pub record IsReading (m : Parameters) (start : Start) (c : Chunk) (log : List Operation) : Type 0 where
+  pub tells : Tells m start c log
+  pub shows : Shows m start c log
 
--- reads of the whole chip read the content
+-- reads of a chunk, or of all of the chip, read it
 abbrev pub ReadsRead : Type 0
-ReadsRead = (m : Parameters) (start : Start) (content : List ℕ) (log : List Operation) → m.size ≤ 2 ^ 32 → IsReadable m start
-    → length content ≡ m.size → ReadsAll (begins4 m start) content log → IsReading m start content log
+ReadsRead = (m : Parameters) (start : Start) (c : Chunk) (log : List Operation) → m.size ≤ 2 ^ 32 → IsReadable m start
+    → c.at + length c.bytes ≤ m.size → ReadsPart (begins4 m start) c log → IsReading m start c log
 
 -- and so do reads for which four-byte mode is entered, on a chip that begins in the other mode
 abbrev pub EnteredReadsRead : Type 0
-EnteredReadsRead = (m : Parameters) (start : Start) (content : List ℕ) (log : List Operation) → m.size ≤ 2 ^ 32 → is_there m.enter ≡ true
-    → is_there m.leave ≡ true → begins4 m start ≡ false → length content ≡ m.size → EntersAndReads m content log → IsReading m start content log
+EnteredReadsRead = (m : Parameters) (start : Start) (c : Chunk) (log : List Operation) → m.size ≤ 2 ^ 32 → is_there m.enter ≡ true
+    → is_there m.leave ≡ true → begins4 m start ≡ false → c.at + length c.bytes ≤ m.size → EntersAndReads m c log → IsReading m start c log
 
--- in particular these report it
+-- in particular, reads of the whole chip report its content
 abbrev pub EnteredReadsTell : Type 0
 EnteredReadsTell = (m : Parameters) (start : Start) (content : List ℕ) (log : List Operation) → m.size ≤ 2 ^ 32 → is_there m.enter ≡ true
-    → is_there m.leave ≡ true → begins4 m start ≡ false → length content ≡ m.size → EntersAndReads m content log → Tells m start content log
+    → is_there m.leave ≡ true → begins4 m start ≡ false → length content ≡ m.size → EntersAndReads m (chunk 0 content) log
+    → (s : Setting) (held : List ℕ) (after : Chip) → MayBe m start log s held after → (held ≡ content) × (after ≡ ready s held)
 
--- two logs that report a content, and then steps that do the task for it: every chip that explains them ends with the goal
+-- two logs that report a chunk, and then steps that do the task for each content that has it: every chip that explains them ends with the goal
 abbrev pub ToldLoopCloses : Type 0
-ToldLoopCloses = (m : Parameters) (start : Start) (content : List ℕ) (goal : List ℕ → List ℕ) (steps : List Step) (first again work : List Operation)
-    → Tells m start content first → Tells m start content again → DoesTaskOnEvery m start content (goal content) steps → AreLogOf steps work
+ToldLoopCloses = (m : Parameters) (start : Start) (c : Chunk) (goal : List ℕ → List ℕ) (steps : List Step) (first again work : List Operation)
+    → Tells m start c first → Tells m start c again
+    → ((held : List ℕ) → IsContent m held → Has c held → DoesTaskOnEvery m start held (goal held) steps) → AreLogOf steps work
     → EveryChipEnds m start goal (first ++ (again ++ work))
 
 -- the same where the two logs are reads of the whole chip
@@ -78,12 +79,11 @@ LoopCloses = (m : Parameters) (start : Start) (content : List ℕ) (goal : List 
     → DoesTaskOnEvery m start content (goal content) steps → AreLogOf steps work
     → EveryChipEnds m start goal (first ++ (again ++ work))
 
--- where the steps are planned work, some chip with that content explains the log
+-- where the steps are planned work for each content that has the chunk, some chip with a given one of these explains the log
 abbrev pub LoopIsExplained : Type 0
-LoopIsExplained = (m : Parameters) (start : Start) (verify : Bool) (content goal : List ℕ) (steps : List Step) (first again work : List Operation)
-    → IsWorkable m start content goal → ArePlanned m start verify content goal steps
-    → IsReading m start content first → IsReading m start content again → AreLogOf steps work
-    → (s : Setting) × (after : Chip) × MayBe m start (first ++ (again ++ work)) s content after
+LoopIsExplained = (w : Work) (c : Chunk) (content : List ℕ) (first again work : List Operation)
+    → IsDoneForAll w c → IsReading w.m w.start c first → IsReading w.m w.start c again → AreLogOf w.steps work
+    → IsContent w.m content → Has c content → (s : Setting) × (after : Chip) × MayBe w.m w.start (first ++ (again ++ work)) s content after
 
 -- the same where the goal is that of another content, such as an older dump
 abbrev pub LoopResumes : Type 0
@@ -95,10 +95,9 @@ LoopResumes = (m : Parameters) (start : Start) (content dump : List ℕ) (goal :
 
 -- planned work was broken off: every chip that explains the log held what was read, and at most one unit is in the making
 abbrev pub LoopBreaks : Type 0
-LoopBreaks = (m : Parameters) (start : Start) (verify : Bool) (content goal : List ℕ) (steps : List Step) (first again work : List Operation)
-    (at : ℕ) (row : List Step) (reads : ℕ) → IsWorkable m start content goal → ArePlanned m start verify content goal steps
-    → IsReading m start content first → IsReading m start content again → AreBegun steps at row work
-    → EveryChipHoldsPart m start content goal (first ++ (again ++ work)) (next_clocks reads row)
+LoopBreaks = (w : Work) (c : Chunk) (first again work : List Operation) (at : ℕ) (row : List Step) (reads : ℕ)
+    → IsDoneForAll w c → IsReading w.m w.start c first → IsReading w.m w.start c again → AreBegun w.steps at row work
+    → EveryChipHoldsPart w c (first ++ (again ++ work)) (next_clocks reads row)
 
 -- a log begins with reads of the whole chip. Another log, on the chip with whatever it then held, ends with the goal of what these
 -- reads gave. So the chip ends with the goal of what it held before the first log
@@ -134,29 +133,26 @@ HaltIsLogged = (held_before held_after : Option (List ℕ)) (ahead_before ahead_
     → (held : Option (List ℕ)) × (ahead : Ahead) × (log : List Operation) × HasLogged (wire held_before ahead_before) (wire held ahead) log
     × AreBegun steps halt.step (halted.at ∷ halted.beyond) log
 
--- a device read a content twice
-pub record ReadTwice (before after : Wire) (m : Parameters) (start : Start) (content : List ℕ)
-    : Type 0 where
+-- a device read a chunk twice
+pub record ReadTwice (before after : Wire) (m : Parameters) (start : Start) (c : Chunk) : Type 0 where
   pub first : List Operation
   pub again : List Operation
-  pub reads : IsReading m start content first
-  pub rereads : IsReading m start content again
+  pub reads : IsReading m start c first
+  pub rereads : IsReading m start c again
   pub wire : HasLogged before after (first ++ again)
 
--- a device read a content twice, and then did planned work on it: the loop is closed
+-- a device read a chunk twice, and then did work that is planned for each content that has it: the loop is closed
 abbrev pub DeviceCloses : Type 0
 DeviceCloses = (held_before held held_after : Option (List ℕ)) (ahead_before ahead ahead_after : Ahead) (limits : Limits) (turns : ℕ)
-    (m : Parameters) (start : Start) (verify : Bool) (content : List ℕ) (goal : List ℕ → List ℕ) (steps : List Step)
-    → IsWorkable m start content (goal content) → ArePlanned m start verify content (goal content) steps
-    → ReadTwice (wire held_before ahead_before) (wire held ahead) m start content
-    → HasDoneAll (wire held ahead) (wire held_after ahead_after) limits turns steps
-    → ClosesLoop (wire held_before ahead_before) (wire held_after ahead_after) m start goal
+    (w : Work) (c : Chunk) (content : List ℕ) → IsDoneForAll w c → IsContent w.m content → Has c content
+    → ReadTwice (wire held_before ahead_before) (wire held ahead) w.m w.start c
+    → HasDoneAll (wire held ahead) (wire held_after ahead_after) limits turns w.steps
+    → ClosesLoop (wire held_before ahead_before) (wire held_after ahead_after) w.m w.start w.goal
 
 -- or it halted in that work: the loop is broken off
 abbrev pub DeviceBreaks : Type 0
 DeviceBreaks = (held_before held held_after : Option (List ℕ)) (ahead_before ahead ahead_after : Ahead) (limits : Limits) (turns : ℕ)
-    (m : Parameters) (start : Start) (verify : Bool) (content goal : List ℕ) (steps : List Step) (halt : Halt)
-    → IsWorkable m start content goal → ArePlanned m start verify content goal steps
-    → ReadTwice (wire held_before ahead_before) (wire held ahead) m start content
-    → (halted : HasHalted (wire held ahead) (wire held_after ahead_after) limits turns steps halt)
-    → BreaksLoop (wire held_before ahead_before) m start content goal (halted.at ∷ halted.beyond)
+    (w : Work) (c : Chunk) (halt : Halt) → IsDoneForAll w c
+    → ReadTwice (wire held_before ahead_before) (wire held ahead) w.m w.start c
+    → (halted : HasHalted (wire held ahead) (wire held_after ahead_after) limits turns w.steps halt)
+    → BreaksLoop (wire held_before ahead_before) w c (halted.at ∷ halted.beyond)

@@ -19,12 +19,24 @@ reads_from mode4 at [] = []
 reads_from mode4 at (piece ∷ pieces) =
     record { sent = read_bytes mode4 at (length piece); got = piece } ∷ reads_from mode4 (at + length piece) pieces
 
--- the log reads each address once, from 0 on, and this is what came back
-pub record ReadsAll (mode4 : Bool) (content : List ℕ) (log : List Operation) : Type 0 where
+-- bytes from an address on
+pub record Chunk : Type 0 where
+  pub at : ℕ
+  pub bytes : List ℕ
+
+abbrev pub chunk : ℕ → List ℕ → Chunk
+chunk at bytes = record { at = at; bytes = bytes }
+
+-- the log reads each address of a chunk once, from its first on, and this is what came back
+pub record ReadsPart (mode4 : Bool) (c : Chunk) (log : List Operation) : Type 0 where
   pub pieces : List (List ℕ)
   pub filled : AllByRecursion (λ piece. 0 < length piece) pieces
-  pub whole : concat pieces ≡ content
-  pub those : log ≡ reads_from mode4 0 pieces
+  pub whole : concat pieces ≡ c.bytes
+  pub those : log ≡ reads_from mode4 c.at pieces
+
+-- so it reads the whole chip
+abbrev pub ReadsAll : Bool → List ℕ → List Operation → Type 0
+ReadsAll mode4 content log = ReadsPart mode4 (chunk 0 content) log
 
 -- an opcode alone
 abbrev pub bare : ℕ → Operation
@@ -36,9 +48,9 @@ switch_ops Absent op = []
 switch_ops Plain op = bare op ∷ []
 switch_ops Latched op = bare 0x06 ∷ bare op ∷ bare 0x04 ∷ []
 
--- the log enters four-byte mode, reads each address once by 03h, and leaves the mode
-pub record EntersAndReads (m : Parameters) (content : List ℕ) (log : List Operation) : Type 0 where
+-- the log enters four-byte mode, reads each address of a chunk once by 03h, and leaves the mode
+pub record EntersAndReads (m : Parameters) (c : Chunk) (log : List Operation) : Type 0 where
   pub pieces : List (List ℕ)
   pub filled : AllByRecursion (λ piece. 0 < length piece) pieces
-  pub whole : concat pieces ≡ content
-  pub those : log ≡ switch_ops m.enter 0xB7 ++ (reads_from true 0 pieces ++ switch_ops m.leave 0xE9)
+  pub whole : concat pieces ≡ c.bytes
+  pub those : log ≡ switch_ops m.enter 0xB7 ++ (reads_from true c.at pieces ++ switch_ops m.leave 0xE9)

@@ -1,19 +1,17 @@
 -- Instructions on one lane, as operations of a device (this project's).
-use Rattle.std.specs.Prelude.{◌≡◌, ℕ, Bool, true, false, ◌==◌, ◌&&◌, List, ◌++◌, Option}
+use Rattle.std.specs.Prelude.{◌≡◌, ℕ, Bool, true, false, ◌==◌, ◌&&◌, List, ◌++◌}
 use Rattle.std.specs.List.{AllByRecursion, list_all}
 use Rattle.nor_base.specs.declared.meaning.Start.{Start}
-use Rattle.nor_base.specs.declared.step.Step.{Step}
 use Rattle.nor_base.specs.Clocks.{head_bytes, clocks_of}
-use Rattle.nor_base.specs.Device.{Ahead}
 use Rattle.nor_base.specs.Instructions.{Form, nothing, sends, sends4, samples, samples4, form_of}
 use Rattle.nor_base.specs.Parameters.{Parameters}
 use Rattle.nor_base.specs.Planned.{planned}
 use Rattle.nor_base.specs.Spelling.{Instr, bytes_to_send, count_to_read}
-use Rattle.nor_serprog.specs.declared.limits.Limits.{Limits}
 use Rattle.nor_serprog.specs.Carried.{operation_clocks}
 use Rattle.nor_base.specs.Chip.{Setting, Chip}
 use Rattle.nor_loop.specs.Log.{Operation, Explains}
-use Rattle.nor_loop.specs.Loop.{EveryChipEnds, EveryChipHoldsPart}
+use Rattle.nor_loop.specs.Loop.{EveryChipEnds, EveryChipHoldsPart, Work}
+use Rattle.nor_loop.specs.Reads.{Chunk}
 
 -- data clocks of this form use at most one lane
 abbrev pub is_one_lane : Form → Bool
@@ -54,8 +52,11 @@ WhateverQuad = (m : Parameters) (start : Start) (goal : List ℕ → List ℕ) (
 abbrev pub AreOperations : List (List ℕ) → Type 0
 AreOperations next = AllByRecursion (λ clocks. (sent : List ℕ) × (asked : ℕ) × (clocks ≡ operation_clocks sent asked)) next
 
+-- work on a chip with the quad setting, or without it
+abbrev pub with_start : Bool → Work → Work
+with_start q w = record w { start = record w.start { quad = q } }
+
 -- so too where work was broken off, and such operations may have come next
 abbrev pub WhateverQuadPart : Type 0
-WhateverQuadPart = (m : Parameters) (start : Start) (content goal : List ℕ) (log : List Operation) (next : List (List ℕ)) (p q : Bool)
-    → AreOperations next → EveryChipHoldsPart m (record start { quad = p }) content goal log next
-    → EveryChipHoldsPart m (record start { quad = q }) content goal log next
+WhateverQuadPart = (w : Work) (c : Chunk) (log : List Operation) (next : List (List ℕ)) (p q : Bool)
+    → AreOperations next → EveryChipHoldsPart (with_start p w) c log next → EveryChipHoldsPart (with_start q w) c log next

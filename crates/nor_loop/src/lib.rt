@@ -20,10 +20,9 @@ ghost use Rattle.nor_loop.specs.Laws.{ToldLoopCloses};
 use nor_laws::{spelling, verifying_reads};
 use nor_plan_laws::planned_work;
 
-/// Reads of the whole chip report its content: every chip that explains them held just what came
-/// back, and is as it was. This is so too where four-byte mode is entered for the reads and left
-/// after them. Each chip with that content explains them. Reads of only a part leave a chip as it
-/// was.
+/// Reads of a chunk, bytes from an address on, report it: every chip that explains them held just
+/// these bytes there, and is as it was. Each chip that has the chunk explains them. This is so too
+/// where four-byte mode is entered for the reads and left after them.
 pub fn reads()
     ensures tell { ReadsTell }
     ensures keep { ReadsKeep }
@@ -34,9 +33,9 @@ pub fn reads()
     spelling();
 }
 
-/// Reads of the whole chip by 13h, which has four address bytes in either mode, read its content
-/// too, where it has that opcode. Two readings of a content one after the other are one reading of
-/// it.
+/// Reads of a chunk by 13h, which has four address bytes in either mode, report it too, where the
+/// chip has that opcode, and each chip that has the chunk explains them. Two readings of a chunk,
+/// one after the other, are one reading of it.
 pub fn four_reads()
     ensures four { FourReadsRead }
     ensures both { BothRead }
@@ -44,11 +43,9 @@ pub fn four_reads()
     spelling();
 }
 
-/// A log reads the whole chip twice, and then does the task for what was read. Every chip that
-/// explains it ends settled, with the goal of what it held at first, or of an older dump where that
-/// was the task.
-///
-/// It is the same where such work was broken off and a later log ends with that goal.
+/// A log reads a chunk twice, and then does the task for each content that has it. Every chip that
+/// explains it ends settled, with the goal of what it held at first. Where the whole chip is read
+/// the goal may be that of an older dump; such work may be broken off and done by a later log.
 pub fn loop_closes()
     ensures closes { LoopCloses }
     ensures resumes { LoopResumes }
@@ -58,9 +55,9 @@ pub fn loop_closes()
     reads();
 }
 
-/// A log reads the whole chip twice, and planned work on what was read was broken off. Every chip
-/// that explains it held just what was read, and at most one unit of the work is in the making. The
-/// same holds where the chip did the operation that came next, or some of its row.
+/// A log reads a chunk twice, and work that is planned for each content that has it was broken off.
+/// Every chip that explains the log held the chunk, and at most one unit of the work is in the
+/// making, also where it did the operation that came next, or some of its row.
 pub fn loop_breaks()
     ensures { LoopBreaks }
 {
@@ -68,8 +65,9 @@ pub fn loop_breaks()
     verifying_reads();
 }
 
-/// Some chip explains a log that reads the whole chip twice and then does planned work on what was
-/// read. So what is promised of every such chip isn't empty.
+/// A log reads a chunk twice and then does work that is planned for each content that has it. For
+/// each of these contents some chip that held it explains the log. So what is promised of every
+/// such chip isn't empty.
 pub fn loop_is_explained()
     ensures { LoopIsExplained }
 {
@@ -77,8 +75,8 @@ pub fn loop_is_explained()
 }
 
 /// What a device did for steps is a log of these steps, or of those before it halted, and just that
-/// log went over its wire. Every chip that explains the log of two readings and planned work ends
-/// with the goal, or has at most one unit in the making; some chip explains it.
+/// log went over its wire. Where it read a chunk twice and did planned work, the loop is closed;
+/// where it halted in that, it is broken off.
 pub fn device()
     ensures logged { DoneIsLogged }
     ensures halted { HaltIsLogged }

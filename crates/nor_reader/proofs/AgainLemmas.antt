@@ -1,5 +1,5 @@
 -- Pieces that are read again.
-use Rattle.std.proofs.Common.{◌≡◌, ℕ, ◌+◌, ◌-◌, ◌<◌, ◌≤◌, List, [], ◌∷◌, ◌++◌, length, take, drop, length-drop, Option, sym, ◌∙◌, ap, subst, arith}
+use Rattle.std.proofs.Common.{◌≡◌, ℕ, ◌+◌, ◌-◌, ◌<◌, ◌≤◌, List, ◌++◌, length, take, drop, length-drop, Option, sym, ◌∙◌, ap, arith}
 use Rattle.std.specs.List.{slice_range}
 use Rattle.std.proofs.Math.Seq.{take-add}
 use Rattle.std.proofs.lemmas.List.{length-take-le}
@@ -7,10 +7,10 @@ use Rattle.nor_base.specs.Device.{Ahead}
 use Rattle.nor_base.specs.Wire.{wire}
 use Rattle.nor_reader.specs.declared.difference.Mismatch.{Mismatch}
 use Rattle.nor_reader.specs.declared.difference.Mismatch.TheVariants.{Exchange, Differs}
-use Rattle.nor_loop.specs.Log.{HasLogged}
-use Rattle.nor_reader.specs.Reads.{chunk, read_op, reads, Chunk, HasReadOn, Reads}
+use Rattle.nor_loop.specs.Reads.{chunk, Chunk}
+use Rattle.nor_reader.specs.Reads.{reads, HasReadChunk, Reads}
 use Rattle.nor_reader.specs.Again.{MissesPiece, MissesOn}
-use Rattle.nor_reader.proofs.PassLemmas.{piece_more, stops_within}
+use Rattle.nor_reader.proofs.PassLemmas.{stops_within}
 
 pub slice_long : (bytes : List ℕ) (start len : ℕ) → start + len ≤ length bytes → length (slice_range bytes start (start + len)) ≡ len
 slice_long bytes start len within =
@@ -22,17 +22,6 @@ pub take_on : (bytes : List ℕ) (done len : ℕ) → take (done + len) bytes �
 take_on bytes done len =
     let count : done + len - done ≡ len = omega arith in
     take-add done len bytes ∙ ap (λ n. take done bytes ++ take n (drop done bytes)) (sym count)
-
--- one piece more came again
-pub again_more : (r : Reads) (h i j : Option (List ℕ)) (a b c : Ahead) (bytes : List ℕ) (done len : ℕ) → done + len ≤ length bytes
-    → 0 < len → len ≤ r.most → HasReadOn r (wire h a) (wire i b) [] (take done bytes)
-    → HasLogged (wire i b) (wire j c) (read_op r.by done (slice_range bytes done (done + len)) ∷ [])
-    → HasReadOn r (wire h a) (wire j c) [] (take (done + len) bytes)
-again_more r h i j a b c bytes done len within some few read more =
-    let long = slice_long bytes done len within in
-    subst (λ n. HasReadOn r (wire h a) (wire j c) [] (take (done + n) bytes)) long
-    (piece_more r h i j a b c [] bytes bytes (slice_range bytes done (done + len)) done (omega arith) (omega (arith, long, some))
-    (omega (arith, long, few)) (ap (λ n. take (done + n) bytes) long ∙ take_on bytes done len) read more)
 
 -- a read of so many bytes, which are no more than the most, ended so
 pub misses_within : (r : Reads) (len : ℕ) (h i : Option (List ℕ)) (a b : Ahead) (want : Chunk) (why : Mismatch) → len ≤ r.most
@@ -48,12 +37,12 @@ misses_within r len h i a b want (Differs d) few miss = record {
   wanted = miss.wanted;
 }
 
--- or it didn't
-pub again_not : (r : Reads) (h i j : Option (List ℕ)) (a b c : Ahead) (bytes : List ℕ) (done len : ℕ) (why : Mismatch)
-    → done + len ≤ length bytes → 0 < len → len ≤ r.most → HasReadOn r (wire h a) (wire i b) [] (take done bytes)
-    → MissesPiece (reads (length (slice_range bytes done (done + len))) r.by) (wire i b) (wire j c) (chunk done (slice_range bytes done (done + len))) why
-    → MissesOn r (wire h a) (wire j c) bytes why
-again_not r h i j a b c bytes done len why within some few read stop =
+-- one piece more didn't come again
+pub again_not : (r : Reads) (h i j : Option (List ℕ)) (a b c : Ahead) (at : ℕ) (bytes : List ℕ) (done len : ℕ) (why : Mismatch)
+    → done + len ≤ length bytes → 0 < len → len ≤ r.most → HasReadChunk r (wire h a) (wire i b) (chunk at (take done bytes))
+    → MissesPiece (reads (length (slice_range bytes done (done + len))) r.by) (wire i b) (wire j c) (chunk (at + done) (slice_range bytes done (done + len))) why
+    → MissesOn r (wire h a) (wire j c) (chunk at bytes) why
+again_not r h i j a b c at bytes done len why within some few read stop =
     let piece = slice_range bytes done (done + len) in
     let long : length piece ≡ len = slice_long bytes done len within in
     record {
@@ -64,5 +53,5 @@ again_not r h i j a b c bytes done len why within some few read stop =
       held = i;
       ahead = b;
       alike = read;
-      stop = misses_within r (length piece) i j b c (chunk done piece) why (omega (arith, long, few)) stop;
+      stop = misses_within r (length piece) i j b c (chunk (at + done) piece) why (omega (arith, long, few)) stop;
     }

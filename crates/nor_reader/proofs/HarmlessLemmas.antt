@@ -25,7 +25,7 @@ use Rattle.nor_reader.specs.declared.difference.Mismatch.{Mismatch}
 use Rattle.nor_reader.specs.declared.difference.Mismatch.TheVariants.{Exchange, Differs}
 use Rattle.nor_reader.specs.Status.{HasReadRegister, HasSettled, Settles, ReadsStatus, StopsRegister}
 use Rattle.nor_loop.specs.Log.{Operation, IsShort, HasLogged}
-use Rattle.nor_loop.specs.Reads.{switch_ops}
+use Rattle.nor_loop.specs.Reads.{chunk, switch_ops, Chunk}
 use Rattle.nor_loop.specs.Steps.{status_read}
 use Rattle.nor_reader.specs.declared.by.ReadBy.{ReadBy}
 use Rattle.nor_reader.specs.declared.by.ReadBy.TheVariants.{Tables, Content, FourBytes, Entered}
@@ -35,7 +35,7 @@ use Rattle.nor_reader.specs.Again.{MissesOn, MissesPiece}
 use Rattle.nor_reader.specs.Harmless.{is_harmless, requests, HasSentHarmless, IsHarmless, SendsHarmless}
 use Rattle.nor_reader.specs.Id.{Identifies}
 use Rattle.nor_reader.specs.Past.{ReadsPast, with_past}
-use Rattle.nor_reader.specs.Reads.{chunk, sent_by, read_op, ops_from, Chunk, HasReadOn, Reads, ReadsBy, StopsOn, StopsPiece}
+use Rattle.nor_reader.specs.Reads.{sent_by, read_op, ops_from, HasReadChunk, HasReadOn, Reads, ReadsBy, StopsOn, StopsPiece}
 use Rattle.nor_reader.specs.Switched.{enter_of, enter_ops, leave_of, leave_ops, StopsAmong}
 use Rattle.nor_reader.specs.Tables.{table_reads, HasReadTables, StopsTables}
 use Rattle.nor_reader.specs.Twice.{twice, HasReadWhole, MissesWhole, ReadTwice, StopsFirst, StopsTwice, Twice}
@@ -124,6 +124,9 @@ read_sent : (r : Reads) (h i : Option (List ℕ)) (a b : Ahead) (front bytes : L
 read_sent r h i a b front bytes read =
     logged_sent h i a b (ops_from r.by (length front) read.pieces) read.wire (ops_harmless r.by (length front) read.pieces)
 
+chunk_sent : (r : Reads) (h i : Option (List ℕ)) (a b : Ahead) (c : Chunk) → HasReadChunk r (wire h a) (wire i b) c → HasSentHarmless h i
+chunk_sent r h i a b c read = logged_sent h i a b (ops_from r.by c.at read.pieces) read.wire (ops_harmless r.by c.at read.pieces)
+
 piece_stops : (r : Reads) (h i : Option (List ℕ)) (a b : Ahead) (got : Chunk) (why : Fault) → StopsPiece r (wire h a) (wire i b) got why
     → SendsHarmless h i
 piece_stops r h i a b got why stop =
@@ -149,17 +152,17 @@ piece_misses : (r : Reads) (h i : Option (List ℕ)) (a b : Ahead) (want : Chunk
 piece_misses r h i a b want (Exchange why) p = piece_stops r h i a b (chunk want.at p.0) why p.2
 piece_misses r h i a b want (Differs d) p = whole_sent h i (piece_other r h i a b want d p)
 
-misses_sends : (r : Reads) (h i : Option (List ℕ)) (a b : Ahead) (bytes : List ℕ) (why : Mismatch) → MissesOn r (wire h a) (wire i b) bytes why
+misses_sends : (r : Reads) (h i : Option (List ℕ)) (a b : Ahead) (c : Chunk) (why : Mismatch) → MissesOn r (wire h a) (wire i b) c why
     → SendsHarmless h i
-misses_sends r h i a b bytes why p =
-    then_sends h p.held i (read_sent r h p.held a p.ahead [] (take p.at bytes) p.alike)
-    (piece_misses r p.held i p.ahead b (chunk p.at (slice_range bytes p.at (p.at + p.len))) why p.stop)
+misses_sends r h i a b c why p =
+    then_sends h p.held i (chunk_sent r h p.held a p.ahead (chunk c.at (take p.at c.bytes)) p.alike)
+    (piece_misses r p.held i p.ahead b (chunk (c.at + p.at) (slice_range c.bytes p.at (p.at + p.len))) why p.stop)
 
-other_sent : (r : Reads) (h i : Option (List ℕ)) (a b : Ahead) (bytes : List ℕ) (d : Difference)
-    → MissesOn r (wire h a) (wire i b) bytes (Differs d) → HasSentHarmless h i
-other_sent r h i a b bytes d p =
-    both_sent h p.held i (read_sent r h p.held a p.ahead [] (take p.at bytes) p.alike)
-    (piece_other r p.held i p.ahead b (chunk p.at (slice_range bytes p.at (p.at + p.len))) d p.stop)
+other_sent : (r : Reads) (h i : Option (List ℕ)) (a b : Ahead) (c : Chunk) (d : Difference)
+    → MissesOn r (wire h a) (wire i b) c (Differs d) → HasSentHarmless h i
+other_sent r h i a b c d p =
+    both_sent h p.held i (chunk_sent r h p.held a p.ahead (chunk c.at (take p.at c.bytes)) p.alike)
+    (piece_other r p.held i p.ahead b (chunk (c.at + p.at) (slice_range c.bytes p.at (p.at + p.len))) d p.stop)
 
 -- the mode is switched
 switch_harmless : (w : Switch) (op : ℕ) → is_harmless (op ∷ []) ≡ true → AllByRecursion IsHarmless (switch_ops w op)
@@ -207,71 +210,71 @@ leaves : (by : ReadBy) → AllByRecursion IsHarmless (leave_ops by)
 leaves by = switch_harmless (leave_of by) 0xE9 refl
 
 -- a reading
-whole_read : (r : Reads) (h i : Option (List ℕ)) (a b : Ahead) (bytes : List ℕ) → HasReadWhole r (wire h a) (wire i b) bytes
+whole_read : (r : Reads) (h i : Option (List ℕ)) (a b : Ahead) (c : Chunk) → HasReadWhole r (wire h a) (wire i b) c
     → HasSentHarmless h i
-whole_read r h i a b bytes p =
+whole_read r h i a b c p =
     let rest = p.rest in
     both_sent h p.held i (done_sent h p.held a p.ahead (enter_ops r.by) (enters r.by) p.entered)
-    (both_sent p.held rest.held i (read_sent r p.held rest.held p.ahead rest.ahead [] bytes rest.first)
+    (both_sent p.held rest.held i (chunk_sent r p.held rest.held p.ahead rest.ahead c rest.first)
     (done_sent rest.held i rest.ahead b (leave_ops r.by) (leaves r.by) rest.rest))
 
-first_sends : (r : Reads) (h i : Option (List ℕ)) (a b : Ahead) (bytes : List ℕ) (why : Fault) → StopsFirst r (wire h a) (wire i b) bytes why
+first_sends : (r : Reads) (h i : Option (List ℕ)) (a b : Ahead) (c : Chunk) (why : Fault) → StopsFirst r (wire h a) (wire i b) c why
     → SendsHarmless h i
-first_sends r h i a b bytes why (inl p) = among_sends h i a b (enter_ops r.by) why (enters r.by) p
-first_sends r h i a b bytes why (inr (inl p)) =
-    then_sends h p.held i (done_sent h p.held a p.ahead (enter_ops r.by) (enters r.by) p.entered) (stops_sends r p.held i p.ahead b [] why p.rest)
-first_sends r h i a b bytes why (inr (inr p)) =
+first_sends r h i a b c why (inl p) = among_sends h i a b (enter_ops r.by) why (enters r.by) p
+first_sends r h i a b c why (inr (inl p)) =
+    then_sends h p.held i (done_sent h p.held a p.ahead (enter_ops r.by) (enters r.by) p.entered) (stops_sends r p.held i p.ahead b p.rest.0 why p.rest.2)
+first_sends r h i a b c why (inr (inr p)) =
     let rest = p.rest in
     then_sends h p.held i (done_sent h p.held a p.ahead (enter_ops r.by) (enters r.by) p.entered)
-    (then_sends p.held rest.held i (read_sent r p.held rest.held p.ahead rest.ahead [] bytes rest.first)
+    (then_sends p.held rest.held i (chunk_sent r p.held rest.held p.ahead rest.ahead c rest.first)
     (among_sends rest.held i rest.ahead b (leave_ops r.by) why (leaves r.by) rest.rest))
 
-missed_sends : (r : Reads) (h i : Option (List ℕ)) (a b : Ahead) (bytes : List ℕ) (why : Mismatch)
-    → MissesWhole r (wire h a) (wire i b) bytes why → SendsHarmless h i
-missed_sends r h i a b bytes (Exchange why) (inl p) = among_sends h i a b (enter_ops r.by) why (enters r.by) p
-missed_sends r h i a b bytes (Exchange why) (inr (inl p)) =
+missed_sends : (r : Reads) (h i : Option (List ℕ)) (a b : Ahead) (c : Chunk) (why : Mismatch)
+    → MissesWhole r (wire h a) (wire i b) c why → SendsHarmless h i
+missed_sends r h i a b c (Exchange why) (inl p) = among_sends h i a b (enter_ops r.by) why (enters r.by) p
+missed_sends r h i a b c (Exchange why) (inr (inl p)) =
     then_sends h p.held i (done_sent h p.held a p.ahead (enter_ops r.by) (enters r.by) p.entered)
-    (misses_sends r p.held i p.ahead b bytes (Exchange why) p.rest)
-missed_sends r h i a b bytes (Exchange why) (inr (inr (inl p))) =
+    (misses_sends r p.held i p.ahead b c (Exchange why) p.rest)
+missed_sends r h i a b c (Exchange why) (inr (inr (inl p))) =
     let rest = p.rest in
     then_sends h p.held i (done_sent h p.held a p.ahead (enter_ops r.by) (enters r.by) p.entered)
-    (then_sends p.held rest.held i (read_sent r p.held rest.held p.ahead rest.ahead [] bytes rest.first)
+    (then_sends p.held rest.held i (chunk_sent r p.held rest.held p.ahead rest.ahead c rest.first)
     (among_sends rest.held i rest.ahead b (leave_ops r.by) why (leaves r.by) rest.rest))
-missed_sends r h i a b bytes (Exchange why) (inr (inr (inr (d, p)))) =
+missed_sends r h i a b c (Exchange why) (inr (inr (inr (d, p)))) =
     let rest = p.rest in
     then_sends h p.held i (done_sent h p.held a p.ahead (enter_ops r.by) (enters r.by) p.entered)
-    (then_sends p.held rest.held i (other_sent r p.held rest.held p.ahead rest.ahead bytes d rest.first)
+    (then_sends p.held rest.held i (other_sent r p.held rest.held p.ahead rest.ahead c d rest.first)
     (among_sends rest.held i rest.ahead b (leave_ops r.by) why (leaves r.by) rest.rest))
-missed_sends r h i a b bytes (Differs d) p =
+missed_sends r h i a b c (Differs d) p =
     let rest = p.rest in
     whole_sent h i (both_sent h p.held i (done_sent h p.held a p.ahead (enter_ops r.by) (enters r.by) p.entered)
-    (both_sent p.held rest.held i (other_sent r p.held rest.held p.ahead rest.ahead bytes d rest.first)
+    (both_sent p.held rest.held i (other_sent r p.held rest.held p.ahead rest.ahead c d rest.first)
     (done_sent rest.held i rest.ahead b (leave_ops r.by) (leaves r.by) rest.rest)))
 
-reads_begin : (by : ReadBy) (pieces : List (List ℕ)) → AllByRecursion (λ o. is_harmless o.sent ≡ true) (enter_ops by ++ (ops_from by 0 pieces ++ leave_ops by))
-reads_begin by pieces =
-    all_append (λ (o : Operation). is_harmless o.sent ≡ true) (enter_ops by) (ops_from by 0 pieces ++ leave_ops by) (begins_of (enter_ops by) (enters by))
-    (all_append (λ (o : Operation). is_harmless o.sent ≡ true) (ops_from by 0 pieces) (leave_ops by) (ops_harmless by 0 pieces) (begins_of (leave_ops by) (leaves by)))
+reads_begin : (by : ReadBy) (at : ℕ) (pieces : List (List ℕ)) → AllByRecursion (λ o. is_harmless o.sent ≡ true) (enter_ops by ++ (ops_from by at pieces ++ leave_ops by))
+reads_begin by at pieces =
+    all_append (λ (o : Operation). is_harmless o.sent ≡ true) (enter_ops by) (ops_from by at pieces ++ leave_ops by) (begins_of (enter_ops by) (enters by))
+    (all_append (λ (o : Operation). is_harmless o.sent ≡ true) (ops_from by at pieces) (leave_ops by) (ops_harmless by at pieces) (begins_of (leave_ops by) (leaves by)))
 
-reading_begins : (r : Reads) (bytes : List ℕ) (log : List Operation) → ReadsBy r bytes log
+reading_begins : (r : Reads) (c : Chunk) (log : List Operation) → ReadsBy r c log
     → AllByRecursion (λ o. is_harmless o.sent ≡ true) log
-reading_begins r bytes log reads =
-    subst (λ (l : List Operation). AllByRecursion (λ o. is_harmless o.sent ≡ true) l) (sym reads.those) (reads_begin r.by reads.pieces)
+reading_begins r c log reads =
+    subst (λ (l : List Operation). AllByRecursion (λ o. is_harmless o.sent ≡ true) l) (sym reads.those) (reads_begin r.by c.at reads.pieces)
 
 -- bytes that came twice alike, or didn't
-pub twice_sent : (t : Twice) (h i : Option (List ℕ)) (a b : Ahead) (bytes : List ℕ) → ReadTwice t (wire h a) (wire i b) bytes → HasSentHarmless h i
-twice_sent t h i a b bytes p =
+pub twice_sent : (t : Twice) (h i : Option (List ℕ)) (a b : Ahead) (c : Chunk) → ReadTwice t (wire h a) (wire i b) c → HasSentHarmless h i
+twice_sent t h i a b c p =
     logged_sent h i a b (p.first ++ p.second) p.wire
-    (all_append (λ (o : Operation). is_harmless o.sent ≡ true) p.first p.second (reading_begins t.first bytes p.first p.reads)
-    (reading_begins t.again bytes p.second p.rereads))
+    (all_append (λ (o : Operation). is_harmless o.sent ≡ true) p.first p.second (reading_begins t.first c p.first p.reads)
+    (reading_begins t.again c p.second p.rereads))
 
-pub twice_sends : (t : Twice) (h i : Option (List ℕ)) (a b : Ahead) (bytes : List ℕ) (why : Mismatch) → StopsTwice t (wire h a) (wire i b) bytes why
+pub twice_sends : (t : Twice) (h i : Option (List ℕ)) (a b : Ahead) (c : Chunk) (why : Mismatch) → StopsTwice t (wire h a) (wire i b) c why
     → SendsHarmless h i
-twice_sends t h i a b bytes (Exchange why) (inl p) = first_sends t.first h i a b bytes why p
-twice_sends t h i a b bytes (Exchange why) (inr p) =
-    then_sends h p.held i (whole_read t.first h p.held a p.ahead bytes p.read) (missed_sends t.again p.held i p.ahead b bytes (Exchange why) p.missed)
-twice_sends t h i a b bytes (Differs d) p =
-    then_sends h p.held i (whole_read t.first h p.held a p.ahead bytes p.read) (missed_sends t.again p.held i p.ahead b bytes (Differs d) p.missed)
+twice_sends t h i a b c (Exchange why) (inl p) = first_sends t.first h i a b c why p
+twice_sends t h i a b c (Exchange why) (inr p) =
+    then_sends h p.held i (whole_read t.first h p.held a p.ahead c p.read) (missed_sends t.again p.held i p.ahead b c (Exchange why) p.missed)
+twice_sends t h i a b c (Differs d) p =
+    then_sends h p.held i (whole_read t.first h p.held a p.ahead c p.read) (missed_sends t.again p.held i p.ahead b c (Differs d) p.missed)
 
 -- bytes past the end
 pub past_sent : (r : Reads) (h i : Option (List ℕ)) (a b : Ahead) (content : List ℕ) → ReadsPast r (wire h a) (wire i b) (Ok tt) content
@@ -286,14 +289,14 @@ past_sends r h i a b content why p =
 
 -- tables
 pub tables_sent : (most : ℕ) (h i : Option (List ℕ)) (a b : Ahead) (bytes : List ℕ) → HasReadTables most (wire h a) (wire i b) bytes → HasSentHarmless h i
-tables_sent most h i a b bytes p = twice_sent (twice most Tables Tables) h i a b bytes p.twice
+tables_sent most h i a b bytes p = twice_sent (twice most Tables Tables) h i a b (chunk 0 bytes) p.twice
 
 pub tables_none : (most : ℕ) (h i : Option (List ℕ)) (a b : Ahead) → StopsTables most (wire h a) (wire i b) NoSignature → HasSentHarmless h i
 tables_none most h i a b p = read_sent (table_reads most) h i a b [] p.0 p.3
 
 pub tables_sends : (most : ℕ) (h i : Option (List ℕ)) (a b : Ahead) (why : TablesFault) → StopsTables most (wire h a) (wire i b) why → SendsHarmless h i
 tables_sends most h i a b NoSignature p = whole_sent h i (tables_none most h i a b p)
-tables_sends most h i a b (Unread why) p = twice_sends (twice most Tables Tables) h i a b p.0 why p.1
+tables_sends most h i a b (Unread why) p = twice_sends (twice most Tables Tables) h i a b (chunk 0 p.0) why p.1
 tables_sends most h i a b Memory p = whole_sent h i (read_sent (table_reads most) h i a b [] p.0 p.1)
 
 -- an identification

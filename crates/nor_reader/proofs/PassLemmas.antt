@@ -1,6 +1,6 @@
 -- Pieces are reads one after the other.
 use Rattle.std.proofs.Common.{◌≡◌, ℕ, ◌+◌, ◌-◌, ◌<◌, ◌≤◌, List, [], ◌∷◌, ◌++◌, length, take, drop, length-drop, Option, refl, sym, ◌∙◌, ap, subst, arith, append-nil, append_assoc, length-append}
-use Rattle.std.proofs.lemmas.List.{length-take-le, take_all}
+use Rattle.std.proofs.lemmas.List.{length-take-le}
 use Rattle.std.proofs.lemmas.Slice.{take-put_mid}
 use borrow.Rule.Slice.PartMut.{put_mid, post_of}
 use Rattle.std.specs.List.{concat}
@@ -9,9 +9,10 @@ use Rattle.nor_base.proofs.ListLaws.{all_append}
 use Rattle.nor_base.specs.Wire.{wire}
 use Rattle.nor_serprog.specs.declared.fault.Fault.{Fault}
 use Rattle.nor_loop.specs.Log.{HasLogged}
+use Rattle.nor_loop.specs.Reads.{chunk, Chunk}
 use Rattle.nor_loop.proofs.DeviceLemmas.{logged_none, logged_both}
 use Rattle.nor_reader.specs.declared.by.ReadBy.{ReadBy}
-use Rattle.nor_reader.specs.Reads.{chunk, read_op, reads, ops_from, Chunk, HasReadOn, IsPiece, Reads, StopsPiece, StopsOn}
+use Rattle.nor_reader.specs.Reads.{read_op, reads, ops_from, HasReadOn, IsPiece, Reads, StopsPiece, StopsOn}
 
 -- pieces that follow other pieces
 pub ops_append : (by : ReadBy) (at : ℕ) (xs ys : List (List ℕ)) → ops_from by at (xs ++ ys) ≡ ops_from by at xs ++ ops_from by (at + length (concat xs)) ys
@@ -49,17 +50,6 @@ pub one_piece : (r : Reads) (h i : Option (List ℕ)) (a b : Ahead) (front piece
     → HasLogged (wire h a) (wire i b) (read_op r.by (length front) piece ∷ []) → HasReadOn r (wire h a) (wire i b) front (front ++ piece)
 one_piece r h i a b front piece some few wire =
     record { pieces = piece ∷ []; filled = ((some, few), tt); whole = ap (λ rest. front ++ rest) (append-nil piece); wire = wire }
-
--- one piece more
-pub piece_more : (r : Reads) (h i j : Option (List ℕ)) (a b c : Ahead) (front old new piece : List ℕ) (done : ℕ) → done ≤ length old
-    → 0 < length piece → length piece ≤ r.most → take (done + length piece) new ≡ take done old ++ piece
-    → HasReadOn r (wire h a) (wire i b) front (take done old) → HasLogged (wire i b) (wire j c) (read_op r.by done piece ∷ [])
-    → HasReadOn r (wire h a) (wire j c) front (take (done + length piece) new)
-piece_more r h i j a b c front old new piece done within some few put read more =
-    let long : length (take done old) ≡ done = length-take-le done old within in
-    subst (λ bytes. HasReadOn r (wire h a) (wire j c) front bytes) (sym put)
-    (read_both r h i j a b c front (take done old) (take done old ++ piece) read
-    (one_piece r i j b c (take done old) piece some few (subst (λ n. HasLogged (wire i b) (wire j c) (read_op r.by n piece ∷ [])) (sym long) more)))
 
 -- the exchange of a read of so many bytes, which are no more than the most, is one of a read of no more than the most
 pub stops_within : (r : Reads) (len : ℕ) (h i : Option (List ℕ)) (a b : Ahead) (got : Chunk) (why : Fault) → len ≤ r.most
@@ -106,8 +96,3 @@ put_piece old piece done len fits long =
       size = omega (arith, length-append (take done old) (piece ++ post_of done (done + len - done) old), length-append piece (post_of done (done + len - done) old), first, last, length-drop done old, long, fits);
       front = take-put_mid done (done + len - done) old piece (done + len) (omega (arith, long)) (omega (arith, fits));
     }
-
--- all is read
-pub all_read : (r : Reads) (h i : Option (List ℕ)) (a b : Ahead) (front bytes : List ℕ) (done : ℕ) → length bytes ≤ done
-    → HasReadOn r (wire h a) (wire i b) front (take done bytes) → HasReadOn r (wire h a) (wire i b) front bytes
-all_read r h i a b front bytes done ends read = subst (λ all. HasReadOn r (wire h a) (wire i b) front all) (take_all done bytes ends) read

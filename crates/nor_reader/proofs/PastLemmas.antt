@@ -6,10 +6,11 @@ use Rattle.nor_base.specs.Device.{Ahead}
 use Rattle.nor_base.specs.Wire.{wire}
 use Rattle.nor_reader.specs.declared.difference.Mismatch.{Mismatch}
 use Rattle.nor_loop.specs.Log.{HasLogged}
+use Rattle.nor_loop.specs.Reads.{chunk}
 use Rattle.nor_reader.specs.declared.by.ReadBy.{ReadBy}
 use Rattle.nor_reader.specs.Again.{MissesPiece}
 use Rattle.nor_reader.specs.Past.{past_end, MissesPast}
-use Rattle.nor_reader.specs.Reads.{chunk, read_op, reads, HasReadOn, Reads}
+use Rattle.nor_reader.specs.Reads.{read_op, reads, HasReadOn, Reads}
 use Rattle.nor_reader.proofs.AgainLemmas.{slice_long, take_on, misses_within}
 use Rattle.nor_reader.proofs.PassLemmas.{nothing_read, read_both, one_piece}
 

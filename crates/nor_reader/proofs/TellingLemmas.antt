@@ -11,13 +11,13 @@ use Rattle.nor_base.specs.declared.meaning.Switch.{Switch}
 use Rattle.nor_base.specs.declared.meaning.Switch.TheVariants.{Absent, Plain, Latched}
 use Rattle.nor_base.specs.Instructions.{is_there}
 use Rattle.nor_loop.specs.Log.{Operation}
-use Rattle.nor_loop.specs.Reads.{switch_ops}
+use Rattle.nor_loop.specs.Reads.{chunk, switch_ops, Chunk}
 use Rattle.nor_reader.specs.declared.by.ReadBy.{ReadBy}
 use Rattle.nor_reader.specs.declared.by.ReadBy.TheVariants.{Tables, Content, FourBytes, Entered}
 use Rattle.nor_reader.specs.Modes.{address_of, MayGive}
 use Rattle.nor_reader.specs.Reads.{read_op, reads, ops_from}
 use Rattle.nor_reader.specs.Cut.{shift, AreCut, ReadsCut}
-use Rattle.nor_reader.specs.Telling.{IsTelling, ShowsMode, is_near, mode_after, HasGiven, Holds, ModeIsShown, ApartKnows, SaidGives, SaidHolds, EnteredHolds, GivesSaid, SureKnows, SwitchMakes}
+use Rattle.nor_reader.specs.Telling.{IsTelling, ShowsMode, is_near, mode_after, FitsFour, HasGiven, Holds, ModeIsShown, ApartKnows, SaidGives, SaidHolds, EnteredHolds, GivesSaid, SureKnows, SwitchMakes}
 use Rattle.nor_reader.proofs.ModeLemmas.{Overlaps, period_by, other_four, other_three}
 
 -- in one mode all the time
@@ -185,13 +185,13 @@ given_of_all holds mode4 by steady at (p ∷ ps) all = (
       (given_of_all holds mode4 by steady (at + length p) ps all.1),
 )
 
--- what holds of each piece holds of them all
-same_all : (holds : ℕ → ℕ) (mode4 : Bool) (by : ReadBy)
+-- what holds of each piece holds of a chunk
+all_held : (holds : ℕ → ℕ) (mode4 : Bool) (by : ReadBy)
     → ((a : ℕ) (p : List ℕ) → a + length p ≤ 2 ^ 32 → MayGive holds mode4 (read_op by a p) → (j : ℕ) → j < length p → holds (a + j) ≡ get_or p j 0)
     → (first most at : ℕ) (bytes : List ℕ) (ps : List (List ℕ)) → AreCut first most bytes ps → at + length bytes ≤ 2 ^ 32
     → AllGive holds mode4 (ops_from by at ps) → (x : ℕ) → x < length bytes → holds (at + x) ≡ get_or bytes x 0
-same_all holds mode4 by tells first most at bytes [] cut fits gave x within = absurd (omega (arith, within, ap length cut))
-same_all holds mode4 by tells first most at bytes (p ∷ ps) cut fits gave x within =
+all_held holds mode4 by tells first most at bytes [] cut fits gave x within = absurd (omega (arith, within, ap length cut))
+all_held holds mode4 by tells first most at bytes (p ∷ ps) cut fits gave x within =
     let p_size : length p ≡ min first (length bytes) = ap length cut.1 ∙ length-take first bytes in
     let rest = length-drop first bytes in
     elim (cases_lt x (length p)) [
@@ -200,19 +200,10 @@ same_all holds mode4 by tells first most at bytes (p ∷ ps) cut fits gave x wit
       | inr later ↦
           let on : at + x ≡ at + length p + (x - length p) = omega (arith, later) in
           let back : first + (x - length p) ≡ x = omega (arith, later, p_size, within) in
-          ap holds on ∙ same_all holds mode4 by tells most most (at + length p) (drop first bytes) ps cut.2 (omega (arith, p_size, rest)) gave.1
+          ap holds on ∙ all_held holds mode4 by tells most most (at + length p) (drop first bytes) ps cut.2 (omega (arith, p_size, rest)) gave.1
           (x - length p) (omega (arith, p_size, rest, later, within))
           ∙ get_or-drop first bytes (x - length p) 0 ∙ ap (λ (n : ℕ). get_or bytes n 0) back
     ]
-
--- from address 0 on
-all_held : (holds : ℕ → ℕ) (mode4 : Bool) (by : ReadBy)
-    → ((a : ℕ) (p : List ℕ) → a + length p ≤ 2 ^ 32 → MayGive holds mode4 (read_op by a p) → (j : ℕ) → j < length p → holds (a + j) ≡ get_or p j 0)
-    → (first most : ℕ) (bytes : List ℕ) (ps : List (List ℕ)) → AreCut first most bytes ps → length bytes ≤ 2 ^ 32
-    → AllGive holds mode4 (ops_from by 0 ps) → Holds holds bytes
-all_held holds mode4 by tells first most bytes ps cut fits gave x within =
-    let same : x ≡ 0 + x = omega arith in
-    ap holds same ∙ same_all holds mode4 by tells first most 0 bytes ps cut (omega (arith, fits)) gave x within
 
 -- four-byte mode is entered
 in_four : (holds : ℕ → ℕ) (mode4 : Bool) (enter : Switch) (log : List Operation) → is_there enter ≡ true
@@ -225,15 +216,16 @@ in_four holds mode4 Plain log there given = given.1
 in_four holds mode4 Latched log there given = given.1.1.1
 
 pub entered_holds : EnteredHolds
-entered_holds first most enter leave mode4 holds content log fits there reads gave =
-    let four = in_four holds mode4 enter (ops_from (Entered enter leave) 0 reads.pieces ++ switch_ops leave 0xE9) there
+entered_holds first most enter leave mode4 holds c log fits there reads gave =
+    let four = in_four holds mode4 enter (ops_from (Entered enter leave) c.at reads.pieces ++ switch_ops leave 0xE9) there
     (subst (HasGiven holds mode4) reads.those gave) in
-    all_held holds true (Entered enter leave) (same_op holds true) first most content reads.pieces reads.cut fits
-    (all_of_given holds true (Entered enter leave) (λ mode a p. refl) 0 reads.pieces (switch_ops leave 0xE9) four).0
+    all_held holds true (Entered enter leave) (same_op holds true) first most c.at c.bytes reads.pieces reads.cut fits
+    (all_of_given holds true (Entered enter leave) (λ mode a p. refl) c.at reads.pieces (switch_ops leave 0xE9) four).0
 
 -- the log of pieces
-plain : (said : Bool) (log : List Operation) (pieces : List (List ℕ)) → log ≡ ops_from (Content said) 0 pieces ++ [] → log ≡ ops_from (Content said) 0 pieces
-plain said log pieces those = those ∙ append-nil (ops_from (Content said) 0 pieces)
+plain : (said : Bool) (at : ℕ) (log : List Operation) (pieces : List (List ℕ)) → log ≡ ops_from (Content said) at pieces ++ []
+    → log ≡ ops_from (Content said) at pieces
+plain said at log pieces those = those ∙ append-nil (ops_from (Content said) at pieces)
 
 -- a second reading begins with two bytes by themselves
 apart : (said : Bool) (holds : ℕ → ℕ) (most : ℕ) (content : List ℕ) (ps qs : List (List ℕ)) → length content ≤ 2 ^ 32 → ShowsMode said most content
@@ -263,11 +255,11 @@ apart said holds most content ps (q ∷ qs) fits shows cut recut one two = elim 
 -- the two modes and the two that are said
 shown_by : (most : ℕ) (holds : ℕ → ℕ) (content : List ℕ) (said mode4 : Bool) → length content ≤ 2 ^ 32 → ShowsMode said most content
     → (ps qs : List (List ℕ)) → AreCut most most content ps → AreCut (min shift most) most content qs
-    → AllGive holds mode4 (ops_from (Content said) 0 ps) → AllGive holds mode4 (ops_from (Content said) 0 qs) → (mode4 ≡ said) × Holds holds content
+    → AllGive holds mode4 (ops_from (Content said) 0 ps) → AllGive holds mode4 (ops_from (Content said) 0 qs) → (mode4 ≡ said) × Holds holds (chunk 0 content)
 shown_by most holds content true true fits shows ps qs cut recut one two =
-    (refl, all_held holds true (Content true) (same_op holds true) most most content ps cut fits one)
+    (refl, all_held holds true (Content true) (same_op holds true) most most 0 content ps cut (omega (arith, fits)) one)
 shown_by most holds content false false fits shows ps qs cut recut one two =
-    (refl, all_held holds false (Content false) (same_op holds false) most most content ps cut fits one)
+    (refl, all_held holds false (Content false) (same_op holds false) most most 0 content ps cut (omega (arith, fits)) one)
 shown_by most holds content true false fits shows ps qs cut recut one two =
     absurd (apart true holds most content ps qs fits shows cut recut one two)
 shown_by most holds content false true fits shows ps qs cut recut one two =
@@ -276,9 +268,9 @@ shown_by most holds content false true fits shows ps qs cut recut one two =
 pub mode_shown : ModeIsShown
 mode_shown most said mode4 holds content first again fits shows reads rereads one two =
     shown_by most holds content said mode4 fits shows reads.pieces rereads.pieces reads.cut rereads.cut
-    (all_alone holds mode4 (Content said) (content_steady said) 0 reads.pieces (subst (HasGiven holds mode4) (plain said first reads.pieces reads.those) one))
+    (all_alone holds mode4 (Content said) (content_steady said) 0 reads.pieces (subst (HasGiven holds mode4) (plain said 0 first reads.pieces reads.those) one))
     (all_alone holds mode4 (Content said) (content_steady said) 0 rereads.pieces
-    (subst (HasGiven holds mode4) (plain said again rereads.pieces rereads.those) two))
+    (subst (HasGiven holds mode4) (plain said 0 again rereads.pieces rereads.those) two))
 
 pub apart_knows : ApartKnows
 apart_knows most h i a b said content fits shows apart_ = record {
@@ -289,8 +281,8 @@ apart_knows most h i a b said content fits shows apart_ = record {
       let one = apart_.reads in
       let two = apart_.rereads in
       let both : HasGiven holds mode4 (ops_from (Content said) 0 one.pieces ++ ops_from (Content said) 0 two.pieces) =
-      subst (λ (log : List Operation). HasGiven holds mode4 (log ++ ops_from (Content said) 0 two.pieces)) (plain said apart_.first one.pieces one.those)
-      (subst (λ (log : List Operation). HasGiven holds mode4 (apart_.first ++ log)) (plain said apart_.second two.pieces two.those) given) in
+      subst (λ (log : List Operation). HasGiven holds mode4 (log ++ ops_from (Content said) 0 two.pieces)) (plain said 0 apart_.first one.pieces one.those)
+      (subst (λ (log : List Operation). HasGiven holds mode4 (apart_.first ++ log)) (plain said 0 apart_.second two.pieces two.those) given) in
       let parts = all_of_given holds mode4 (Content said) (content_steady said) 0 one.pieces (ops_from (Content said) 0 two.pieces) both in
       shown_by most holds content said mode4 fits shows one.pieces two.pieces one.cut two.cut parts.0
       (all_alone holds mode4 (Content said) (content_steady said) 0 two.pieces parts.1);
@@ -302,28 +294,28 @@ first_given holds mode4 [] ys given = tt
 first_given holds mode4 (x ∷ xs) ys given = (given.0, first_given holds (mode_after mode4 x) xs ys given.1)
 
 pub said_holds : SaidHolds
-said_holds first most said holds content log fits reads gave =
-    all_held holds said (Content said) (same_op holds said) first most content reads.pieces reads.cut fits
-    (all_alone holds said (Content said) (content_steady said) 0 reads.pieces (subst (HasGiven holds said) (plain said log reads.pieces reads.those) gave))
+said_holds first most said holds c log fits reads gave =
+    all_held holds said (Content said) (same_op holds said) first most c.at c.bytes reads.pieces reads.cut fits
+    (all_alone holds said (Content said) (content_steady said) c.at reads.pieces (subst (HasGiven holds said) (plain said c.at log reads.pieces reads.those) gave))
 
-first_holds : (most : ℕ) (by : ReadBy) (said mode4 : Bool) (holds : ℕ → ℕ) (content : List ℕ) (log : List Operation) → length content ≤ 2 ^ 32
-    → GivesSaid by said → mode4 ≡ said → ReadsCut most (reads most by) content log → HasGiven holds mode4 log → Holds holds content
-first_holds most (Content said_) said mode4 holds content log fits way is cut gave =
-    said_holds most most said holds content log fits (subst (λ (m : Bool). ReadsCut most (reads most (Content m)) content log) way cut)
+first_holds : (most : ℕ) (by : ReadBy) (said mode4 : Bool) (holds : ℕ → ℕ) (c : Chunk) (log : List Operation) → FitsFour c
+    → GivesSaid by said → mode4 ≡ said → ReadsCut most (reads most by) c log → HasGiven holds mode4 log → Holds holds c
+first_holds most (Content said_) said mode4 holds c log fits way is cut gave =
+    said_holds most most said holds c log fits (subst (λ (m : Bool). ReadsCut most (reads most (Content m)) c log) way cut)
     (subst (λ (m : Bool). HasGiven holds m log) is gave)
-first_holds most (Entered enter leave) said mode4 holds content log fits way is reads gave =
-    entered_holds most most enter leave mode4 holds content log fits way reads gave
-first_holds most Tables said mode4 holds content log fits way is reads gave = absurd way
-first_holds most FourBytes said mode4 holds content log fits way is reads gave = absurd way
+first_holds most (Entered enter leave) said mode4 holds c log fits way is reads gave =
+    entered_holds most most enter leave mode4 holds c log fits way reads gave
+first_holds most Tables said mode4 holds c log fits way is reads gave = absurd way
+first_holds most FourBytes said mode4 holds c log fits way is reads gave = absurd way
 
 pub sure_knows : SureKnows
-sure_knows t h i a b said content fits way apart_ = record {
+sure_knows t h i a b said c fits way apart_ = record {
   first = apart_.first;
   again = apart_.second;
   wire = apart_.wire;
   known = λ mode4 holds sure given. (
     sure refl,
-    first_holds t.first.most t.first.by said mode4 holds content apart_.first fits way (sure refl) apart_.reads
+    first_holds t.first.most t.first.by said mode4 holds c apart_.first fits way (sure refl) apart_.reads
         (first_given holds mode4 apart_.first apart_.second given),
   );
 }
@@ -394,11 +386,10 @@ give_all holds said first most at bytes (p ∷ ps) cut fits has =
     )
 
 pub said_gives : SaidGives
-said_gives first most said holds content log fits reads has =
-    subst (HasGiven holds said) (sym (plain said log reads.pieces reads.those))
-    (given_of_all holds said (Content said) (content_steady said) 0 reads.pieces
-    (give_all holds said first most 0 content reads.pieces reads.cut (omega (arith, fits))
-    (λ x within. let same : 0 + x ≡ x = omega arith in ap holds same ∙ has x within)))
+said_gives first most said holds c log fits reads has =
+    subst (HasGiven holds said) (sym (plain said c.at log reads.pieces reads.those))
+    (given_of_all holds said (Content said) (content_steady said) c.at reads.pieces
+    (give_all holds said first most c.at c.bytes reads.pieces reads.cut fits has))
 
 -- one number of pieces is before an address, of pieces of so many bytes
 pub one_number : (most n k : ℕ) → n * most ≤ k * most → k * most < n * most + most → k ≡ n

@@ -10,7 +10,8 @@ use Rattle.nor_reader.specs.declared.difference.Mismatch.TheVariants.{Exchange, 
 use Rattle.nor_serprog.specs.Exchange.{GivesOther}
 use Rattle.nor_serprog.specs.Protocol.{request}
 use Rattle.nor_loop.specs.Log.{HasLogged}
-use Rattle.nor_reader.specs.Reads.{chunk, sent_by, read_op, Chunk, HasReadOn, Reads, StopsPiece}
+use Rattle.nor_loop.specs.Reads.{chunk, Chunk}
+use Rattle.nor_reader.specs.Reads.{sent_by, read_op, HasReadChunk, Reads, StopsPiece}
 
 -- the answer of one read came whole, and this is the first byte of it that is another than the one that was wanted
 pub record FindsOther (r : Reads) (before after : Wire) (want : Chunk) (d : Difference) : Type 0 where
@@ -33,18 +34,18 @@ abbrev pub ReadsPiece : Reads → Wire → Wire → Result (Unit {0}) Mismatch �
 ReadsPiece r before after (Ok u) want = HasLogged before after (read_op r.by want.at want.bytes ∷ [])
 ReadsPiece r before after (Err why) want = MissesPiece r before after want why
 
--- the bytes before an address came again, and the next read ended so
-pub record MissesOn (r : Reads) (before after : Wire) (bytes : List ℕ) (why : Mismatch) : Type 0 where
+-- the first bytes of a chunk came again, and the next read ended so
+pub record MissesOn (r : Reads) (before after : Wire) (c : Chunk) (why : Mismatch) : Type 0 where
   pub at : ℕ
   pub len : ℕ
   pub some : 0 < len
-  pub within : at + len ≤ length bytes
+  pub within : at + len ≤ length c.bytes
   pub held : Option (List ℕ)
   pub ahead : Ahead
-  pub alike : HasReadOn r before (wire held ahead) [] (take at bytes)
-  pub stop : MissesPiece r (wire held ahead) after (chunk at (slice_range bytes at (at + len))) why
+  pub alike : HasReadChunk r before (wire held ahead) (chunk c.at (take at c.bytes))
+  pub stop : MissesPiece r (wire held ahead) after (chunk (c.at + at) (slice_range c.bytes at (at + len))) why
 
--- what reading bytes again from address 0 on says
-abbrev pub ReadsAgain : Reads → Wire → Wire → Result (Unit {0}) Mismatch → List ℕ → Type 0
-ReadsAgain r before after (Ok u) bytes = HasReadOn r before after [] bytes
-ReadsAgain r before after (Err why) bytes = MissesOn r before after bytes why
+-- what reading a chunk again says
+abbrev pub ReadsAgain : Reads → Wire → Wire → Result (Unit {0}) Mismatch → Chunk → Type 0
+ReadsAgain r before after (Ok u) c = HasReadChunk r before after c
+ReadsAgain r before after (Err why) c = MissesOn r before after c why

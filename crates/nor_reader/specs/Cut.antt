@@ -3,7 +3,8 @@
 use Rattle.std.specs.Prelude.{◌≡◌, ◌<◌, ℕ, min, List, [], ◌∷◌, ◌++◌, length, take, drop}
 use Rattle.nor_base.specs.Wire.{Wire}
 use Rattle.nor_loop.specs.Log.{Operation, HasLogged}
-use Rattle.nor_reader.specs.Reads.{chunk, ops_from, Chunk, Reads}
+use Rattle.nor_loop.specs.Reads.{Chunk}
+use Rattle.nor_reader.specs.Reads.{ops_from, Reads}
 use Rattle.nor_reader.specs.Switched.{enter_ops, leave_ops}
 use Rattle.nor_reader.specs.Twice.{IsEntered, IsFollowed, IsLeft, Twice}
 
@@ -12,11 +13,11 @@ abbrev pub AreCut : ℕ → ℕ → List ℕ → List (List ℕ) → Type 0
 AreCut first most bytes [] = bytes ≡ []
 AreCut first most bytes (piece ∷ pieces) = (0 < length piece) × (piece ≡ take first bytes) × AreCut most most (drop first bytes) pieces
 
--- the log reads each address once, from 0 on, by pieces that are cut so, in four-byte mode where that is the way
-pub record ReadsCut (first : ℕ) (r : Reads) (bytes : List ℕ) (log : List Operation) : Type 0 where
+-- the log reads each address of a chunk once, from its first on, by pieces that are cut so, in four-byte mode where that is the way
+pub record ReadsCut (first : ℕ) (r : Reads) (c : Chunk) (log : List Operation) : Type 0 where
   pub pieces : List (List ℕ)
-  pub cut : AreCut first r.most bytes pieces
-  pub those : log ≡ enter_ops r.by ++ (ops_from r.by 0 pieces ++ leave_ops r.by)
+  pub cut : AreCut first r.most c.bytes pieces
+  pub those : log ≡ enter_ops r.by ++ (ops_from r.by c.at pieces ++ leave_ops r.by)
 
 -- bytes were read by pieces that are cut so
 pub record HasReadCut (first : ℕ) (r : Reads) (before after : Wire) (c : Chunk) : Type 0 where
@@ -25,19 +26,18 @@ pub record HasReadCut (first : ℕ) (r : Reads) (before after : Wire) (c : Chunk
   pub wire : HasLogged before after (ops_from r.by c.at pieces)
 
 -- and so they were read whole, in four-byte mode where that is the way
-abbrev pub HasReadWholeCut : ℕ → Reads → Wire → Wire → List ℕ → Type 0
-HasReadWholeCut first r before after bytes =
-    IsEntered r.by (IsFollowed (λ u v. HasReadCut first r u v (chunk 0 bytes)) (IsLeft r.by)) before after
+abbrev pub HasReadWholeCut : ℕ → Reads → Wire → Wire → Chunk → Type 0
+HasReadWholeCut first r before after c = IsEntered r.by (IsFollowed (λ u v. HasReadCut first r u v c) (IsLeft r.by)) before after
 
 -- by so many bytes further on a second reading is cut than the first
 abbrev pub shift : ℕ
 shift = 2
 
--- the exchanges were just two readings of the whole, and these bytes are what both gave. The pieces of the second begin two bytes further
+-- the exchanges were just two readings of a chunk, and both gave its bytes. The pieces of the second begin two bytes further
 -- on, after the first two bytes
-pub record ReadApart (t : Twice) (before after : Wire) (bytes : List ℕ) : Type 0 where
+pub record ReadApart (t : Twice) (before after : Wire) (c : Chunk) : Type 0 where
   pub first : List Operation
   pub second : List Operation
-  pub reads : ReadsCut t.first.most t.first bytes first
-  pub rereads : ReadsCut (min shift t.again.most) t.again bytes second
+  pub reads : ReadsCut t.first.most t.first c first
+  pub rereads : ReadsCut (min shift t.again.most) t.again c second
   pub wire : HasLogged before after (first ++ second)

@@ -8,7 +8,8 @@ use Rattle.nor_reader.specs.declared.difference.Difference.{Difference}
 use Rattle.nor_reader.specs.declared.difference.Mismatch.{Mismatch}
 use Rattle.nor_reader.specs.declared.difference.Mismatch.TheVariants.{Exchange, Differs}
 use Rattle.nor_reader.specs.Again.{MissesPiece}
-use Rattle.nor_reader.specs.Reads.{read_op, reads, Chunk}
+use Rattle.nor_loop.specs.Reads.{Chunk}
+use Rattle.nor_reader.specs.Reads.{read_op, reads}
 use Rattle.nor_reader.specs.Switched.{StopsAmong, enter_ops, leave_ops}
 use Rattle.nor_reader.specs.Twice.{IsEntered, IsFollowed, IsLeft, Passage, StopsLeaving}
 

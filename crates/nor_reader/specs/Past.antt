@@ -8,7 +8,8 @@ use Rattle.nor_reader.specs.declared.difference.Mismatch.{Mismatch}
 use Rattle.nor_reader.specs.declared.by.ReadBy.{ReadBy}
 use Rattle.nor_reader.specs.declared.by.ReadBy.TheVariants.{Content, FourBytes, Entered}
 use Rattle.nor_reader.specs.Again.{MissesPiece}
-use Rattle.nor_reader.specs.Reads.{chunk, HasReadOn, Reads}
+use Rattle.nor_loop.specs.Reads.{chunk}
+use Rattle.nor_reader.specs.Reads.{HasReadOn, Reads}
 
 -- the addresses below this one are reached by the address bytes of a read: by four or by three; none in a mode that isn't entered for it
 abbrev pub reach : ReadBy → ℕ

@@ -9,7 +9,7 @@ use Rattle.nor_serprog.specs.Exchange.{Answers, Asks}
 use Rattle.nor_serprog.specs.Protocol.{request}
 use Rattle.nor_loop.specs.Four.{four_bytes}
 use Rattle.nor_loop.specs.Log.{Operation, HasLogged}
-use Rattle.nor_loop.specs.Reads.{read_bytes}
+use Rattle.nor_loop.specs.Reads.{chunk, read_bytes, Chunk}
 use Rattle.nor_loop.specs.Tables.{table_bytes}
 use Rattle.nor_reader.specs.declared.by.ReadBy.{ReadBy}
 use Rattle.nor_reader.specs.declared.by.ReadBy.TheVariants.{Tables, Content, FourBytes, Entered}
@@ -22,14 +22,6 @@ pub record Reads : Type 0 where
 
 abbrev pub reads : ℕ → ReadBy → Reads
 reads most by = record { most = most; by = by }
-
--- bytes from an address on
-pub record Chunk : Type 0 where
-  pub at : ℕ
-  pub bytes : List ℕ
-
-abbrev pub chunk : ℕ → List ℕ → Chunk
-chunk at bytes = record { at = at; bytes = bytes }
 
 -- the bytes that are sent for a read of so many bytes from an address on
 abbrev pub sent_by : ReadBy → ℕ → ℕ → List ℕ
@@ -51,12 +43,19 @@ ops_from by at (piece ∷ pieces) = read_op by at piece ∷ ops_from by (at + le
 abbrev pub IsPiece : ℕ → List ℕ → Type 0
 IsPiece most piece = (0 < length piece) × (length piece ≤ most)
 
--- the log reads each address once, from 0 on, in four-byte mode where that is the way, and this is what came back
-pub record ReadsBy (r : Reads) (bytes : List ℕ) (log : List Operation) : Type 0 where
+-- the log reads each address of a chunk once, from its first on, in four-byte mode where that is the way, and this is what came back
+pub record ReadsBy (r : Reads) (c : Chunk) (log : List Operation) : Type 0 where
   pub pieces : List (List ℕ)
   pub filled : AllByRecursion (IsPiece r.most) pieces
-  pub whole : concat pieces ≡ bytes
-  pub those : log ≡ enter_ops r.by ++ (ops_from r.by 0 pieces ++ leave_ops r.by)
+  pub whole : concat pieces ≡ c.bytes
+  pub those : log ≡ enter_ops r.by ++ (ops_from r.by c.at pieces ++ leave_ops r.by)
+
+-- a chunk was read: just these reads went out, and just its bytes came
+pub record HasReadChunk (r : Reads) (before after : Wire) (c : Chunk) : Type 0 where
+  pub pieces : List (List ℕ)
+  pub filled : AllByRecursion (IsPiece r.most) pieces
+  pub whole : concat pieces ≡ c.bytes
+  pub wire : HasLogged before after (ops_from r.by c.at pieces)
 
 -- bytes were read that follow those in front: just these reads went out, and just these bytes came
 pub record HasReadOn (r : Reads) (before after : Wire) (front bytes : List ℕ) : Type 0 where

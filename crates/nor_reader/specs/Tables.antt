@@ -9,6 +9,7 @@ use Rattle.nor_reader.specs.declared.tables.TablesFault.TheVariants.{Memory, NoS
 use Rattle.nor_serprog.specs.declared.fault.Fault.{Fault}
 use Rattle.nor_serprog.specs.declared.fault.Fault.TheVariants as fault
 use Rattle.nor_reader.specs.declared.difference.Mismatch.TheVariants.{Exchange}
+use Rattle.nor_loop.specs.Reads.{chunk}
 use Rattle.nor_reader.specs.Reads.{reads, HasReadOn, Reads, StopsOn}
 use Rattle.nor_reader.specs.Twice.{twice, ReadTwice, StopsTwice}
 
@@ -36,7 +37,7 @@ table_reads most = reads most Tables
 -- they came twice alike, as far as their own headers reach
 pub record HasReadTables (most : ℕ) (before after : Wire) (bytes : List ℕ) : Type 0 where
   pub are : AreTables bytes
-  pub twice : ReadTwice (twice most Tables Tables) before after bytes
+  pub twice : ReadTwice (twice most Tables Tables) before after (chunk 0 bytes)
 
 -- why they aren't read: there is no signature in the header, which was read once; or they didn't come twice alike; or memory ran out
 -- after a part of them
@@ -44,7 +45,7 @@ abbrev pub StopsTables : ℕ → Wire → Wire → TablesFault → Type 0
 StopsTables most before after NoSignature =
     (bytes : List ℕ) × (length bytes ≡ 8) × (HasSignature bytes → ⊥) × HasReadOn (table_reads most) before after [] bytes
 StopsTables most before after (Unread why) =
-    (bytes : List ℕ) × StopsTwice (twice most Tables Tables) before after bytes why
+    (bytes : List ℕ) × StopsTwice (twice most Tables Tables) before after (chunk 0 bytes) why
 StopsTables most before after Memory =
     (bytes : List ℕ) × HasReadOn (table_reads most) before after [] bytes
 

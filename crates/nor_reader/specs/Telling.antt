@@ -5,7 +5,7 @@ use Rattle.nor_base.specs.Device.{Ahead}
 use Rattle.nor_base.specs.Instructions.{is_there}
 use Rattle.nor_base.specs.Wire.{Wire, wire}
 use Rattle.nor_loop.specs.Log.{Operation, HasLogged}
-use Rattle.nor_loop.specs.Reads.{switch_ops}
+use Rattle.nor_loop.specs.Reads.{chunk, switch_ops, Chunk}
 use Rattle.nor_reader.specs.declared.by.ReadBy.{ReadBy}
 use Rattle.nor_reader.specs.declared.by.ReadBy.TheVariants.{Content, Entered}
 use Rattle.nor_reader.specs.Cut.{shift, ReadsCut, ReadApart}
@@ -42,34 +42,38 @@ abbrev pub HasGiven : (ℕ → ℕ) → Bool → List Operation → Type 0
 HasGiven holds mode4 [] = Unit {0}
 HasGiven holds mode4 (o ∷ log) = MayGive holds mode4 o × HasGiven holds (mode_after mode4 o) log
 
--- it has these bytes from address 0 on
-abbrev pub Holds : (ℕ → ℕ) → List ℕ → Type 0
-Holds holds bytes = (x : ℕ) → x < length bytes → holds x ≡ slice_index bytes x
+-- it has the bytes of a chunk
+abbrev pub Holds : (ℕ → ℕ) → Chunk → Type 0
+Holds holds c = (x : ℕ) → x < length c.bytes → holds (c.at + x) ≡ slice_index c.bytes x
+
+-- its addresses fit four bytes
+abbrev pub FitsFour : Chunk → Type 0
+FitsFour c = c.at + length c.bytes ≤ 2 ^ 32
 
 -- one mode was said, and by its address bytes a content was read twice, the second time by pieces that begin two bytes further on. Every
 -- chip that gave this, in whichever mode it was and whatever the programmer drove while it sampled, was in the mode that was said, and
 -- has that content; unless the content doesn't show the mode
 abbrev pub ModeIsShown : Type 0
 ModeIsShown = (most : ℕ) (said mode4 : Bool) (holds : ℕ → ℕ) (content : List ℕ) (first again : List Operation) → length content ≤ 2 ^ 32
-    → ShowsMode said most content → ReadsCut most (reads most (Content said)) content first
-    → ReadsCut (min shift most) (reads most (Content said)) content again
-    → HasGiven holds mode4 first → HasGiven holds mode4 again → (mode4 ≡ said) × Holds holds content
+    → ShowsMode said most content → ReadsCut most (reads most (Content said)) (chunk 0 content) first
+    → ReadsCut (min shift most) (reads most (Content said)) (chunk 0 content) again
+    → HasGiven holds mode4 first → HasGiven holds mode4 again → (mode4 ≡ said) × Holds holds (chunk 0 content)
 
--- and each chip that has a content gives it to reads by the address bytes of its mode, however it is cut
+-- and each chip that has a chunk gives it to reads by the address bytes of its mode, however it is cut
 abbrev pub SaidGives : Type 0
-SaidGives = (first most : ℕ) (said : Bool) (holds : ℕ → ℕ) (content : List ℕ) (log : List Operation) → length content ≤ 2 ^ 32
-    → ReadsCut first (reads most (Content said)) content log → Holds holds content → HasGiven holds said log
+SaidGives = (first most : ℕ) (said : Bool) (holds : ℕ → ℕ) (c : Chunk) (log : List Operation) → FitsFour c
+    → ReadsCut first (reads most (Content said)) c log → Holds holds c → HasGiven holds said log
 
 -- and each chip in the mode that is said has what it gave to such reads
 abbrev pub SaidHolds : Type 0
-SaidHolds = (first most : ℕ) (said : Bool) (holds : ℕ → ℕ) (content : List ℕ) (log : List Operation) → length content ≤ 2 ^ 32
-    → ReadsCut first (reads most (Content said)) content log → HasGiven holds said log → Holds holds content
+SaidHolds = (first most : ℕ) (said : Bool) (holds : ℕ → ℕ) (c : Chunk) (log : List Operation) → FitsFour c
+    → ReadsCut first (reads most (Content said)) c log → HasGiven holds said log → Holds holds c
 
 -- so has every chip for which four-byte mode is entered and left, whichever its mode was
 abbrev pub EnteredHolds : Type 0
-EnteredHolds = (first most : ℕ) (enter leave : Switch) (mode4 : Bool) (holds : ℕ → ℕ) (content : List ℕ) (log : List Operation)
-    → length content ≤ 2 ^ 32 → is_there enter ≡ true → ReadsCut first (reads most (Entered enter leave)) content log
-    → HasGiven holds mode4 log → Holds holds content
+EnteredHolds = (first most : ℕ) (enter leave : Switch) (mode4 : Bool) (holds : ℕ → ℕ) (c : Chunk) (log : List Operation)
+    → FitsFour c → is_there enter ≡ true → ReadsCut first (reads most (Entered enter leave)) c log
+    → HasGiven holds mode4 log → Holds holds c
 
 -- one of two ways to read a content gives it to a chip in the mode that is said: by the address bytes of that mode, or in four-byte mode, which
 -- is entered
@@ -78,29 +82,28 @@ GivesSaid (Content mode4) said = mode4 ≡ said
 GivesSaid (Entered enter leave) said = is_there enter ≡ true
 GivesSaid other said = ⊥
 
--- what went over the wire is two logs. Every chip that gives all that came back has just this content, and it was in the mode that was said,
+-- what went over the wire is two logs. Every chip that gives all that came back has just this chunk, and it was in the mode that was said,
 -- whichever its address mode was as they began; where the mode is sure it was that one
-pub record KnowsMode (before after : Wire) (sure said : Bool) (content : List ℕ)
-    : Type 0 where
+pub record KnowsMode (before after : Wire) (sure said : Bool) (c : Chunk) : Type 0 where
   pub first : List Operation
   pub again : List Operation
   pub wire : HasLogged before after (first ++ again)
   pub known : (mode4 : Bool) (holds : ℕ → ℕ) → (sure ≡ true → mode4 ≡ said) → HasGiven holds mode4 (first ++ again)
-      → (mode4 ≡ said) × Holds holds content
+      → (mode4 ≡ said) × Holds holds c
 
 -- so it is where a content came twice alike, in pieces that are cut apart, and shows the mode
 abbrev pub ApartKnows : Type 0
 ApartKnows = (most : ℕ) (held_before held_after : Option (List ℕ)) (ahead_before ahead_after : Ahead) (said : Bool) (content : List ℕ)
     → length content ≤ 2 ^ 32 → ShowsMode said most content
-    → ReadApart (twice most (Content said) (Content said)) (wire held_before ahead_before) (wire held_after ahead_after) content
-    → KnowsMode (wire held_before ahead_before) (wire held_after ahead_after) false said content
+    → ReadApart (twice most (Content said) (Content said)) (wire held_before ahead_before) (wire held_after ahead_after) (chunk 0 content)
+    → KnowsMode (wire held_before ahead_before) (wire held_after ahead_after) false said (chunk 0 content)
 
--- and where the mode is sure, and the first reading gives the content to a chip in it
+-- and where the mode is sure, and the first reading gives a chunk to a chip in it
 abbrev pub SureKnows : Type 0
 SureKnows = (t : Twice) (held_before held_after : Option (List ℕ)) (ahead_before ahead_after : Ahead) (said : Bool)
-    (content : List ℕ) → length content ≤ 2 ^ 32 → GivesSaid t.first.by said
-    → ReadApart t (wire held_before ahead_before) (wire held_after ahead_after) content
-    → KnowsMode (wire held_before ahead_before) (wire held_after ahead_after) true said content
+    (c : Chunk) → FitsFour c → GivesSaid t.first.by said
+    → ReadApart t (wire held_before ahead_before) (wire held_after ahead_after) c
+    → KnowsMode (wire held_before ahead_before) (wire held_after ahead_after) true said c
 
 -- the mode after operations
 abbrev pub modes_after : Bool → List Operation → Bool

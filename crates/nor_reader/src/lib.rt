@@ -1,11 +1,11 @@
 //! What the chip of a serprog device says and holds, each byte read twice: its identification
-//! (JEDEC 9Fh), its SFDP tables (JESD216B 5Ah), and its content (W25Q256JV datasheet 03h, 13h).
-//! Nothing is sent that changes what a chip holds.
+//! (JEDEC 9Fh), its SFDP tables (JESD216B 5Ah), and its content from an address on (W25Q256JV
+//! datasheet 03h, 13h). Nothing is sent that changes what a chip holds.
 //!
 //! [`read_id`] reads the first, [`read_tables`] the second, [`read_content`] the third;
 //! [`compare_part`] compares a part of that.
-//! [`twice_knows`] is the law that a content which came twice alike is that of every chip that
-//! would have given these answers.
+//! [`twice_knows`] is the law that bytes which came twice alike are those of every chip that would
+//! have given these answers.
 //!
 //! [`idle_status`] waits until the chip is idle, [`chip_status`] reads its status registers,
 //! [`read_register`] one of any kind, and [`suits`] says whether a job can begin on them.

@@ -3,7 +3,7 @@
 ghost use Rattle.std.specs.Prelude.{◌<◌, ◌+◌, ◌^◌, length};
 ghost use Rattle.nor_base.specs.Wire.{wire};
 ghost use Rattle.nor_reader.specs.Part.{ReadsPart};
-ghost use Rattle.nor_reader.specs.Reads.{chunk};
+ghost use Rattle.nor_loop.specs.Reads.{chunk};
 
 use crate::by::{ReadBy, enter_of, leave_of};
 use crate::difference::Mismatch;

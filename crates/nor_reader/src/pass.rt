@@ -1,13 +1,14 @@
 //! The chip behind a device, read piece by piece.
 
-ghost use Rattle.std.specs.Prelude.{◌≡◌, ◌≤◌, ◌<◌, ◌^◌, min, [], length, take, drop, IfOk};
+ghost use Rattle.std.specs.Prelude.{◌≡◌, ◌≤◌, ◌<◌, ◌+◌, ◌^◌, min, [], length, take, drop, IfOk};
 ghost use Rattle.std.specs.Prelude.{MatchResult};
 ghost use Rattle.nor_reader.specs.Compared.{CountsMismatch};
 ghost use Rattle.nor_serprog.specs.declared.fault.Fault.TheVariants.{Read, Write};
 ghost use Rattle.nor_serprog.specs.Exchange.{CountsReads, CountsWrites};
 ghost use Rattle.nor_reader.specs.Again.{ReadsAgain};
 ghost use Rattle.nor_reader.specs.Cut.{HasReadCut, HasReadWholeCut, ReadApart, shift};
-ghost use Rattle.nor_reader.specs.Reads.{chunk, reads, HasReadOn, StopsOn};
+ghost use Rattle.nor_loop.specs.Reads.{chunk};
+ghost use Rattle.nor_reader.specs.Reads.{reads, HasReadOn, StopsOn};
 ghost use Rattle.nor_reader.specs.Twice.{twice, HasReadWhole, ReadTwice, ReadsWhole, StopsFirst};
 ghost use Rattle.nor_reader.specs.Twice.{StopsTwice};
 ghost use Rattle.nor_base.specs.Wire.{wire};
@@ -21,12 +22,12 @@ use crate::told::{Pass, Told};
 use nor_base::{ByteIn, ByteOut};
 use nor_serprog::{Fault, Limits};
 
-/// Has the device read its chip from address 0 on, as many bytes at once as it can give; then
-/// again, perhaps by another instruction, in pieces that begin two bytes further on, and compares.
-/// How far it is goes to `progress`; where that fails nothing changes. It takes no memory.
+/// Has the device read its chip from address `low` on, as far as there is room, as many bytes at
+/// once as it can give; then again, in pieces that begin two bytes further on, and compares. How
+/// far it is goes to `progress`.
 ///
-/// `Differs` names the lowest address whose byte came otherwise; four-byte mode was left where it
-/// was entered. `Exchange` where an exchange ended early, after which nothing was sent.
+/// `Differs` names the lowest address whose byte came otherwise. `Exchange` where an exchange ended
+/// early, after which nothing was sent.
 pub fn read_content<R: ByteIn, W: ByteOut, P: ByteOut>(
     from: &mut R,
     to: &mut W,
@@ -34,54 +35,62 @@ pub fn read_content<R: ByteIn, W: ByteOut, P: ByteOut>(
     by: ReadBy,
     again: ReadBy,
     content: &mut [u8],
+    low: usize,
     progress: &mut P,
 ) -> Result<(), Mismatch>
+    requires low { (low ≤ length content.old) × (low < 2 ^ 32) }
     requires size { length content.old ≤ 2 ^ 32 }
     ensures twice { MatchResult result
         (λ _. ReadTwice (twice limits.now.asked by again) (wire (W.held to.old) (R.ahead from.old))
-        (wire (W.held to.new) (R.ahead from.new)) content.new)
+        (wire (W.held to.new) (R.ahead from.new)) (chunk low (drop low content.new)))
         (StopsTwice (twice limits.now.asked by again) (wire (W.held to.old) (R.ahead from.old))
-        (wire (W.held to.new) (R.ahead from.new)) content.new) }
+        (wire (W.held to.new) (R.ahead from.new)) (chunk low (drop low content.new))) }
     ensures apart { IfOk result
         (λ _. ReadApart (twice limits.now.asked by again) (wire (W.held to.old) (R.ahead from.old))
-        (wire (W.held to.new) (R.ahead from.new)) content.new) }
+        (wire (W.held to.new) (R.ahead from.new)) (chunk low (drop low content.new))) }
+    ensures size { length content.new ≡ length content.old }
     ensures counts { CountsMismatch Read (R.count from.old) (R.count from.new) result
         × CountsMismatch Write (W.count to.old) (W.count to.new) result }
 {
-    if let Err(why) = read_first(from, to, limits, by, content, progress) {
+    if let Err(why) = read_first(from, to, limits, by, content, low, progress) {
         return Err(Mismatch::Exchange(why));
     }
-    read_again(from, to, limits, again, content, Pass::Second, progress)
+    let at = low as u32;
+    let came = &content[low..];
+    read_again(from, to, limits, again, at, came, Pass::Second, progress)
 }
 
-/// Has the device read its chip from address 0 on, as far as there is room, in four-byte mode where
-/// that is the way.
+/// Has the device read its chip from an address on, as far as there is room, in four-byte mode
+/// where that is the way.
 fn read_first<R: ByteIn, W: ByteOut, P: ByteOut>(
     from: &mut R,
     to: &mut W,
     limits: &Limits,
     by: ReadBy,
     bytes: &mut [u8],
+    low: usize,
     progress: &mut P,
 ) -> Result<(), Fault>
+    requires low { low ≤ length bytes.old }
     requires size { length bytes.old ≤ 2 ^ 32 }
     ensures read { MatchResult result
         (λ _. HasReadWhole (reads limits.now.asked by) (wire (W.held to.old) (R.ahead from.old))
-        (wire (W.held to.new) (R.ahead from.new)) bytes.new)
+        (wire (W.held to.new) (R.ahead from.new)) (chunk low (drop low bytes.new)))
         (StopsFirst (reads limits.now.asked by) (wire (W.held to.old) (R.ahead from.old))
-        (wire (W.held to.new) (R.ahead from.new)) bytes.new) }
+        (wire (W.held to.new) (R.ahead from.new)) (chunk low (drop low bytes.new))) }
     ensures cut { IfOk result
         (λ _. HasReadWholeCut limits.now.asked (reads limits.now.asked by)
         (wire (W.held to.old) (R.ahead from.old)) (wire (W.held to.new) (R.ahead from.new))
-        bytes.new) }
+        (chunk low (drop low bytes.new))) }
+    ensures size { length bytes.new ≡ length bytes.old }
     ensures counts { CountsReads (R.count from.old) (R.count from.new) result
         × CountsWrites (W.count to.old) (W.count to.new) result }
 {
     if let Err(why) = switch_mode(from, to, enter_of(by), ENTER) {
         return Err(why);
     }
-    let mut told = Told::new(Pass::First, bytes.len(), progress);
-    let read = read_on(from, to, limits, by, bytes, 0, &mut told);
+    let mut told = Told::new(Pass::First, bytes.len() - low, progress);
+    let read = read_on(from, to, limits, by, bytes, low, &mut told);
     told.end();
     if let Err(why) = read {
         return Err(why);
@@ -89,7 +98,7 @@ fn read_first<R: ByteIn, W: ByteOut, P: ByteOut>(
     switch_mode(from, to, leave_of(by), LEAVE)
 }
 
-/// Has the device read its chip from address 0 on, and compares it with bytes, telling `progress`
+/// Has the device read its chip from an address on, and compares it with bytes, telling `progress`
 /// how far it is. It takes no memory.
 ///
 /// `Differs` names the lowest address whose byte is another; four-byte mode was left where it was
@@ -99,17 +108,18 @@ pub fn read_again<R: ByteIn, W: ByteOut, P: ByteOut>(
     to: &mut W,
     limits: &Limits,
     by: ReadBy,
+    at: u32,
     bytes: &[u8],
     pass: Pass,
     progress: &mut P,
 ) -> Result<(), Mismatch>
-    requires size { length bytes.now ≤ 2 ^ 32 }
+    requires end { at + length bytes.now ≤ 2 ^ 32 }
     ensures again { ReadsWhole (reads limits.now.asked by) (wire (W.held to.old) (R.ahead from.old))
-        (wire (W.held to.new) (R.ahead from.new)) result bytes.now }
+        (wire (W.held to.new) (R.ahead from.new)) result (chunk at bytes.now) }
     ensures cut { IfOk result
         (λ _. HasReadWholeCut (min shift limits.now.asked) (reads limits.now.asked by)
         (wire (W.held to.old) (R.ahead from.old)) (wire (W.held to.new) (R.ahead from.new))
-        bytes.now) }
+        (chunk at bytes.now)) }
     ensures counts { CountsMismatch Read (R.count from.old) (R.count from.new) result
         × CountsMismatch Write (W.count to.old) (W.count to.new) result }
 {
@@ -118,7 +128,7 @@ pub fn read_again<R: ByteIn, W: ByteOut, P: ByteOut>(
     }
     let first = SHIFT.min(limits.asked as usize);
     let mut told = Told::new(pass, bytes.len(), progress);
-    let read = compare_all(from, to, limits, by, bytes, first, &mut told);
+    let read = compare_all(from, to, limits, by, at, bytes, first, &mut told);
     told.end();
     match read {
         Ok(()) => match switch_mode(from, to, leave_of(by), LEAVE) {
@@ -168,30 +178,31 @@ pub(crate) fn read_on<R: ByteIn, W: ByteOut, P: ByteOut>(
             return Err(why);
         }
         done += len;
-        told.came(done);
+        told.came(done - start);
     }
     Ok(())
 }
 
-/// Has the device read its chip from address 0 on, so many bytes first, and compares what comes
+/// Has the device read its chip from an address on, so many bytes first, and compares what comes
 /// with bytes.
 pub(crate) fn compare_all<R: ByteIn, W: ByteOut, P: ByteOut>(
     from: &mut R,
     to: &mut W,
     limits: &Limits,
     by: ReadBy,
+    at: u32,
     bytes: &[u8],
     first: usize,
     told: &mut Told<'_, P>,
 ) -> Result<(), Mismatch>
     requires some { 0 < first }
     requires few { first ≤ limits.now.asked }
-    requires size { length bytes.now ≤ 2 ^ 32 }
+    requires end { at + length bytes.now ≤ 2 ^ 32 }
     ensures again { ReadsAgain (reads limits.now.asked by) (wire (W.held to.old) (R.ahead from.old))
-        (wire (W.held to.new) (R.ahead from.new)) result bytes.now }
+        (wire (W.held to.new) (R.ahead from.new)) result (chunk at bytes.now) }
     ensures cut { IfOk result
         (λ _. HasReadCut first (reads limits.now.asked by) (wire (W.held to.old) (R.ahead from.old))
-        (wire (W.held to.new) (R.ahead from.new)) (chunk 0 bytes.now)) }
+        (wire (W.held to.new) (R.ahead from.new)) (chunk at bytes.now)) }
     ensures counts { CountsMismatch Read (R.count from.old) (R.count from.new) result
         × CountsMismatch Write (W.count to.old) (W.count to.new) result }
 {
@@ -200,7 +211,8 @@ pub(crate) fn compare_all<R: ByteIn, W: ByteOut, P: ByteOut>(
     let mut done = 0;
     while done < bytes.len() {
         let len = (bytes.len() - done).min(next);
-        if let Err(why) = compare_piece(from, to, by, done as u32, &bytes[done..done + len]) {
+        let place = at + done as u32;
+        if let Err(why) = compare_piece(from, to, by, place, &bytes[done..done + len]) {
             return Err(why);
         }
         done += len;

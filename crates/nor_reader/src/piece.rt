@@ -8,7 +8,8 @@ ghost use Rattle.nor_serprog.specs.Exchange.{Answers, Asks, CountsReads, CountsW
 ghost use Rattle.nor_serprog.specs.Follow.{CountsReason};
 ghost use Rattle.nor_serprog.specs.Protocol.{request};
 ghost use Rattle.nor_reader.specs.Again.{ReadsPiece};
-ghost use Rattle.nor_reader.specs.Reads.{chunk, sent_by, read_op, reads, StopsPiece};
+ghost use Rattle.nor_loop.specs.Reads.{chunk};
+ghost use Rattle.nor_reader.specs.Reads.{sent_by, read_op, reads, StopsPiece};
 ghost use Rattle.nor_base.specs.Wire.{wire};
 
 use crate::by::ReadBy;

@@ -77,11 +77,12 @@ pub fn read_tables<R: ByteIn, W: ByteOut>(
     if let Err(why) = grow(from, to, limits, &mut bytes, size) {
         return Err(why);
     }
+    let by = ReadBy::Tables;
     let first = limits.asked as usize;
     let mut quiet = Nowhere;
     let mut told = Told::new(Pass::Second, 0, &mut quiet);
     let tables = bytes.as_slice();
-    match compare_all(from, to, limits, ReadBy::Tables, tables, first, &mut told) {
+    match compare_all(from, to, limits, by, 0, tables, first, &mut told) {
         Ok(()) => Ok(bytes),
         Err(why) => Err(TablesFault::Unread(why)),
     }

@@ -1,5 +1,6 @@
 -- How work that was planned ends.
-use Rattle.std.proofs.Common.{◌≡◌, ℕ, true, List, Option, Result, Ok, Err, IfOk, IfErr, refl, sym, subst}
+use Rattle.std.proofs.Common.{◌≡◌, ◌<◌, ℕ, true, List, Option, Result, Ok, Err, IfOk, IfErr, refl, sym, subst}
+use Rattle.std.specs.List.{slice_index}
 use Rattle.nor_reader.specs.AtOnce.{at_once}
 use Rattle.nor_flasher.specs.Laws.{Closes, Breaks, Rests}
 use Rattle.nor_job.specs.Status.{start_of}
@@ -26,21 +27,21 @@ use Rattle.norprog_flash.proofs.PlannedLemmas.{every_flashes, every_keeps, every
 use Rattle.norprog_flash.specs.Work.{Plan}
 
 module _ (close : Closes) (break : Breaks) (rest : Rests) (s : Session) (before read : Wire) (p : Plan) (out : Printed) (whole : s.job.ask.content ≡ true)
-    (aims : s.job.aim ≡ aim.Work) (planned : HasPlanned s before read p out) where
+    (bytes : (a : ℕ) → slice_index s.reading.content.items a < 256) (aims : s.job.aim ≡ aim.Work) (planned : HasPlanned s before read p out) where
   abbrev todo : IsToDo s before read p out
   todo = record { aim = aims; planned = planned }
 
   worked_ends : (last : Wire) (by : ReadBy) (ending : Ending) → GivesBy s.reading.meaning (start_of (task_on s.job s.reading)) by
       → AreCarried s.limits p.steps → WorksOut (doing_in s) read last (flashing_in s p by) ending → EndsWork s before last out ending
   worked_ends last by ending way carried (Worked worked) =
-      AllDone p read todo by way worked (every_flashes s before read p out planned whole close worked.done worked.steps)
+      AllDone p read todo by way worked (every_flashes s before read p out planned whole bytes close worked.done worked.steps)
   worked_ends last by ending way carried (Stopped it (FailedAt h)) =
       Halted p read todo h.halt h.why (never_carried s.reading.meaning s.limits s.job.ask.turns read last p.steps h.halt h.why carried h.halted h.failed) h.halted h.failed
-      (every_keeps s before read p out planned whole break last h.halt h.halted)
-  worked_ends last by ending way carried (Stopped it (steps.Starved step rested)) = Starved p read todo step rested (every_rests s before read p out planned whole rest last step rested)
+      (every_keeps s before read p out planned whole bytes break last h.halt h.halted)
+  worked_ends last by ending way carried (Stopped it (steps.Starved step rested)) = Starved p read todo step rested (every_rests s before read p out planned whole bytes rest last step rested)
   worked_ends last by ending way carried (MissedIt why missed) =
       Missed p read todo by why (never_misses missed.mismatch why missed.failed) way missed
-      (every_flashes s before read p out planned whole close missed.worked.done missed.worked.steps)
+      (every_flashes s before read p out planned whole bytes close missed.worked.done missed.worked.steps)
 
   pub goes_ends : (last : Wire) (ending : Ending) → GoesOn s read last p ending → EndsWork s before last out ending
   goes_ends last ending (Goes by it way carried works) = worked_ends last by it way carried works

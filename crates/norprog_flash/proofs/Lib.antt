@@ -4,6 +4,7 @@ mod GoalLemmas
 mod BuiltLemmas
 mod RefusedLemmas
 mod WorkLemmas
+mod WithinLemmas
 mod PlannedLemmas
 mod DoneLemmas
 mod EndedLemmas

@@ -1,11 +1,13 @@
 -- What follows for every chip from a chip that was read and planned for, and from the work on it.
-use Rattle.std.proofs.Common.{◌≡◌, [], ◌∷◌, ℕ, Bool, true, false, List, All, length, refl, sym, ◌∙◌, ap, subst}
+use Rattle.std.proofs.Common.{◌≡◌, ◌≤◌, ◌<◌, ◌^◌, [], ◌∷◌, ℕ, Bool, true, false, List, All, length, None, refl, sym, ◌∙◌, ap, subst, arith}
+use Rattle.std.specs.List.{slice_index}
 use Rattle.nor_base.specs.declared.step.Step.{Step}
 use Rattle.nor_base.specs.declared.meaning.Start.{Start}
 use Rattle.nor_base.specs.Parameters.{Parameters}
 use Rattle.nor_base.specs.Planned.{ArePlanned, IsWorkable}
-use Rattle.nor_flasher.specs.Apart.{ClosesApart, BreaksApart, chip_read}
+use Rattle.nor_flasher.specs.Apart.{given, BreaksApart, ClosesApart}
 use Rattle.nor_flasher.specs.Laws.{Closes, Breaks, PlannedIsDoable, Rests}
+use Rattle.nor_flasher.specs.Within.{IsPlannedWithin}
 use Rattle.nor_job.proofs.ChipLemmas.{one_chip}
 use Rattle.nor_job.specs.Status.{start_of}
 use Rattle.nor_loop.specs.Laws.{ReadTwice}
@@ -14,22 +16,39 @@ use Rattle.nor_serprog.specs.declared.halt.Halt.{Halt}
 use Rattle.nor_serprog.specs.Done.{HasDoneAll, IsDoable}
 use Rattle.nor_serprog.specs.Row.{HasHalted}
 use Rattle.nor_base.specs.Wire.{Wire}
-use Rattle.norprog_flash.specs.Begun.{HasPlanned, Printed, Session}
+use Rattle.norprog_flash.specs.Begun.{ask_of, HasPlanned, Printed, Session}
+use Rattle.norprog_flash.specs.Ended.{chip_in}
 use Rattle.norprog_device.specs.Doing.{HasRested}
 use Rattle.norprog_flash.specs.Worked.{doing_in}
 use Rattle.norprog_flash.specs.Task.{dump_of, goal_of, task_on}
 use Rattle.norprog.specs.Stepper.{Stepping, steps_by, update_of}
 use Rattle.norprog.specs.Update.{Update, update, IsDoneBy}
 use Rattle.norprog.specs.declared.report.Report.{Report}
+use Rattle.norprog_read.specs.declared.asked.Ask.{Ask}
+use Rattle.norprog_read.specs.declared.asked.Span.{Span}
 use Rattle.norprog_read.specs.Chip.{GivesContent, way_by}
+use Rattle.norprog_read.specs.Span.{came, All as AllOfIt, Around, IsPart, Nothing}
 use Rattle.norprog_read.specs.Way.{Way}
 use Rattle.norprog_flash.specs.Work.{Plan}
+use Rattle.norprog_flash.proofs.WithinLemmas.{planned_within, IsWhole}
 
--- a content that was wanted came twice
+-- of a part of a content that was wanted the bytes came twice
 given_twice : (w : Way) (before after : Wire) (wanted : Bool) (content : List ℕ) → wanted ≡ true → GivesContent w before after wanted content
-    → ReadTwice before after w.m (record w.start { quad = false }) content
+    → ReadTwice before after w.m (record w.start { quad = false }) (came w.part content)
 given_twice w before after true content is given = given.known false
 given_twice w before after false content is given = absurd cc
+
+-- the part that is asked for lies on the chip
+part_on_chip : (ask : Ask) (m : Parameters) (part : Span) → IsPart ask m part → (part.low ≤ part.high) × (part.high ≤ m.size)
+part_on_chip ask m part (Nothing none) = (omega arith, omega arith)
+part_on_chip ask m part (AllOfIt wanted near) = (omega arith, omega arith)
+part_on_chip ask m part (Around near window wanted given wide) = (omega arith, omega arith)
+
+-- where no addresses are named it is the whole chip
+part_whole : (ask : Ask) (m : Parameters) (part : Span) → ask.content ≡ true → ask.near ≡ None → IsPart ask m part → (part.low ≡ 0) × (part.high ≡ m.size)
+part_whole ask m part wanted near (Nothing none) = absurd cc
+part_whole ask m part wanted near (AllOfIt all nowhere) = (refl, refl)
+part_whole ask m part wanted near (Around addresses window all given wide) = absurd cc
 
 module _ (s : Session) (before read : Wire) (p : Plan) (out : Printed) (planned : HasPlanned s before read p out) where
   abbrev start : Start
@@ -54,6 +73,13 @@ module _ (s : Session) (before read : Wire) (p : Plan) (out : Printed) (planned 
       ∙ ap (update s.reading.meaning start true s.reading.content.items) third in
       only p.steps (subst (λ (u : Update). IsDoneBy u p.steps) (sym all) steps_planned)
 
+  -- the part that was read lies in the goal
+  pub part_in_goal : (s.reading.span.low ≤ s.reading.span.high) × (s.reading.span.high ≤ length p.goal) × (s.reading.span.low < 2 ^ 32)
+  part_in_goal =
+      let part = part_on_chip (ask_of s.job) s.reading.meaning s.reading.span planned.read.read.asked_for in
+      let most : s.reading.meaning.size ≤ 2 ^ 28 = workable.accepted.size_high in
+      (part.0, omega (arith, part.1, workable.want_size), omega (arith, part.0, part.1, most))
+
   -- as many as are reported
   pub count_is : p.report.steps ≡ length p.steps
   count_is = ap (λ (r : Report). r.steps) planned.plan.work.report
@@ -61,33 +87,42 @@ module _ (s : Session) (before read : Wire) (p : Plan) (out : Printed) (planned 
   pub steps_doable : PlannedIsDoable → All IsDoable p.steps
   steps_doable law = law s.reading.meaning start true s.reading.content.items p.goal p.steps steps_planned
 
-  module _ (whole : s.job.ask.content ≡ true) where
-    twice : ReadTwice planned.read.read.ready planned.read.read.held s.reading.meaning start
-        s.reading.content.items
-    twice = given_twice (way_by (at_once s.limits) s.job.ask s.reading.tables.items s.reading.meaning) _ _ s.job.ask.content s.reading.content.items whole planned.read.read.content
+  -- what it must hold in the end, of what it holds
+  abbrev target : List ℕ → List ℕ
+  target = goal_of (task_on s.job s.reading) planned.plan.work.image planned.plan.work.regions (dump_of s.job)
+
+  module _ (whole : s.job.ask.content ≡ true) (bytes : (a : ℕ) → slice_index s.reading.content.items a < 256) where
+    twice : ReadTwice planned.read.read.ready planned.read.read.held s.reading.meaning start (given (chip_in s))
+    twice = given_twice (way_by (at_once s.limits) (ask_of s.job) s.reading.tables.items s.reading.meaning s.reading.span) _ _ s.job.ask.content
+        s.reading.content.items whole planned.read.read.content
+
+    all : IsWhole (chip_in s)
+    all = let part = part_whole (ask_of s.job) s.reading.meaning s.reading.span whole refl planned.read.read.asked_for in record { low = part.0; high = part.1 }
+
+    within : IsPlannedWithin (chip_in s) target p.steps
+    within = planned_within (chip_in s) (task_on s.job s.reading) planned.plan.work.image planned.plan.work.regions (dump_of s.job) p.steps all
+        (record { size = workable.have_size; bytes = bytes })
+        (record {
+          workable = subst (λ (w : List ℕ). IsWorkable s.reading.meaning start s.reading.content.items w) planned.plan.work.goal_is workable;
+          planned = subst (λ (w : List ℕ). ArePlanned s.reading.meaning start true s.reading.content.items w p.steps) planned.plan.work.goal_is steps_planned;
+        })
 
     pub every_flashes : Closes → (done : Wire) → HasDoneAll read done s.limits s.job.ask.turns p.steps
-        → ClosesApart planned.read.read.ready planned.read.read.held read done (chip_read s.reading.meaning start s.reading.content.items)
-        (goal_of (task_on s.job s.reading) planned.plan.work.image planned.plan.work.regions (dump_of s.job)) p.steps
-    every_flashes law done all =
-        let target = goal_of (task_on s.job s.reading) planned.plan.work.image planned.plan.work.regions (dump_of s.job) in
-        law _ _ read.held done.held _ _ read.ahead done.ahead s.limits s.job.ask.turns s.reading.meaning start true s.reading.content.items target p.steps
-        (subst (λ (w : List ℕ). IsWorkable s.reading.meaning start s.reading.content.items w) planned.plan.work.goal_is workable)
-        (subst (λ (w : List ℕ). ArePlanned s.reading.meaning start true s.reading.content.items w p.steps) planned.plan.work.goal_is steps_planned) twice all
+        → ClosesApart planned.read.read.ready planned.read.read.held read done (chip_in s) target p.steps
+    every_flashes law done did =
+        law _ _ read.held done.held _ _ read.ahead done.ahead s.limits s.job.ask.turns (chip_in s) target p.steps within twice did
 
-    pub every_keeps : Breaks → (last : Wire) (halt : Halt)
-        → (halted : HasHalted read last s.limits s.job.ask.turns p.steps halt)
-        → BreaksApart planned.read.read.ready planned.read.read.held read (chip_read s.reading.meaning start s.reading.content.items) p.goal p.steps halt.step (halted.at ∷ halted.beyond)
+    pub every_keeps : Breaks → (last : Wire) (halt : Halt) → (halted : HasHalted read last s.limits s.job.ask.turns p.steps halt)
+        → BreaksApart planned.read.read.ready planned.read.read.held read (chip_in s) target p.steps halt.step (halted.at ∷ halted.beyond)
     every_keeps law last halt halted =
-        law _ _ read.held last.held _ _ read.ahead last.ahead s.limits s.job.ask.turns s.reading.meaning start true s.reading.content.items p.goal p.steps halt refl workable
-        steps_planned twice halted
+        law _ _ read.held last.held _ _ read.ahead last.ahead s.limits s.job.ask.turns (chip_in s) target p.steps halt refl within twice halted
 
     pub every_rests : Rests → (last : Wire) (step : ℕ) → (rested : HasRested (doing_in s) read last p.steps step)
-        → BreaksApart planned.read.read.ready planned.read.read.held read (chip_read s.reading.meaning start s.reading.content.items) p.goal p.steps step (rested.next ∷ [])
+        → BreaksApart planned.read.read.ready planned.read.read.held read (chip_in s) target p.steps step (rested.next ∷ [])
     every_rests law last step rested =
         let Broken : List Step → ℕ → Type 0 =
-        λ xs n. BreaksApart planned.read.read.ready planned.read.read.held read (chip_read s.reading.meaning start s.reading.content.items) p.goal xs n (rested.next ∷ []) in
+        λ xs n. BreaksApart planned.read.read.ready planned.read.read.held read (chip_in s) target xs n (rested.next ∷ []) in
         subst (Broken p.steps) (sym rested.number)
         (subst (λ (xs : List Step). Broken xs (length rested.front)) (sym rested.those)
-        (law _ _ read.held last.held _ _ read.ahead last.ahead s.limits s.job.ask.turns s.reading.meaning start true s.reading.content.items p.goal rested.front rested.next rested.rest refl
-        workable (subst (λ (xs : List Step). ArePlanned s.reading.meaning start true s.reading.content.items p.goal xs) rested.those steps_planned) twice rested.done))
+        (law _ _ read.held last.held _ _ read.ahead last.ahead s.limits s.job.ask.turns (chip_in s) target rested.front rested.next rested.rest refl
+        (subst (IsPlannedWithin (chip_in s) target) rested.those within) twice rested.done))

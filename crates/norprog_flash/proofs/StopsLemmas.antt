@@ -19,7 +19,7 @@ use Rattle.nor_base.specs.Wire.{Wire}
 use Rattle.norprog_flash.specs.declared.ending.Unflashed.{Unflashed}
 use Rattle.norprog_flash.specs.declared.ending.Unflashed.TheVariants.{Refused, Closed}
 use Rattle.norprog_flash.specs.declared.job.Job.{Job}
-use Rattle.norprog_flash.specs.Begun.{is_closed, printed, rules_on, start_at}
+use Rattle.norprog_flash.specs.Begun.{ask_of, is_closed, printed, rules_on, start_at}
 use Rattle.norprog_flash.specs.Early.{Breaking, BreaksEarly, RefusesEarly, early_task, file_tables, is_known}
 use Rattle.norprog_flash.specs.declared.ending.Ending.TheVariants.{Compared}
 use Rattle.norprog_flash.specs.Ended.{Comparing, IsCompared}
@@ -38,7 +38,7 @@ given_way : (w : Way) (before after : Wire) (wanted : Bool) (content : List ℕ)
 given_way w before after true content is given = given.way
 given_way w before after false content is given = absurd cc
 
-pub closed : (most : ℕ) (w v : Wire) (job : Job) (r : Reading) → HasReadChip most w v job.ask r → (start : Start) → start ≡ start_at job r.status
+pub closed : (most : ℕ) (w v : Wire) (job : Job) (r : Reading) → HasReadChip most w v (ask_of job) r → (start : Start) → start ≡ start_at job r.status
     → is_closed job start r.status ≡ true → StopsBefore most w v job (Closed r.status)
 closed most w v job r read start begins is = inr (record {
   reading = r;
@@ -47,14 +47,14 @@ closed most w v job r read start begins is = inr (record {
 })
 
 -- a chip that was read whole is read so
-pub way_there : (most : ℕ) (w v : Wire) (job : Job) (r : Reading) → HasReadChip most w v job.ask r → (start : Start)
+pub way_there : (most : ℕ) (w v : Wire) (job : Job) (r : Reading) → HasReadChip most w v (ask_of job) r → (start : Start)
     → start ≡ start_of (task_on job r) → job.ask.content ≡ true → (by : ReadBy) → by ≡ first_by r.meaning start
     → GivesBy r.meaning (start_of (task_on job r)) by
 way_there most w v job r read start begins whole by is =
     subst (GivesBy r.meaning (start_of (task_on job r))) (sym (is ∙ ap (first_by r.meaning) begins))
-    (given_way (way_by most job.ask r.tables.items r.meaning) _ _ job.ask.content r.content.items whole read.content)
+    (given_way (way_by most (ask_of job) r.tables.items r.meaning r.span) _ _ job.ask.content r.content.items whole read.content)
 
-pub unruled : (most : ℕ) (w v : Wire) (job : Job) (r : Reading) → HasReadChip most w v job.ask r → (why : Refusal)
+pub unruled : (most : ℕ) (w v : Wire) (job : Job) (r : Reading) → HasReadChip most w v (ask_of job) r → (why : Refusal)
     → BreaksRules (rules_on job) (task_on job r) (length r.content.items) why ⊎ (why ≡ Build Memory) → StopsBefore most w v job (Refused why)
 unruled most w v job r read why breaks = inr (record { reading = r; read = read; unsuited = breaks })
 

@@ -2,7 +2,7 @@
 use Rattle.std.specs.Prelude.{◌≡◌, ◌≢◌, ℕ, List, [], ◌∷◌, length, Ok}
 use Rattle.nor_reader.specs.AtOnce.{at_once}
 use Rattle.nor_base.specs.declared.step.Step.{Step}
-use Rattle.nor_flasher.specs.Apart.{ClosesApart, BreaksApart, chip_read}
+use Rattle.nor_flasher.specs.Apart.{chip_read, BreaksApart, ChipRead, ClosesApart}
 use Rattle.nor_job.specs.Status.{start_of}
 use Rattle.nor_reader.specs.declared.by.ReadBy.{ReadBy}
 use Rattle.nor_reader.specs.Laws.{GivesBy}
@@ -31,21 +31,26 @@ pub record IsToDo (s : Session) (before read : Wire) (p : Plan) (out : Printed) 
   pub aim : s.job.aim ≡ aim.Work
   pub planned : HasPlanned s before read p out
 
+-- the chip of a session, as it was read
+abbrev pub chip_in : Session → ChipRead
+chip_in s = let r = s.reading in chip_read r.meaning (start_of (task_on s.job r)) r.content.items r.span.low r.span.high
+
+-- what it must hold in the end, of what it holds
+abbrev pub target_in : {s : Session} {before read : Wire} {p : Plan} {out : Printed} → IsToDo s before read p out → List ℕ → List ℕ
+target_in {s = s} todo content =
+    let work = todo.planned.plan.work in goal_of (task_on s.job s.reading) work.image work.regions (dump_of s.job) content
+
 -- what went over the wire as the content was read, and then in the work, is explained only by chips that end with the target of what
 -- they held, and by some chip
 abbrev pub EveryChipFlashes : {s : Session} {before read : Wire} {p : Plan} {out : Printed} → IsToDo s before read p out → Wire → Type 0
 EveryChipFlashes {s = s} {read = read} {p = p} todo done =
-    let t = task_on s.job s.reading in
-    let chip = todo.planned.read.read in
-    let work = todo.planned.plan.work in
-    ClosesApart chip.ready chip.held read done (chip_read s.reading.meaning (start_of t) s.reading.content.items) (goal_of t work.image work.regions (dump_of s.job)) p.steps
+    let chip = todo.planned.read.read in ClosesApart chip.ready chip.held read done (chip_in s) (target_in todo) p.steps
 
--- or, as far as the work came to a step, which begins a row, only by chips that held what was read, of which at most one unit of the work
--- is in the making, also after they did some of the row
+-- or, as far as the work came to a step, which begins a row, only by chips that held what was read, of which at most one unit of the work to
+-- the target of what they held is in the making, also after they did some of the row
 abbrev pub EveryChipKeeps : {s : Session} {before read : Wire} {p : Plan} {out : Printed} → IsToDo s before read p out → ℕ → List Step → Type 0
 EveryChipKeeps {s = s} {read = read} {p = p} todo at row =
-    let chip = todo.planned.read.read in
-    BreaksApart chip.ready chip.held read (chip_read s.reading.meaning (start_of (task_on s.job s.reading)) s.reading.content.items) p.goal p.steps at row
+    let chip = todo.planned.read.read in BreaksApart chip.ready chip.held read (chip_in s) (target_in todo) p.steps at row
 
 -- the work on a chip that gave this was only planned and printed
 pub data IsPlanned (job : Job) (r : Reading) (out : Printed) : Ending → Type 0 where

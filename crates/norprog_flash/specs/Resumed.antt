@@ -1,15 +1,11 @@
 -- Which chip work is resumed on (this project's).
-use Rattle.std.specs.Prelude.{◌≡◌, ◌≢◌, ℕ, ◌*◌, ◌<◌, max, List, length, take, drop}
+use Rattle.std.specs.Prelude.{◌≡◌, ◌≢◌, ℕ, ◌*◌, ◌<◌, List, length, take, drop}
 use Rattle.nor_base.specs.Parameters.{Parameters}
-use Rattle.nor_geometry.specs.Window.{IsWindowSize}
+use Rattle.norprog_read.specs.Span.{IsWide}
 
 -- the bytes from a multiple of a size on up to the next
 unfoldable pub window : ℕ → List ℕ → ℕ → List ℕ
 window size bytes k = take size (drop (k * size) bytes)
-
--- the size of the largest erase of a chip, and 64 KiB at least; no erase goes over the end of a window of that size
-abbrev pub IsSpan : Parameters → ℕ → Type 0
-IsSpan m size = (largest : ℕ) × IsWindowSize m largest × (size ≡ max largest 65536)
 
 -- if the goal of work is the older dump in a whole window, which no work to it touches, a chip that holds this holds the dump there
 abbrev pub Keeps : ℕ → List ℕ → List ℕ → List ℕ → ℕ → Type 0
@@ -28,8 +24,8 @@ LosesOne size held old goal = (k : ℕ) × Loses size held old goal k
 
 -- a chip of this meaning that holds this may be the one of the older dump, on which work to this goal stopped
 abbrev pub IsOfDump : Parameters → List ℕ → List ℕ → List ℕ → Type 0
-IsOfDump m held old goal = (size : ℕ) × IsSpan m size × KeepsAll size held old goal
+IsOfDump m held old goal = (size : ℕ) × IsWide m size × KeepsAll size held old goal
 
 -- it isn't
 abbrev pub IsOfAnother : Parameters → List ℕ → List ℕ → List ℕ → Type 0
-IsOfAnother m held old goal = (size : ℕ) × IsSpan m size × LosesOne size held old goal
+IsOfAnother m held old goal = (size : ℕ) × IsWide m size × LosesOne size held old goal

@@ -12,7 +12,7 @@ use Rattle.nor_base.specs.Wire.{Wire}
 use Rattle.norprog_flash.specs.declared.ending.Unflashed.{Unflashed}
 use Rattle.norprog_flash.specs.declared.ending.Unflashed.TheVariants.{Refused, Device, Unlike, Closed}
 use Rattle.norprog_flash.specs.declared.job.Job.{Job}
-use Rattle.norprog_flash.specs.Begun.{IsPlanOf, Printed, is_closed, rules_on, start_at}
+use Rattle.norprog_flash.specs.Begun.{ask_of, IsPlanOf, Printed, is_closed, rules_on, start_at}
 use Rattle.norprog_flash.specs.Resumed.{IsOfAnother}
 use Rattle.norprog_flash.specs.Task.{dump_of, task_on}
 use Rattle.norprog_flash.specs.Way.{plan_text, work_text}
@@ -46,12 +46,12 @@ IsUnsuited job r other = ⊥
 -- it was read, and that is so
 pub record StopsUnsuited (most : ℕ) (before after : Wire) (job : Job) (why : Unflashed) : Type 0 where
   pub reading : Reading
-  pub read : HasReadChip most before after job.ask reading
+  pub read : HasReadChip most before after (ask_of job) reading
   pub unsuited : IsUnsuited job reading why
 
 -- it wasn't read, or that is so
 abbrev pub StopsBefore : ℕ → Wire → Wire → Job → Unflashed → Type 0
-StopsBefore most before after job why = StopsReading most before after job.ask why ⊎ StopsUnsuited most before after job why
+StopsBefore most before after job why = StopsReading most before after (ask_of job) why ⊎ StopsUnsuited most before after job why
 
 -- why work on a chip that was read isn't begun, by what was printed till then
 pub data CantPlan (job : Job) (r : Reading) (out : Printed) : Refusal → Type 0 where

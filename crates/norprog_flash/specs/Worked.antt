@@ -17,26 +17,30 @@ use Rattle.norprog_device.specs.declared.failure.Failure.TheVariants.{Carried}
 use Rattle.norprog_device.specs.Reported.{failure_by}
 use Rattle.norprog_flash.specs.declared.ending.Ending.{Ending}
 use Rattle.norprog_flash.specs.declared.ending.Ending.TheVariants.{Done, Failed}
-use Rattle.norprog_flash.specs.Begun.{Session}
+use Rattle.norprog_flash.specs.Begun.{ask_of, Session}
 use Rattle.norprog_flash.specs.Task.{task_on}
-use Rattle.norprog_read.specs.End.{past, EndsPast, GivesPast}
+use Rattle.norprog_read.specs.declared.asked.Span.{Span}
+use Rattle.norprog_read.specs.End.{may_go_on, past, EndsPast, GivesPast}
+use Rattle.norprog_read.specs.Span.{came}
 use Rattle.norprog_flash.specs.Work.{Plan}
 
--- how a chip is read back: which bytes it must give, by which instruction, and whether it may be larger
+-- how a chip is read back: which bytes it must hold, of which part of them it must give, by which instruction, and whether it may be larger
 pub record Back : Type 0 where
   pub bytes : List ℕ
+  pub part : Span
   pub by : ReadBy
   pub larger : Bool
 
--- the chip was read whole, by reads of no more than so many bytes, and then past its end, unless it may be larger, and gave just these bytes;
--- or one of the two readings ended so
+-- the part of the chip was read, by reads of no more than so many bytes, and then past its end, unless it may be larger, and gave just these
+-- bytes; or one of the two readings ended so
 abbrev pub ReadsBack : ℕ → Back → Wire → Wire → Result (Unit {0}) Mismatch → Type 0
 ReadsBack most back before after (Ok u) =
-    let p = past most back.by back.bytes in (all : Wire) × ReadsWhole p.reads before all (Ok tt) p.content × GivesPast all after p back.larger
+    let p = past most back.by back.bytes in
+    (all : Wire) × ReadsWhole p.reads before all (Ok tt) (came back.part back.bytes) × GivesPast all after p back.larger
 ReadsBack most back before after (Err why) =
     let p = past most back.by back.bytes in
-    ReadsWhole p.reads before after (Err why) p.content
-    ⊎ ((all : Wire) × ReadsWhole p.reads before all (Ok tt) p.content × EndsPast all after p (Err why))
+    ReadsWhole p.reads before after (Err why) (came back.part back.bytes)
+    ⊎ ((all : Wire) × ReadsWhole p.reads before all (Ok tt) (came back.part back.bytes) × EndsPast all after p (Err why))
 
 -- the steps of work, and how the chip is read back after them
 pub record Flashing : Type 0 where
@@ -69,7 +73,7 @@ abbrev pub doing_in : Session → Doing
 doing_in s = record { limits = s.limits; turns = s.job.ask.turns; m = s.reading.meaning }
 
 abbrev pub flashing_in : Session → Plan → ReadBy → Flashing
-flashing_in s p by = flashing p.steps (record { bytes = p.goal; by = by; larger = s.job.ask.any_size })
+flashing_in s p by = flashing p.steps (record { bytes = p.goal; part = s.reading.span; by = by; larger = may_go_on (ask_of s.job) })
 
 -- what work that was planned says: some step can't be done by the device, and nothing was sent; or each can, and it went so, in a way by
 -- which the chip is read back

@@ -8,7 +8,8 @@ ghost use Rattle.nor_job.specs.declared.fault.BuildFault.TheVariants.{Memory};
 ghost use Rattle.norprog_common.specs.declared.faults.Refusal.TheVariants.{Build};
 ghost use Rattle.norprog_common.specs.Rules.{BreaksRules, MeetsRules};
 ghost use Rattle.nor_base.specs.Wire.{wire};
-ghost use Rattle.norprog_flash.specs.Begun.{HasRead, IsPlanOf, PrintsPlan, is_closed, printed};
+ghost use Rattle.norprog_flash.specs.Begun.{ask_of, HasRead, IsPlanOf, PrintsPlan, is_closed};
+ghost use Rattle.norprog_flash.specs.Begun.{printed};
 ghost use Rattle.norprog_flash.specs.Begun.{rules_on, start_at};
 ghost use Rattle.norprog_flash.specs.Task.{dump_of, flash_task, task_on};
 ghost use Rattle.norprog_flash.specs.Work.{plan_of};
@@ -30,7 +31,7 @@ use nor_reader::{ReadBy, suits};
 use nor_serprog::{Limits, test_line};
 use norprog_common::{Aim, FileName, ImageRules, Refusal, refuse_image};
 use norprog_device::DeviceFault;
-use norprog_read::{Reading, first_by, read_chip};
+use norprog_read::{Ask, Reading, first_by, read_chip};
 use std::alloc::Global;
 
 /// A chip that was read.
@@ -155,7 +156,7 @@ fn read_suited<R: ByteIn, W: ByteOut, P: ByteOut>(
     ensures harmless { MatchResult result (λ _. HasSentHarmless (W.held to.old) (W.held to.new))
         (λ _. SendsHarmless (W.held to.old) (W.held to.new)) }
 {
-    let reading = read_chip(alloc, from, to, limits, &job.ask, progress)?;
+    let reading = read_chip(alloc, from, to, limits, &ask_of(job), progress)?;
     let start = start_at(job, reading.status);
     if is_closed(job, start, reading.status) {
         return Err(Unflashed::Closed(reading.status));
@@ -163,6 +164,16 @@ fn read_suited<R: ByteIn, W: ByteOut, P: ByteOut>(
     let by = first_by(&reading.meaning, said_start(job));
     refuse_unruled(alloc, job, &reading)?;
     Ok(Held { reading, by })
+}
+
+/// What is asked of a job's chip: all of its content.
+pub(crate) fn ask_of<'a>(job: &Job<'a>) -> Ask<'a>
+    ensures { result ≡ ask_of job.now }
+{
+    Ask {
+        near: None,
+        ..job.ask
+    }
 }
 
 /// Whether a status shows that the chip can't take work that isn't only a comparison.

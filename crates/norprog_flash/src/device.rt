@@ -1,6 +1,6 @@
 //! Work on a chip that was read, and whose content is saved.
 
-ghost use Rattle.std.specs.Prelude.{◌≡◌, false, true};
+ghost use Rattle.std.specs.Prelude.{◌≡◌, ◌<◌, false, true, slice_index};
 ghost use Rattle.std.specs.Prelude.{IfOk, IfErr, List, Option, ℕ};
 ghost use Rattle.nor_base.specs.declared.step.Step.{Step};
 ghost use Rattle.nor_job.specs.Status.{start_of};
@@ -98,6 +98,7 @@ fn work_through<R: ByteIn, W: ByteOut, O: ByteOut, P: ByteOut>(
 {
     closes();
     breaks();
+    are_bytes(held.reading.content.as_slice());
     let work = print_plan(alloc, job, &held.reading, out)?;
     tell_page(&held.reading.meaning, progress);
     match work_on(alloc, from, to, limits, job, held, &work, progress) {
@@ -105,6 +106,11 @@ fn work_through<R: ByteIn, W: ByteOut, O: ByteOut, P: ByteOut>(
         Err(_) => Err(Refusal::MEMORY),
     }
 }
+
+/// Called for what it promises: the bytes of a slice are bytes.
+fn are_bytes(_bytes: &[u8])
+    ensures { (a : ℕ) → slice_index _bytes.now a < 256 }
+{}
 
 /// Tells that the page of the data sheet makes the work quicker, where the tables leave it open.
 fn tell_page<P: ByteOut>(meaning: &Meaning, progress: &mut P)
@@ -196,6 +202,7 @@ fn work_on<R: ByteIn, W: ByteOut, P: ByteOut>(
     };
     let back = Back {
         bytes: want,
+        part: held.reading.span,
         by: held.by,
         larger: job.ask.any_size,
     };

@@ -1,14 +1,11 @@
 //! A chip on which work is resumed, which has to be the one of the older dump.
 
 ghost use Rattle.std.specs.Prelude.{◌≡◌, ◌*◌, ◌^◌, ◌<◌, ◌≤◌, true, false, length};
-ghost use Rattle.norprog_flash.specs.Resumed.{window, IsSpan, Keeps, Loses, KeepsAll, LosesOne};
+ghost use Rattle.norprog_flash.specs.Resumed.{window, Keeps, Loses, KeepsAll, LosesOne};
 ghost use Rattle.norprog_flash.specs.Resumed.{IsOfDump, IsOfAnother};
 
 use nor_base::Meaning;
-use nor_geometry::window_size;
-
-/// The least window: a chip may erase more at once than it is said to.
-const LEAST: u32 = 1 << 16;
+use norprog_read::wide_window;
 
 /// Whether a chip may be the one of an older dump. Where the goal is the dump's in a whole window,
 /// no work to that goal has touched the chip, so it has to hold the dump there.
@@ -16,16 +13,7 @@ pub(crate) fn is_of_dump(meaning: &Meaning, held: &[u8], old: &[u8], goal: &[u8]
     ensures kept { result ≡ true → IsOfDump meaning.now held.now old.now goal.now }
     ensures other { result ≡ false → IsOfAnother meaning.now held.now old.now goal.now }
 {
-    are_kept(span(meaning) as usize, held, old, goal)
-}
-
-/// Bytes of a window: as many as the largest erase of the chip changes, and 64 KiB at least.
-fn span(meaning: &Meaning) -> u32
-    ensures size { IsSpan meaning.now result }
-    ensures some { 0 < result }
-    ensures most { result ≤ 2 ^ 24 }
-{
-    window_size(meaning).max(LEAST)
+    are_kept(wide_window(meaning) as usize, held, old, goal)
 }
 
 /// Whether that holds of each window.

@@ -1,6 +1,6 @@
 //! The work on a chip that was read and planned for.
 
-ghost use Rattle.std.specs.Prelude.{◌≡◌, ◌≤◌, ◌^◌, [], All, length};
+ghost use Rattle.std.specs.Prelude.{◌≡◌, ◌<◌, ◌≤◌, ◌^◌, [], All, length};
 ghost use Rattle.nor_serprog.specs.Done.{IsDoable};
 ghost use Rattle.nor_base.specs.Wire.{wire};
 ghost use Rattle.norprog.specs.Stepper.{IsAtWindow, made, steps_by, update_of};
@@ -14,14 +14,17 @@ use nor_flasher::Progress;
 use nor_reader::{Mismatch, Pass, ReadBy, for_reading, read_again, read_past};
 use nor_serprog::Limits;
 use norprog_device::{Doing, failure_by};
+use norprog_read::Span;
 use std::alloc::Global;
 use std::marker::Model;
 
 /// How a chip is read back.
 #[derive(Drop)]
 pub(crate) struct Back<'a> {
-    /// What it must give.
+    /// What it must hold.
     pub bytes: &'a [u8],
+    /// The part of that which it must give.
+    pub part: Span,
     /// By which instruction.
     pub by: ReadBy,
     /// It may be larger than was said: nothing is read past its end.
@@ -35,6 +38,7 @@ impl<'a> Model for Back<'a> {
 
     ghost view = { λ b. record {
       bytes = b.bytes.now;
+      part = b.part;
       by = b.by;
       larger = b.larger;
     } };
@@ -56,6 +60,8 @@ pub(crate) fn do_work<R: ByteIn, W: ByteOut, P: ByteOut>(
     requires seen { AreSurveyed doing.now.limits (update_of steps.stepper) steps.survey.last.items }
     requires form { All IsDoable (steps_by (update_of steps.stepper)) }
     requires size { length back.now.bytes ≤ 2 ^ 32 }
+    requires part { (back.now.part.low ≤ back.now.part.high)
+        × (back.now.part.high ≤ length back.now.bytes) × (back.now.part.low < 2 ^ 32) }
     ensures ends { WorksOut doing.now
         (wire (W.held to.old) (R.ahead from.old)) (wire (W.held to.new) (R.ahead from.new))
         (flashing (steps_by (update_of steps.entry.stepper)) back.now) result }
@@ -80,8 +86,8 @@ pub(crate) fn do_work<R: ByteIn, W: ByteOut, P: ByteOut>(
     }
 }
 
-/// Has the device read the chip, which must give the bytes, and past its end what one that holds
-/// just these gives there, unless it may be larger.
+/// Has the device read the part of the chip, which must give its bytes, and past its end what one
+/// that holds just all of them gives there, unless it may be larger.
 fn read_back<R: ByteIn, W: ByteOut, P: ByteOut>(
     from: &mut R,
     to: &mut W,
@@ -90,10 +96,23 @@ fn read_back<R: ByteIn, W: ByteOut, P: ByteOut>(
     progress: &mut P,
 ) -> Result<(), Mismatch>
     requires size { length back.now.bytes ≤ 2 ^ 32 }
+    requires part { (back.now.part.low ≤ back.now.part.high)
+        × (back.now.part.high ≤ length back.now.bytes) × (back.now.part.low < 2 ^ 32) }
     ensures back { ReadsBack limits.now.asked back.now
         (wire (W.held to.old) (R.ahead from.old)) (wire (W.held to.new) (R.ahead from.new)) result }
 {
-    read_again(from, to, limits, back.by, back.bytes, Pass::Last, progress)?;
+    let part = back.part;
+    let bytes = &back.bytes[part.low..part.high];
+    read_again(
+        from,
+        to,
+        limits,
+        back.by,
+        part.low as u32,
+        bytes,
+        Pass::Last,
+        progress,
+    )?;
     if back.larger {
         return Ok(());
     }

@@ -174,19 +174,8 @@ fn job_for<'a>(request: &'a FlashRequest<'_>, texts: &'a FlashTexts) -> Job<'a>
     let asked = ask_of(reading_of(request), texts.sfdp.as_slice());
     Job {
         ask: Ask {
-            known: asked.known,
-            bits: asked.bits,
-            part: asked.part,
-            page: asked.page,
-            mode4: asked.mode4,
-            turns: asked.turns,
-            content: asked.content,
             erased_only: request.erased_only,
-            raw: asked.raw,
-            fresh: asked.fresh,
-            any_size: asked.any_size,
-            repeats: asked.repeats,
-            expect_id: asked.expect_id,
+            ..asked
         },
         hex: texts.hex.as_slice(),
         image: texts.image.as_ref(),

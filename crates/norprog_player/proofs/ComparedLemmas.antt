@@ -9,7 +9,7 @@ use Rattle.nor_loop.proofs.DeviceLemmas.{logged_none, logged_both}
 use Rattle.nor_loop.specs.Log.{HasLogged}
 use Rattle.nor_reader.specs.declared.by.ReadBy.{ReadBy}
 use Rattle.nor_reader.specs.Part.{AllCame}
-use Rattle.nor_reader.specs.Reads.{Chunk}
+use Rattle.nor_loop.specs.Reads.{Chunk}
 use Rattle.nor_base.specs.Wire.{Wire}
 use Rattle.norprog_player.specs.declared.access.Access.{Access}
 use Rattle.norprog_player.specs.Access.{way_at}

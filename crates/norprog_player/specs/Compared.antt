@@ -6,7 +6,7 @@ use Rattle.nor_loop.specs.Log.{Operation, HasLogged}
 use Rattle.nor_reader.specs.declared.by.ReadBy.{ReadBy}
 use Rattle.nor_reader.specs.declared.difference.Mismatch.{Mismatch}
 use Rattle.nor_reader.specs.Part.{ReadsPart, part_ops}
-use Rattle.nor_reader.specs.Reads.{chunk, Chunk}
+use Rattle.nor_loop.specs.Reads.{chunk, Chunk}
 use Rattle.nor_serprog.specs.declared.limits.Limits.{Limits}
 use Rattle.norprog_player.specs.declared.access.Access.{Access}
 use Rattle.norprog_player.specs.Access.{way_at}

@@ -2,7 +2,7 @@
 
 ghost use Rattle.std.specs.Prelude.{◌≡◌, ◌<◌, ◌+◌, ◌^◌, length};
 ghost use Rattle.nor_base.specs.Wire.{wire};
-ghost use Rattle.nor_reader.specs.Reads.{chunk};
+ghost use Rattle.nor_loop.specs.Reads.{chunk};
 ghost use Rattle.norprog_player.specs.Access.{far_way, way_at};
 ghost use Rattle.norprog_player.specs.Compared.{ReadsAt};
 

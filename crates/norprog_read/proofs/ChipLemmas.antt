@@ -7,13 +7,15 @@ use Rattle.nor_job.specs.Chip.{HasChip}
 use Rattle.nor_reader.specs.declared.by.ReadBy.{ReadBy}
 use Rattle.nor_base.specs.Wire.{Wire}
 use Rattle.norprog_read.specs.declared.asked.Ask.{Ask}
+use Rattle.norprog_read.specs.declared.asked.Span.{Span}
 use Rattle.norprog_read.specs.declared.mode.Modes.{Modes}
 use Rattle.norprog_read.specs.Asked.{AsksId, AsksStatus, IsDriven, IsExpected}
 use Rattle.norprog_read.specs.Chip.{chip_task, ops_by, past_end, start_by, way_by, AreAlike, GivesContent, GivesTables}
-use Rattle.norprog_read.specs.End.{past, GivesPast, IsOnce}
+use Rattle.norprog_read.specs.End.{may_go_on, past, GivesPast, IsOnce}
 use Rattle.norprog_read.specs.Modes.{is_sure, mode_ops, modes_of, MakesMode}
 use Rattle.norprog_read.specs.Size.{asked_register, IsUnmoved}
 use Rattle.norprog_read.specs.Stops.{IsEnded, IsHeld, IsIdentified, IsKnown, IsMade, IsReady}
+use Rattle.norprog_read.specs.Span.{IsPart}
 use Rattle.norprog_read.specs.Way.{past_by, way}
 
 abbrev pub identified : {u w : Wire} {ask : Ask} (v : Wire) (status : ℕ) (id : List ℕ) → AsksStatus u v ask (Ok status) → AsksId v w (Ok id)
@@ -33,12 +35,13 @@ abbrev pub ready : {most : ℕ} {u w : Wire} {ask : Ask} (v : Wire) (made : IsMa
     → IsUnmoved v w (asked_register ask.content made.known.chip) → IsReady most u w ask
 ready v is unmoved = record { between = v; made = is; unmoved = unmoved }
 
-abbrev pub held : {most : ℕ} {u w : Wire} {ask : Ask} (v : Wire) (ready : IsReady most u v ask) (content : List ℕ)
-    → GivesContent (way_by most ask ready.made.known.chip ready.made.m) v w ask.content content → IsHeld most u w ask
-held v is content read = record { content = content; between = v; ready = is; read = read }
+abbrev pub held : {most : ℕ} {u w : Wire} {ask : Ask} (v : Wire) (ready : IsReady most u v ask) {part : Span} (content : List ℕ)
+    → IsPart ask ready.made.m part → GivesContent (way_by most ask ready.made.known.chip ready.made.m part) v w ask.content content
+    → IsHeld most u w ask
+held v is {part} content asked read = record { part = part; content = content; between = v; ready = is; asked_for = asked; read = read }
 
 abbrev pub ended : {most : ℕ} {u w : Wire} {ask : Ask} (v : Wire) (all : IsHeld most u v ask) → IsOnce ask all.content
-    → GivesPast v w (past_end most ask all.ready.made.m all.content) ask.any_size → IsEnded most u w ask
+    → GivesPast v w (past_end most ask all.ready.made.m all.content) (may_go_on ask) → IsEnded most u w ask
 ended v all once past = record { between = v; all = all; once = once; past = past }
 
 -- the mode that was said and what is known of the modes are those of the tables that came
@@ -49,12 +52,12 @@ ops_are ask m {said = said} {modes = modes} is begins are same =
     ∙ ap (λ (x : Modes). mode_ops ask.content (begins4 m (start_by ask)) x) (are ∙ ap (λ (xs : List ℕ). modes_of ask.known xs m) same)
 
 -- and so is how the content is read
-pub way_is : (most : ℕ) (ask : Ask) (m : Parameters) {start : Start} {bytes chip : List ℕ} {said sure : Bool} {modes : Modes} → said ≡ begins4 m start
+pub way_is : (most : ℕ) (ask : Ask) (m : Parameters) {part : Span} {start : Start} {bytes chip : List ℕ} {said sure : Bool} {modes : Modes} → said ≡ begins4 m start
     → start ≡ start_by ask → modes ≡ modes_of ask.known bytes m → bytes ≡ chip → sure ≡ is_sure ask said modes
-    → way most m start sure ≡ way_by most ask chip m
-way_is most ask m {said = said} {sure = sure} {modes = modes} is begins are same certain =
-    ap (λ (s : Start). way most m s sure) begins
-    ∙ ap (λ (b : Bool). way most m (start_by ask) b)
+    → way most m start sure part ≡ way_by most ask chip m part
+way_is most ask m {part = part} {said = said} {sure = sure} {modes = modes} is begins are same certain =
+    ap (λ (s : Start). way most m s sure part) begins
+    ∙ ap (λ (b : Bool). way most m (start_by ask) b part)
     (certain ∙ (ap (λ (b : Bool). is_sure ask b modes) (is ∙ ap (λ (s : Start). begins4 m s) begins)
     ∙ ap (λ (x : Modes). is_sure ask (begins4 m (start_by ask)) x) (are ∙ ap (λ (xs : List ℕ). modes_of ask.known xs m) same)))
 

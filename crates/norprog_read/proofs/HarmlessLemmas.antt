@@ -19,7 +19,7 @@ use Rattle.norprog_read.specs.declared.mode.Modes.{Modes}
 use Rattle.norprog_read.specs.Asked as asked
 use Rattle.norprog_read.specs.Asked.{AsksId, AsksStatus, StopsId, StopsStatus}
 use Rattle.norprog_read.specs.End as end
-use Rattle.norprog_read.specs.End.{GivesPast, Past, StopsEnd}
+use Rattle.norprog_read.specs.End.{may_go_on, GivesPast, Past, StopsEnd}
 use Rattle.norprog_read.specs.Chip.{start_by, Come, GivesContent, GivesTables, HasReadChip, Unsigned}
 use Rattle.norprog_read.specs.Modes as modes
 use Rattle.norprog_read.specs.Modes.{mode_ops, modes_of, switch_to, HasDone, MakesMode, StopsMode}
@@ -27,6 +27,7 @@ use Rattle.norprog_read.specs.Size as size
 use Rattle.norprog_read.specs.Size.{AsksRegister, IsUnmoved, StopsMoved}
 use Rattle.norprog_read.specs.Stops as stops
 use Rattle.norprog_read.specs.Stops.{IsEnded, IsHeld, IsIdentified, IsKnown, IsMade, IsReady, StopsAsked, StopsChip, StopsContent}
+use Rattle.norprog_read.specs.Span.{came as came_of}
 use Rattle.norprog_read.specs.Way.{twice_of, Way}
 use Rattle.norprog_read.proofs.ChipLemmas as came
 
@@ -62,7 +63,7 @@ gives_tables most u v by chip (Unsigned of none) = tables_none most u.held v.hel
 
 gives_content : (how : Way) (u v : Wire) (wanted : Bool) (content : List ℕ) → GivesContent how u v wanted content → Sent u v
 gives_content how u v true content p =
-    twice_sent (twice_of how) u.held v.held u.ahead v.ahead content p.twice
+    twice_sent (twice_of how) u.held v.held u.ahead v.ahead (came_of how.part content) p.twice
 gives_content how u v false content p = stays u v p.1
 
 gives_past : (u v : Wire) (p : Past) (any : Bool) → GivesPast u v p any → Sent u v
@@ -134,11 +135,11 @@ stops_content : (how : Way) (u v : Wire) (why : Unread) → StopsContent how u v
 stops_content how u v why (stops.Unreadable un none) = whole u v (stays u v none)
 stops_content how u v why (stops.NoMemory none) = whole u v (stays u v none)
 stops_content how u v why (stops.Lost content fault p) =
-    twice_sends (twice_of how) u.held v.held u.ahead v.ahead content (Exchange fault) p
+    twice_sends (twice_of how) u.held v.held u.ahead v.ahead (came_of how.part content) (Exchange fault) p
 stops_content how u v why (stops.Other content d p) =
-    twice_sends (twice_of how) u.held v.held u.ahead v.ahead content (Differs d) p
+    twice_sends (twice_of how) u.held v.held u.ahead v.ahead (came_of how.part content) (Differs d) p
 stops_content how u v why (stops.Hidden content unsure twice hides) =
-    whole u v (twice_sent (twice_of how) u.held v.held u.ahead v.ahead content twice)
+    whole u v (twice_sent (twice_of how) u.held v.held u.ahead v.ahead (came_of how.part content) twice)
 
 -- ---- how far it came
 identified : (u w : Wire) (ask : Ask) → IsIdentified u w ask → Sent u w
@@ -159,13 +160,13 @@ held : (most : ℕ) (u w : Wire) (ask : Ask) → IsHeld most u w ask → Sent u 
 held most u w ask p = both u p.between w (ready most u p.between ask p.ready) (gives_content _ p.between w ask.content p.content p.read)
 
 ended : (most : ℕ) (u w : Wire) (ask : Ask) → IsEnded most u w ask → Sent u w
-ended most u w ask p = both u p.between w (held most u p.between ask p.all) (gives_past p.between w _ ask.any_size p.past)
+ended most u w ask p = both u p.between w (held most u p.between ask p.all) (gives_past p.between w _ (may_go_on ask) p.past)
 
 read_sent : (most : ℕ) (u w : Wire) (ask : Ask) (r : Reading) → HasReadChip most u w ask r → Sent u w
 read_sent most u w ask r p =
     both u p.ended w
     (ended most u p.ended ask (came.ended p.held (came.held p.ready (came.ready p.made (came.made p.known (came.known p.identified
-    (came.identified p.asked p.first r.id p.idle p.id p.driven p.expected) p.tables p.alike) p.means p.mode) p.unmoved) r.content.items p.content) p.once p.past))
+    (came.identified p.asked p.first r.id p.idle p.id p.driven p.expected) p.tables p.alike) p.means p.mode) p.unmoved) r.content.items p.asked_for p.content) p.once p.past))
     (id_read p.ended w r.id p.again)
 
 chip_sends : (most : ℕ) (u w : Wire) (ask : Ask) (why : Unread) → StopsChip most u w ask why → Sends u w
@@ -181,7 +182,7 @@ chip_sends most u w ask why (stops.AtSize is m of means told) = whole u w (known
 chip_sends most u w ask why (stops.AtMode v is m of means p) =
     then_ u v w (known most u v ask is) (stops_mode v w ask ask.content (begins4 m (start_by ask)) (modes_of ask.known is.chip m) of p)
 chip_sends most u w ask why (stops.AtRegister v is of p) = then_ u v w (made most u v ask is) (stops_moved v w _ of p)
-chip_sends most u w ask why (stops.AtContent v is of wanted p) = then_ u v w (ready most u v ask is) (stops_content _ v w of p)
+chip_sends most u w ask why (stops.AtContent v is part of wanted asked p) = then_ u v w (ready most u v ask is) (stops_content _ v w of p)
 chip_sends most u w ask why (stops.AtPast v is of p) = then_ u v w (held most u v ask is) (stops_end v w _ ask of p)
 chip_sends most u w ask why (stops.AtEnd v is of p) = then_ u v w (ended most u v ask is) (stops_id v w of p)
 chip_sends most u w ask why (stops.OtherId v is other p differs) = then_ u v w (ended most u v ask is) (whole v w (id_read v w other p))

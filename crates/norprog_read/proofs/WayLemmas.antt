@@ -1,5 +1,5 @@
 -- How a chip is read is a way to read it.
-use Rattle.std.proofs.Common.{◌≡◌, ◌≤◌, ◌⊎◌, inl, inr, ℕ, ◌^◌, Bool, true, false, not, ◌&&◌, ◌||◌, refl, leb-true, List, length, ap, subst}
+use Rattle.std.proofs.Common.{◌≡◌, ◌≤◌, ◌⊎◌, inl, inr, ℕ, ◌^◌, Bool, true, false, not, ◌&&◌, ◌||◌, refl, ◌∙◌, arith, leb-true, List, ap, subst}
 use Rattle.std.specs.Prelude.{if◌then◌else◌, nat_le}
 use Rattle.nor_base.specs.declared.meaning.Start.{Start}
 use Rattle.nor_base.specs.declared.meaning.Switch.{Switch}
@@ -11,10 +11,10 @@ use Rattle.nor_reader.specs.declared.by.ReadBy.{ReadBy}
 use Rattle.nor_reader.specs.declared.by.ReadBy.TheVariants.{Content, FourBytes, Entered}
 use Rattle.nor_reader.specs.Cut.{ReadApart}
 use Rattle.nor_reader.specs.Laws.{GivesBy}
-use Rattle.nor_reader.specs.Telling.{ApartKnows, GivesSaid, KnowsMode, ShowsMode, SureKnows}
-use Rattle.nor_reader.specs.Twice.{twice}
+use Rattle.nor_loop.specs.Reads.{chunk, Chunk}
+use Rattle.nor_reader.specs.Telling.{ApartKnows, FitsFour, GivesSaid, KnowsMode, ShowsMode, SureKnows}
 use Rattle.nor_base.specs.Wire.{Wire}
-use Rattle.norprog_read.specs.Way.{first_by, has_both, is_near, is_readable, is_small, may_enter, second_by, IsShownBy}
+use Rattle.norprog_read.specs.Way.{first_by, first_of, has_both, is_near, is_readable, is_small, may_enter, second_by, second_of, twice_of, IsShownBy, Way}
 
 choose : (P : ReadBy → Type 0) (b : Bool) (x y : ReadBy) → (b ≡ true → P x) → (b ≡ false → P y) → P (if b then x else y)
 choose P true x y p q = p refl
@@ -82,15 +82,20 @@ shown_near true mode4 enter leave most content shows = (refl, shows)
 shown_near false mode4 enter leave most content shows = absurd shows
 
 -- so each chip that gave the content was in that mode, and has it
-pub mode_known : ApartKnows → SureKnows → (most : ℕ) (u v : Wire) (m : Parameters) (start : Start) (sure : Bool) (content : List ℕ)
-    → length content ≤ 2 ^ 32 → is_readable m start ≡ true → (sure ≡ false → IsShownBy (first_by m start) most content)
-    → ReadApart (twice most (first_by m start) (second_by m start sure)) u v content
-    → KnowsMode u v sure (begins4 m start) content
-mode_known apart sure_ most u v m start true content fits readable shown read =
-    sure_ (twice most (first_by m start) (second_by m start true)) u.held v.held u.ahead v.ahead (begins4 m start) content fits
-    (first_said m start readable) read
-mode_known apart sure_ most u v m start false content fits readable shown read =
-    let near = shown_near (is_near m start) (begins4 m start) m.enter m.leave most content (shown refl) in
-    let by : first_by m start ≡ Content (begins4 m start) = ap (λ (n : Bool). if n then Content (begins4 m start) else Entered m.enter m.leave) near.0 in
-    apart most u.held v.held u.ahead v.ahead (begins4 m start) content fits near.1
-    (subst (λ (x : ReadBy). ReadApart (twice most x x) u v content) by read)
+pub mode_known : ApartKnows → SureKnows → (w : Way) (u v : Wire) (c : Chunk) → FitsFour c → is_readable w.m w.start ≡ true
+    → (w.sure ≡ false → (content : List ℕ) × (c ≡ chunk 0 content) × IsShownBy (first_of w) w.most content) → ReadApart (twice_of w) u v c
+    → KnowsMode u v w.sure (begins4 w.m w.start) c
+mode_known apart sure_ w u v c fits readable shown read = by w.sure refl
+  where
+    by : (sure : Bool) → w.sure ≡ sure → KnowsMode u v w.sure (begins4 w.m w.start) c
+    by true is =
+        rw is (sure_ (twice_of w) u.held v.held u.ahead v.ahead (begins4 w.m w.start) c fits (first_said w.m w.start readable) read)
+    by false is =
+        let all = shown is in
+        let near = shown_near (is_near w.m w.start) (begins4 w.m w.start) w.m.enter w.m.leave w.most all.0 all.2 in
+        let first : first_of w ≡ Content (begins4 w.m w.start) =
+        ap (λ (n : Bool). if n then Content (begins4 w.m w.start) else Entered w.m.enter w.m.leave) near.0 in
+        let second : second_of w ≡ Content (begins4 w.m w.start) = ap (second_by w.m w.start) is ∙ first in
+        let fits_all = subst FitsFour all.1 fits in
+        rw is (rw all.1 (apart w.most u.held v.held u.ahead v.ahead (begins4 w.m w.start) all.0 (omega (arith, fits_all)) near.1
+        (rw first at (rw second at (rw all.1 at read)))))

@@ -16,12 +16,14 @@ use Rattle.norprog_read.specs.declared.asked.Ask.{Ask}
 use Rattle.norprog_read.specs.declared.asked.Known.{Known}
 use Rattle.norprog_read.specs.declared.asked.Known.TheVariants.{Sheet, Tables, Uniform}
 use Rattle.norprog_read.specs.declared.asked.Reading.{Reading}
+use Rattle.norprog_read.specs.declared.asked.Span.{Span}
 use Rattle.norprog_read.specs.Asked.{AsksId, AsksStatus, IsDriven, IsExpected}
 use Rattle.norprog_read.specs.Came.{ShowsLine}
-use Rattle.norprog_read.specs.Content.{HoldsWhole}
-use Rattle.norprog_read.specs.End.{past, GivesPast, IsOnce, Past}
+use Rattle.norprog_read.specs.Content.{HoldsPart}
+use Rattle.norprog_read.specs.End.{may_go_on, past, GivesPast, IsOnce, Past}
 use Rattle.norprog_read.specs.Modes.{is_sure, mode_ops, modes_of, MakesMode}
 use Rattle.norprog_read.specs.Size.{asked_register, noted_size, other_size, said_size, IsUnmoved}
+use Rattle.norprog_read.specs.Span.{part_in, IsPart}
 use Rattle.norprog_read.specs.Way.{past_by, way, Way}
 
 -- where its meaning comes from: the tables that came, its size, or its sheet
@@ -73,8 +75,8 @@ abbrev pub ops_by : Ask → List ℕ → Parameters → List Operation
 ops_by ask tables m = mode_ops ask.content (begins4 m (start_by ask)) (modes_of ask.known tables m)
 
 -- how its content is read then, by reads of no more than so many bytes
-abbrev pub way_by : ℕ → Ask → List ℕ → Parameters → Way
-way_by most ask tables m = way most m (start_by ask) (is_sure ask (begins4 m (start_by ask)) (modes_of ask.known tables m))
+abbrev pub way_by : ℕ → Ask → List ℕ → Parameters → Span → Way
+way_by most ask tables m part = way most m (start_by ask) (is_sure ask (begins4 m (start_by ask)) (modes_of ask.known tables m)) part
 
 -- and how past its end, where it has this content
 abbrev pub past_end : ℕ → Ask → Parameters → List ℕ → Past
@@ -88,9 +90,9 @@ pub data GivesTables (most : ℕ) (before after : Wire) (by : Known) : List ℕ 
   Unsigned : lacks_tables by ≡ true → StopsTables most before after NoSignature
       → GivesTables most before after by []
 
--- its content came twice alike, in this way, where it was wanted
+-- a part of its content came twice alike, in this way, where it was wanted
 abbrev pub GivesContent : Way → Wire → Wire → Bool → List ℕ → Type 0
-GivesContent w before after true content = HoldsWhole w before after content
+GivesContent w before after true content = HoldsPart w before after content
 GivesContent w before after false content = (content ≡ []) × (after ≡ before)
 
 -- as far as the tables of a chip and of a file go, the file's as far as its headers reach
@@ -113,8 +115,8 @@ AreAlike (Tables file) tables = take (both_go tables file.now) tables ≡ take (
 AreAlike other tables = ⊤
 
 -- in this order, and nothing else was sent: its status until it was idle, its identification, its tables, what puts it into the mode that was
--- said, the register that moves addresses where they name one, its content, what comes past its end, and its identification again, which was
--- the same, that of a chip, and the one that is expected; each read of tables and content was of no more than so many bytes; its meaning is
+-- said, the register that moves addresses where they name one, the part of its content that is asked for, what comes past its end, and its
+-- identification again, which was the same, that of a chip, and the one that is expected; each read of tables and content was of no more than so many bytes; its meaning is
 -- that of the tables that came, of its size, or of its sheet; the content doesn't repeat itself; where the content was wanted, and the terminal isn't said
 -- to hand on each byte as it comes, what came shows that it changed nothing of tables and content
 pub record HasReadChip (most : ℕ) (before after : Wire) (ask : Ask) (r : Reading) : Type 0 where
@@ -141,8 +143,9 @@ pub record HasReadChip (most : ℕ) (before after : Wire) (ask : Ask) (r : Readi
   pub sized : other_size ask r.meaning r.tables.items ≡ None
   pub mode : MakesMode known made ask (ops_by ask r.tables.items r.meaning) first r.status
   pub unmoved : IsUnmoved made ready (asked_register ask.content r.tables.items)
-  pub content : GivesContent (way_by most ask r.tables.items r.meaning) ready held ask.content r.content.items
+  pub asked_for : IsPart ask r.meaning r.span
+  pub content : GivesContent (way_by most ask r.tables.items r.meaning r.span) ready held ask.content r.content.items
   pub once : IsOnce ask r.content.items
-  pub past : GivesPast held ended (past_end most ask r.meaning r.content.items) ask.any_size
+  pub past : GivesPast held ended (past_end most ask r.meaning r.content.items) (may_go_on ask)
   pub again : AsksId ended after (Ok r.id)
-  pub shown : ShowsLine ask r.id (r.tables.items ++ r.content.items)
+  pub shown : ShowsLine ask r.id (r.tables.items ++ part_in r.span r.content.items)

@@ -1,5 +1,5 @@
 -- Whether a chip ends where its content does (this project's).
-use Rattle.std.specs.Prelude.{◌≡◌, ◌==◌, not, ℕ, Bool, true, false, List, ◌++◌, Result, Ok, Err}
+use Rattle.std.specs.Prelude.{◌≡◌, ◌==◌, ◌||◌, not, is_some, ℕ, Bool, true, false, List, ◌++◌, Result, Ok, Err}
 use Rattle.std.specs.List.{list_any}
 use Rattle.nor_reader.specs.declared.difference.Difference.{Difference}
 use Rattle.nor_reader.specs.declared.difference.Mismatch.{Mismatch}
@@ -27,9 +27,17 @@ pub record Repeats (content : List ℕ) : Type 0 where
   pub some : has_some content ≡ true
   pub twice : IsTwice content
 
+-- the halves of a content may be alike, or not all of it is read
+abbrev pub may_repeat : Ask → Bool
+may_repeat ask = ask.repeats || is_some ask.near
+
 -- it isn't so, unless it may be
 abbrev pub IsOnce : Ask → List ℕ → Type 0
-IsOnce ask content = ask.repeats ≡ false → Repeats content → ⊥
+IsOnce ask content = may_repeat ask ≡ false → Repeats content → ⊥
+
+-- a chip may be larger, or not all of it is read
+abbrev pub may_go_on : Ask → Bool
+may_go_on ask = ask.any_size || is_some ask.near
 
 -- how a chip of just this content is read past its end
 pub record Past : Type 0 where
@@ -50,8 +58,8 @@ GivesPast before after p true = after ≡ before
 
 -- its halves are alike; or past its end an exchange ended early, or the byte at an address is another
 pub data StopsEnd (before after : Wire) (p : Past) (ask : Ask) : Unread → Type 0 where
-  Alike : after ≡ before → ask.repeats ≡ false → Repeats p.content → StopsEnd before after p ask (Unlike unlike.Repeats)
-  Lost : (why : Fault) → ask.any_size ≡ false → EndsPast before after p (Err (Exchange why))
+  Alike : after ≡ before → may_repeat ask ≡ false → Repeats p.content → StopsEnd before after p ask (Unlike unlike.Repeats)
+  Lost : (why : Fault) → may_go_on ask ≡ false → EndsPast before after p (Err (Exchange why))
       → StopsEnd before after p ask (Unlike (unlike.Asking why))
-  Other : (d : Difference) → ask.any_size ≡ false → EndsPast before after p (Err (Differs d))
+  Other : (d : Difference) → may_go_on ask ≡ false → EndsPast before after p (Err (Differs d))
       → StopsEnd before after p ask (Unlike (unlike.At d.address))

@@ -1,3 +1,4 @@
+pub mod Span
 pub mod Way
 pub mod Content
 pub mod Came

@@ -1,5 +1,5 @@
 -- The lines of a chip that was read, and of one that wasn't (this project's).
-use Rattle.std.specs.Prelude.{ℕ, Bool, true, false, List, [], ◌∷◌, ◌++◌, length, codes, decimal, ◌/◌, ◌%◌, Option, Some, None}
+use Rattle.std.specs.Prelude.{ℕ, Bool, true, false, List, [], ◌++◌, length, codes, decimal, Option, Some, None}
 use Rattle.nor_base.specs.Script.{hex_pair}
 use Rattle.nor_script.specs.Hexadecimal.{hex_number}
 use Rattle.norprog.specs.ChipText.{meaning_text}

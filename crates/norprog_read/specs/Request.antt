@@ -81,6 +81,7 @@ pub record IsAskOf (request : ReadRequest) (file : List ℕ) (ask : Ask) : Type 
   pub mode4 : ask.mode4 ≡ request.mode4
   pub turns : ask.turns ≡ request.limit
   pub content : ask.content ≡ is_some request.out
+  pub near : ask.near ≡ None
   pub raw : ask.raw ≡ request.raw
   pub fresh : ask.fresh ≡ request.fresh
   pub any_size : ask.any_size ≡ request.any_size

@@ -18,6 +18,7 @@ use Rattle.norprog_common.specs.declared.faults.Refusal.TheVariants.{Build}
 use Rattle.nor_base.specs.Wire.{Wire}
 use Rattle.norprog_read.specs.declared.asked.Ask.{Ask}
 use Rattle.norprog_read.specs.declared.asked.Known.{Known}
+use Rattle.norprog_read.specs.declared.asked.Span.{Span}
 use Rattle.norprog_read.specs.declared.asked.Known.TheVariants.{Sheet, Uniform}
 use Rattle.norprog_read.specs.declared.fault.Unlike.TheVariants as unlike
 use Rattle.norprog_read.specs.declared.fault.Unread.{Unread}
@@ -25,10 +26,11 @@ use Rattle.norprog_read.specs.declared.fault.Unread.TheVariants.{Refused, Unlike
 use Rattle.norprog_read.specs.Asked.{AsksId, AsksStatus, IsDriven, IsExpected, StopsId, StopsStatus}
 use Rattle.norprog_read.specs.Came.{HidesLine}
 use Rattle.norprog_read.specs.Chip.{both_go, chip_task, lacks_tables, is_unsigned, ops_by, past_end, way_by, file_of, AreAlike, IsFile, GivesContent, GivesTables}
-use Rattle.norprog_read.specs.End.{GivesPast, IsOnce, StopsEnd}
+use Rattle.norprog_read.specs.End.{may_go_on, GivesPast, IsOnce, StopsEnd}
 use Rattle.norprog_read.specs.Modes.{MakesMode, StopsMode}
 use Rattle.norprog_read.specs.Size.{asked_register, other_size, IsUnmoved, StopsMoved, TellsSize}
-use Rattle.norprog_read.specs.Way.{first_of, is_readable, twice_of, IsShownBy, Way}
+use Rattle.norprog_read.specs.Span.{came, part_in, IsPart}
+use Rattle.norprog_read.specs.Way.{is_readable, twice_of, IsShown, Way}
 
 -- a file of tables or a sheet has no meaning
 pub data RefusesFile (ask : Ask) : Unread → Type 0 where
@@ -71,7 +73,7 @@ pub data StopsAsked (most : ℕ) (before after : Wire) (by : Known) (id : List �
 
 -- the two readings stopped so
 abbrev pub ReadsUnlike : Way → Wire → Wire → List ℕ → Mismatch → Type 0
-ReadsUnlike w before after content why = StopsTwice (twice_of w) before after content why
+ReadsUnlike w before after content why = StopsTwice (twice_of w) before after (came w.part content) why
 
 -- the content can't be read whole, didn't come twice alike, or doesn't show the mode, which isn't sure
 pub data StopsContent (w : Way) (before after : Wire) : Unread → Type 0 where
@@ -82,8 +84,8 @@ pub data StopsContent (w : Way) (before after : Wire) : Unread → Type 0 where
   Other : (content : List ℕ) (d : Difference) → ReadsUnlike w before after content (Differs d)
       → StopsContent w before after (Unlike (unlike.At d.address))
   Hidden : (content : List ℕ) → w.sure ≡ false
-      → ReadTwice (twice_of w) before after content
-      → (IsShownBy (first_of w) w.most content → ⊥) → StopsContent w before after (Unlike unlike.Hidden)
+      → ReadTwice (twice_of w) before after (came w.part content)
+      → (IsShown w content → ⊥) → StopsContent w before after (Unlike unlike.Hidden)
 
 -- the status came, of an idle chip; then the identification, of a line that a chip drives, which was the one that is expected
 pub record IsIdentified (before after : Wire) (ask : Ask) : Type 0 where
@@ -120,17 +122,19 @@ pub record IsReady (most : ℕ) (before after : Wire) (ask : Ask) : Type 0 where
 
 -- then the content, where it was wanted
 pub record IsHeld (most : ℕ) (before after : Wire) (ask : Ask) : Type 0 where
+  pub part : Span
   pub content : List ℕ
   pub between : Wire
   pub ready : IsReady most before between ask
-  pub read : GivesContent (way_by most ask ready.made.known.chip ready.made.m) between after ask.content content
+  pub asked_for : IsPart ask ready.made.m part
+  pub read : GivesContent (way_by most ask ready.made.known.chip ready.made.m part) between after ask.content content
 
 -- then it didn't repeat itself, and past its end came what it begins with
 pub record IsEnded (most : ℕ) (before after : Wire) (ask : Ask) : Type 0 where
   pub between : Wire
   pub all : IsHeld most before between ask
   pub once : IsOnce ask all.content
-  pub past : GivesPast between after (past_end most ask all.ready.made.m all.content) ask.any_size
+  pub past : GivesPast between after (past_end most ask all.ready.made.m all.content) (may_go_on ask)
 
 -- where it stopped, in the order in which the chip is asked: at the file, before anything was sent; at the status; at the identification, which
 -- didn't come or isn't the one that is expected; at the tables; at what they mean; at the size that they say; as the mode was made; at the
@@ -155,13 +159,14 @@ pub data StopsChip (most : ℕ) (before after : Wire) (ask : Ask) : Unread → T
       → StopsMode between after ask (ops_by ask known.chip m) why → StopsChip most before after ask why
   AtRegister : (between : Wire) (made : IsMade most before between ask) (why : Unread)
       → StopsMoved between after (asked_register ask.content made.known.chip) why → StopsChip most before after ask why
-  AtContent : (between : Wire) (ready : IsReady most before between ask) (why : Unread) → ask.content ≡ true
-      → StopsContent (way_by most ask ready.made.known.chip ready.made.m) between after why → StopsChip most before after ask why
+  AtContent : (between : Wire) (ready : IsReady most before between ask) (part : Span) (why : Unread) → ask.content ≡ true
+      → IsPart ask ready.made.m part → StopsContent (way_by most ask ready.made.known.chip ready.made.m part) between after why
+      → StopsChip most before after ask why
   AtPast : (between : Wire) (all : IsHeld most before between ask) (why : Unread)
       → StopsEnd between after (past_end most ask all.ready.made.m all.content) ask why → StopsChip most before after ask why
   AtEnd : (between : Wire) → IsEnded most before between ask → (why : Unread) → StopsId between after why → StopsChip most before after ask why
   OtherId : (between : Wire) (ended : IsEnded most before between ask) (other : List ℕ) → AsksId between after (Ok other)
       → other ≢ ended.all.ready.made.known.identified.id → StopsChip most before after ask (Unlike (unlike.Id other))
   AtLine : (between : Wire) (ended : IsEnded most before between ask) → AsksId between after (Ok ended.all.ready.made.known.identified.id)
-      → HidesLine ask ended.all.ready.made.known.identified.id (ended.all.ready.made.known.chip ++ ended.all.content)
+      → HidesLine ask ended.all.ready.made.known.identified.id (ended.all.ready.made.known.chip ++ part_in ended.all.part ended.all.content)
       → StopsChip most before after ask (Unlike unlike.Line)

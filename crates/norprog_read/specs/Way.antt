@@ -1,5 +1,5 @@
 -- How a chip's content is read, the first time and again (this project's).
-use Rattle.std.specs.Prelude.{◌^◌, ℕ, nat_le, not, ◌&&◌, ◌||◌, Bool, true, false, if◌then◌else◌, List}
+use Rattle.std.specs.Prelude.{◌≡◌, ◌^◌, ℕ, nat_le, not, ◌&&◌, ◌||◌, Bool, true, false, if◌then◌else◌, List}
 use Rattle.nor_base.specs.declared.meaning.Start.{Start}
 use Rattle.nor_base.specs.declared.meaning.Width.{Width}
 use Rattle.nor_base.specs.declared.meaning.Width.TheVariants.{Both}
@@ -10,16 +10,20 @@ use Rattle.nor_reader.specs.declared.by.ReadBy.{ReadBy}
 use Rattle.nor_reader.specs.declared.by.ReadBy.TheVariants.{Content, FourBytes, Entered}
 use Rattle.nor_reader.specs.Telling.{ShowsMode}
 use Rattle.nor_reader.specs.Twice.{twice, Twice}
+use Rattle.norprog_read.specs.declared.asked.Span.{Span}
+use Rattle.norprog_read.specs.Span.{span}
 
--- how a content is read: by reads of no more than so many bytes, of a chip of this meaning that begins so, in a mode that is sure or isn't
+-- how a part of a content is read: by reads of no more than so many bytes, of a chip of this meaning that begins so, in a mode that is sure or
+-- isn't
 pub record Way : Type 0 where
   pub most : ℕ
   pub m : Parameters
   pub start : Start
   pub sure : Bool
+  pub part : Span
 
-abbrev pub way : ℕ → Parameters → Start → Bool → Way
-way most m start sure = record { most = most; m = m; start = start; sure = sure }
+abbrev pub way : ℕ → Parameters → Start → Bool → Span → Way
+way most m start sure part = record { most = most; m = m; start = start; sure = sure; part = part }
 
 -- a chip of this width has both address modes
 abbrev pub has_both : Width → Bool
@@ -69,7 +73,16 @@ twice_of w = twice w.most (first_of w) (second_of w)
 abbrev pub past_by : Parameters → Start → ReadBy
 past_by m start = if m.read4 then FourBytes else first_by m start
 
+-- all of the content is read
+abbrev pub IsAll : Way → Type 0
+IsAll w = w.part ≡ span 0 w.m.size
+
 -- a content that came by the address bytes of a mode shows it, in pieces of so many bytes
 abbrev pub IsShownBy : ReadBy → ℕ → List ℕ → Type 0
 IsShownBy (Content mode4) most content = ShowsMode mode4 most content
 IsShownBy other most content = ⊥
+
+-- so it is of all of the content, by the first reading
+pub record IsShown (w : Way) (content : List ℕ) : Type 0 where
+  pub all : IsAll w
+  pub shows : IsShownBy (first_of w) w.most content

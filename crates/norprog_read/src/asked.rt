@@ -17,6 +17,15 @@ pub enum Known<'a> {
     Sheet(&'a [u8]),
 }
 
+/// Addresses, from one up to another.
+#[derive(Clone, Copy)]
+pub struct Span {
+    /// The first of them.
+    pub low: usize,
+    /// The first after them.
+    pub high: usize,
+}
+
 /// What is asked of a chip.
 #[derive(Clone, Copy)]
 pub struct Ask<'a> {
@@ -32,6 +41,8 @@ pub struct Ask<'a> {
     pub turns: u64,
     /// Whether its content is read.
     pub content: bool,
+    /// Of its content only the windows around these addresses, where they are given.
+    pub near: Option<Span>,
     /// Whether its meaning is that of the profile that programs only erased bytes.
     pub erased_only: bool,
     /// Bytes of its page, where its meaning only says the least that they may be.
@@ -68,6 +79,8 @@ pub struct Reading {
     pub tables: Vec<u8>,
     /// What they, its size or its sheet mean.
     pub meaning: Meaning,
-    /// The byte of each address, from 0 on; none where it isn't read.
+    /// Which part of the content was read.
+    pub span: Span,
+    /// The byte of each address, from 0 on, any byte where it wasn't read; none where nothing was.
     pub content: Vec<u8>,
 }

@@ -20,15 +20,17 @@ ghost use Rattle.norprog_read.specs.Chip.{GivesContent, GivesTables, HasMeaning,
 ghost use Rattle.norprog_read.specs.Chip.{file_of, IsFile};
 ghost use Rattle.norprog_read.specs.Stops.{stop_of, told_of, DiffersFrom, RefusesFile};
 ghost use Rattle.norprog_read.specs.Stops.{StopsAsked, StopsChip, StopsContent};
+ghost use Rattle.norprog_read.specs.Span.{part_in};
 ghost use Rattle.norprog_read.specs.Way.{way};
 
-use crate::asked::{Ask, Known, Reading};
+use crate::asked::{Ask, Known, Reading, Span};
 use crate::came::shows_line;
-use crate::content::{past_by, read_whole};
+use crate::content::{past_by, read_part};
 use crate::end::see_end;
 use crate::fault::{Unlike, Unread};
 use crate::mode::{is_sure, make_mode, modes_of};
 use crate::size::{asked_register, noted_size, said_size, see_register, see_size};
+use crate::span::part_of;
 use nor_base::{ByteIn, ByteOut, Meaning, Start};
 use nor_job::{BuildFault, Inputs, Source};
 use nor_reader::{
@@ -40,9 +42,9 @@ use nor_sfdp::SfdpFault;
 use norprog_common::{Refusal, known_chip};
 use std::alloc::Global;
 
-/// Has a chip get idle, say what it is, give its tables and content, each byte twice, show that it
-/// ends there, and say again what it is. A content has to show the line, unless `ask` is `raw`. How
-/// far a reading is goes to `progress`.
+/// Has a chip get idle, say what it is, give its tables and the part of its content that is asked
+/// for, each byte twice, show that it ends there, and say again what it is. How far a reading is
+/// goes to `progress`.
 ///
 /// `Unlike` where it doesn't do so; `Refused` where it has no meaning, and for `Memory`.
 pub fn read_chip<R: ByteIn, W: ByteOut, P: ByteOut>(
@@ -94,6 +96,7 @@ fn ask_chip<R: ByteIn, W: ByteOut, P: ByteOut>(
     let status = make_mode(from, to, ask, said, modes, first)?;
     see_register(from, to, asked_register(ask.content, tables.as_slice()))?;
     let sure = is_sure(ask, said, modes);
+    let span = part_of(ask, &meaning);
     let content = ask_content(
         alloc,
         from,
@@ -102,6 +105,7 @@ fn ask_chip<R: ByteIn, W: ByteOut, P: ByteOut>(
         &meaning,
         start,
         sure,
+        span,
         ask.content,
         progress,
     )?;
@@ -111,7 +115,7 @@ fn ask_chip<R: ByteIn, W: ByteOut, P: ByteOut>(
     if !is_same(again, id) {
         return Err(Unread::Unlike(Unlike::Id(again)));
     }
-    if hides_line(ask, id, tables.as_slice(), content.as_slice()) {
+    if hides_line(ask, id, tables.as_slice(), content.as_slice(), span) {
         return Err(Unread::Unlike(Unlike::Line));
     }
     Ok(Reading {
@@ -122,16 +126,21 @@ fn ask_chip<R: ByteIn, W: ByteOut, P: ByteOut>(
         status,
         tables,
         meaning,
+        span,
         content,
     })
 }
 
-/// Whether what came has to show that the terminal changed nothing of what was read, and doesn't.
-fn hides_line(ask: &Ask<'_>, id: [u8; 3], tables: &[u8], content: &[u8]) -> bool
-    ensures shown { result ≡ false → ShowsLine ask.now id (tables.now ++ content.now) }
-    ensures hidden { result ≡ true → HidesLine ask.now id (tables.now ++ content.now) }
+/// Whether what came, of the content a part, has to show that the terminal changed nothing of what
+/// was read, and doesn't.
+fn hides_line(ask: &Ask<'_>, id: [u8; 3], tables: &[u8], content: &[u8], part: Span) -> bool
+    requires part { (part.low ≤ part.high) × (part.high ≤ length content.now) }
+    ensures shown { result ≡ false
+        → ShowsLine ask.now id (tables.now ++ part_in part content.now) }
+    ensures hidden { result ≡ true
+        → HidesLine ask.now id (tables.now ++ part_in part content.now) }
 {
-    ask.content && !ask.raw && !shows_line(&id, tables, content)
+    ask.content && !ask.raw && !shows_line(&id, tables, &content[part.low..part.high])
 }
 
 /// Whether two identifications are the same.
@@ -386,7 +395,7 @@ fn meaning_of(ask: &Ask<'_>, tables: &[u8]) -> Result<(Meaning, Start), Refusal>
     known_chip(&inputs)
 }
 
-/// Its content, where it is wanted; else none.
+/// A part of its content, where it is wanted; else none.
 fn ask_content<R: ByteIn, W: ByteOut, P: ByteOut>(
     alloc: Global,
     from: &mut R,
@@ -395,18 +404,22 @@ fn ask_content<R: ByteIn, W: ByteOut, P: ByteOut>(
     meaning: &Meaning,
     start: Start,
     sure: bool,
+    part: Span,
     wanted: bool,
     progress: &mut P,
 ) -> Result<Vec<u8>, Unread>
+    requires part { (part.low ≤ part.high) × (part.high ≤ meaning.now.size) }
     ensures content { IfOk result (λ content. GivesContent
-        (way limits.now.asked meaning.now start sure) (wire (W.held to.old) (R.ahead from.old))
+        (way limits.now.asked meaning.now start sure part) (wire (W.held to.old) (R.ahead from.old))
         (wire (W.held to.new) (R.ahead from.new)) wanted content.items) }
-    ensures stops { IfErr result (StopsContent (way limits.now.asked meaning.now start sure)
+    ensures stops { IfErr result (StopsContent (way limits.now.asked meaning.now start sure part)
         (wire (W.held to.old) (R.ahead from.old)) (wire (W.held to.new) (R.ahead from.new))) }
     ensures wanted { IfErr result (λ _. wanted ≡ true) }
 {
     if wanted {
-        read_whole(alloc, from, to, limits, meaning, start, sure, progress)
+        read_part(
+            alloc, from, to, limits, meaning, start, sure, part, progress,
+        )
     } else {
         Ok(Vec::new(alloc))
     }

@@ -20,8 +20,9 @@ mod mode;
 mod opened;
 mod request;
 mod size;
+mod span;
 
-pub use asked::{Ask, Known, Reading};
+pub use asked::{Ask, Known, Reading, Span};
 pub use blame::fault_of_unlike;
 pub use chip::{check_file, read_chip};
 pub use content::first_by;
@@ -32,3 +33,4 @@ pub use norprog_common::ReadArgs;
 pub use norprog_device::DeviceFault;
 pub use opened::read_opened;
 pub use request::{ReadRequest, ask_of, request_of};
+pub use span::wide_window;

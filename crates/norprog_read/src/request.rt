@@ -127,6 +127,7 @@ pub fn ask_of<'a>(request: ReadRequest<'a>, file: &'a [u8]) -> Ask<'a>
         mode4: request.mode4,
         turns: request.limit,
         content: request.out.is_some(),
+        near: None,
         erased_only: false,
         page: request.page,
         raw: request.raw,

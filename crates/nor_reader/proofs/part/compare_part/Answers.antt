@@ -4,7 +4,7 @@ use Rattle.nor_base.specs.Wire.{wire}
 use Rattle.nor_loop.proofs.DeviceLemmas.{logged_both}
 use Rattle.nor_reader.specs.declared.difference.Mismatch.TheVariants.{Exchange}
 use Rattle.nor_reader.specs.Part.{AllCame, Differed, NotEntered, NotLeft, NotLeftOther, NotRead, ReadsPart}
-use Rattle.nor_reader.specs.Reads.{chunk}
+use Rattle.nor_loop.specs.Reads.{chunk}
 use Rattle.nor_reader.proofs.part.compare_part.Goals as goal
 
 pub returns-in_err-switch_mode : goal.returns-in_err-switch_mode

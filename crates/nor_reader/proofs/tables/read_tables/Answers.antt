@@ -1,11 +1,10 @@
 -- The header, the parameter headers, and the tables.
-use Rattle.std.proofs.Common.{List, [], Err, sym, ◌∙◌, subst, ℕ}
+use Rattle.std.proofs.Common.{List, [], Ok, Err, sym, ◌∙◌, subst, ℕ}
 use Rattle.nor_base.specs.Wire.{wire}
-use Rattle.nor_reader.specs.Again.{ReadsAgain}
 use Rattle.nor_reader.specs.Reads.{HasReadOn}
 use Rattle.nor_reader.specs.Tables.{table_reads, HasSignature}
 use Rattle.nor_reader.proofs.PassLemmas.{nothing_read, read_both}
-use Rattle.nor_reader.proofs.TwiceLemmas.{tables_twice, tables_missed}
+use Rattle.nor_reader.proofs.TwiceLemmas.{tables_by}
 use Rattle.nor_reader.proofs.TablesLemmas.{grow_stops, from_none, these_tables}
 use Rattle.nor_reader.proofs.tables.read_tables.Goals as goal
 
@@ -40,8 +39,7 @@ returns-in-Ok-clause-tables g c =
           (subst HasSignature (c.as_slice.ensures.value ∙ sym c.as_slice-2.ensures.value) (c.is_signed.ensures.0 c.if-not-is_signed.false))
           c.in_default-grow.ensures.grows c.in_default-grow.ensures.size c.headers_end-headers.ensures.is
           c.as_slice-3.ensures.value c.in_default-grow-2.ensures.grows c.in_default-grow-2.ensures.size c.tables_size-size.ensures.is;
-      twice = tables_twice c.args.limits.now.asked _ _ _ _ _ _ c.grow-3.new.bytes.items three
-          (subst (λ bytes. HasReadOn (table_reads c.args.limits.now.asked) (wire (g.W.ByteOut.held c.grow-3.new.to) (g.R.ByteIn.ahead c.grow-3.new.from)) (wire (g.W.ByteOut.held c.compare_all.new.to) (g.R.ByteIn.ahead c.compare_all.new.from)) [] bytes) c.as_slice-tables.ensures.value c.in-Ok.ensures.again);
+      twice = tables_by c.args.limits.now.asked _ _ _ _ _ _ c.grow-3.new.bytes.items (Ok tt) three (rw c.as_slice-tables.ensures.value at c.in-Ok.ensures.again);
     }
 
 pub returns-in-Err-compare_all-clause-tables : goal.returns-in-Err-compare_all-clause-tables
@@ -50,6 +48,6 @@ returns-in-Err-compare_all-clause-tables g c =
     let two = read_both _ _ _ _ _ _ _ _ _ _ one c.in_default-grow.ensures.grows in
     let three = read_both _ _ _ _ _ _ _ _ _ _ two c.in_default-grow-2.ensures.grows in (
       c.grow-3.new.bytes.items,
-      tables_missed c.args.limits.now.asked _ _ _ _ _ _ c.grow-3.new.bytes.items c.in-Err-compare_all.why three
-          (subst (λ bytes. ReadsAgain (table_reads c.args.limits.now.asked) (wire (g.W.ByteOut.held c.grow-3.new.to) (g.R.ByteIn.ahead c.grow-3.new.from)) (wire (g.W.ByteOut.held c.compare_all.new.to) (g.R.ByteIn.ahead c.compare_all.new.from)) (Err c.in-Err-compare_all.why) bytes) c.as_slice-tables.ensures.value c.in-Err-compare_all.ensures.again),
+      tables_by c.args.limits.now.asked _ _ _ _ _ _ c.grow-3.new.bytes.items (Err c.in-Err-compare_all.why) three
+          (rw c.as_slice-tables.ensures.value at c.in-Err-compare_all.ensures.again),
     )

@@ -1,14 +1,15 @@
--- The whole chip, and what comes past its end.
+-- The part of the chip, and what comes past its end.
 use Rattle.std.proofs.Common.{◌≡◌, ℕ, false, Result, Ok, Err, inr, refl, subst, sym}
 use Rattle.nor_reader.specs.declared.difference.Mismatch.{Mismatch}
 use Rattle.nor_reader.specs.Twice.{ReadsWhole}
 use Rattle.nor_base.specs.Wire.{Wire, wire}
 use Rattle.norprog_flash.specs.Worked.{Back, ReadsBack}
 use Rattle.norprog_read.specs.End.{past, EndsPast, GivesPast}
+use Rattle.norprog_read.specs.Span.{came}
 use Rattle.norprog_flash.proofs.work.read_back.Goals as goal
 
 ended : (most : ℕ) (b : Back) (before all after : Wire) (result : Result (Unit {0}) Mismatch) → b.larger ≡ false
-    → ReadsWhole (past most b.by b.bytes).reads before all (Ok tt) b.bytes → EndsPast all after (past most b.by b.bytes) result → ReadsBack most b before after result
+    → ReadsWhole (past most b.by b.bytes).reads before all (Ok tt) (came b.part b.bytes) → EndsPast all after (past most b.by b.bytes) result → ReadsBack most b before after result
 ended most b before all after (Ok u) is first second = (all, first, subst (GivesPast all after (past most b.by b.bytes)) (sym is) second)
 ended most b before all after (Err why) is first second = inr (all, first, second)
 

@@ -6,6 +6,8 @@ use Rattle.norprog_read.specs.Came.{HidesLine, ShowsLine}
 use Rattle.norprog_read.specs.Size.{asked_register, noted_size}
 use Rattle.norprog_read.specs.Stops.{AtContent, AtEnd, AtFile, AtId, AtLine, AtMeaning, AtMode, AtPast, AtRegister, AtSize, AtStatus, AtTables, OtherId, StopsChip, Unexpected}
 use Rattle.norprog_read.proofs.CameLemmas.{read_as}
+use Rattle.norprog_read.proofs.PartLemmas.{reaches}
+use Rattle.norprog_read.specs.Way.{way}
 use Rattle.norprog_read.proofs.ChipLemmas.{end_is, ended, held, identified, known, made, ops_are, ready, way_is}
 use Rattle.norprog_read.proofs.chip.ask_chip.Goals as goal
 
@@ -101,11 +103,11 @@ returns-in_err-content-clause-stops g c =
     let mode = rw ops at c.in_ok-status.ensures.made in
     let register = c.asked_register.ensures ∙ ap (asked_register ask.content) c.as_slice-4.ensures.value in
     let unmoved = rw register at c.in_ok-see_register.ensures.unmoved in
-    let by = way_is most ask m c.begins4-said.ensures c.in_ok-meaning.ensures.start c.modes_of-modes.ensures c.as_slice-3.ensures.value
+    let by = way_is most ask m {part = c.part_of-span.result} c.begins4-said.ensures c.in_ok-meaning.ensures.start c.modes_of-modes.ensures c.as_slice-3.ensures.value
     c.is_sure-sure.ensures in
     handed_on (StopsChip _ _ _ _) _ _ c.from_residual-in_err-content.ensures.1
     (AtContent u4 (ready ur (made u3 (known u2 (identified {w = u2} u1 _ c.in_ok-id.id c.in_ok-first.ensures.status c.in_ok-id.ensures.id c.in_ok-id.ensures.driven
-    c.in_ok-see_id.ensures.expected) c.in_ok-tables.ensures.tables c.in_ok-tables.ensures.alike) means mode) unmoved) _ c.in_err-content.ensures.wanted
+    c.in_ok-see_id.ensures.expected) c.in_ok-tables.ensures.tables c.in_ok-tables.ensures.alike) means mode) unmoved) _ _ c.in_err-content.ensures.wanted c.part_of-span.ensures.part
     (rw by at c.in_err-content.ensures.stops))
 
 pub returns-in_err-see_end-clause-stops : goal.returns-in_err-see_end-clause-stops
@@ -124,13 +126,13 @@ returns-in_err-see_end-clause-stops g c =
     let mode = rw ops at c.in_ok-status.ensures.made in
     let register = c.asked_register.ensures ∙ ap (asked_register ask.content) c.as_slice-4.ensures.value in
     let unmoved = rw register at c.in_ok-see_register.ensures.unmoved in
-    let by = way_is most ask m c.begins4-said.ensures c.in_ok-meaning.ensures.start c.modes_of-modes.ensures c.as_slice-3.ensures.value
+    let by = way_is most ask m {part = c.part_of-span.result} c.begins4-said.ensures c.in_ok-meaning.ensures.start c.modes_of-modes.ensures c.as_slice-3.ensures.value
     c.is_sure-sure.ensures in
     let gives = rw by at c.in_ok-content.ensures.content in
     let end = end_is most ask m c.in_ok-meaning.ensures.start c.past_by-by.ensures c.as_slice-5.ensures.value in
     handed_on (StopsChip _ _ _ _) _ _ c.from_residual-in_err-see_end.ensures.1
     (AtPast u5 (held u4 (ready ur (made u3 (known u2 (identified {w = u2} u1 _ c.in_ok-id.id c.in_ok-first.ensures.status c.in_ok-id.ensures.id c.in_ok-id.ensures.driven
-    c.in_ok-see_id.ensures.expected) c.in_ok-tables.ensures.tables c.in_ok-tables.ensures.alike) means mode) unmoved) _ gives) _ (rw end at c.in_err-see_end.ensures.stops))
+    c.in_ok-see_id.ensures.expected) c.in_ok-tables.ensures.tables c.in_ok-tables.ensures.alike) means mode) unmoved) _ c.part_of-span.ensures.part gives) _ (rw end at c.in_err-see_end.ensures.stops))
 
 pub returns-in_err-again-clause-stops : goal.returns-in_err-again-clause-stops
 returns-in_err-again-clause-stops g c =
@@ -149,7 +151,7 @@ returns-in_err-again-clause-stops g c =
     let mode = rw ops at c.in_ok-status.ensures.made in
     let register = c.asked_register.ensures ∙ ap (asked_register ask.content) c.as_slice-4.ensures.value in
     let unmoved = rw register at c.in_ok-see_register.ensures.unmoved in
-    let by = way_is most ask m c.begins4-said.ensures c.in_ok-meaning.ensures.start c.modes_of-modes.ensures c.as_slice-3.ensures.value
+    let by = way_is most ask m {part = c.part_of-span.result} c.begins4-said.ensures c.in_ok-meaning.ensures.start c.modes_of-modes.ensures c.as_slice-3.ensures.value
     c.is_sure-sure.ensures in
     let gives = rw by at c.in_ok-content.ensures.content in
     let once = rw c.as_slice-5.ensures.value at c.in_ok-see_end.ensures.once in
@@ -157,7 +159,7 @@ returns-in_err-again-clause-stops g c =
     let past = rw end at c.in_ok-see_end.ensures.past in
     handed_on (StopsChip _ _ _ _) _ _ c.from_residual-in_err-again.ensures.1
     (AtEnd ue (ended u5 (held u4 (ready ur (made u3 (known u2 (identified {w = u2} u1 _ c.in_ok-id.id c.in_ok-first.ensures.status c.in_ok-id.ensures.id c.in_ok-id.ensures.driven
-    c.in_ok-see_id.ensures.expected) c.in_ok-tables.ensures.tables c.in_ok-tables.ensures.alike) means mode) unmoved) _ gives) once past) _ c.in_err-again.ensures.stops)
+    c.in_ok-see_id.ensures.expected) c.in_ok-tables.ensures.tables c.in_ok-tables.ensures.alike) means mode) unmoved) _ c.part_of-span.ensures.part gives) once past) _ c.in_err-again.ensures.stops)
 
 pub returns-then-not-is_same-clause-stops : goal.returns-then-not-is_same-clause-stops
 returns-then-not-is_same-clause-stops g c =
@@ -176,14 +178,14 @@ returns-then-not-is_same-clause-stops g c =
     let mode = rw ops at c.in_ok-status.ensures.made in
     let register = c.asked_register.ensures ∙ ap (asked_register ask.content) c.as_slice-4.ensures.value in
     let unmoved = rw register at c.in_ok-see_register.ensures.unmoved in
-    let by = way_is most ask m c.begins4-said.ensures c.in_ok-meaning.ensures.start c.modes_of-modes.ensures c.as_slice-3.ensures.value
+    let by = way_is most ask m {part = c.part_of-span.result} c.begins4-said.ensures c.in_ok-meaning.ensures.start c.modes_of-modes.ensures c.as_slice-3.ensures.value
     c.is_sure-sure.ensures in
     let gives = rw by at c.in_ok-content.ensures.content in
     let once = rw c.as_slice-5.ensures.value at c.in_ok-see_end.ensures.once in
     let end = end_is most ask m c.in_ok-meaning.ensures.start c.past_by-by.ensures c.as_slice-5.ensures.value in
     let past = rw end at c.in_ok-see_end.ensures.past in
     OtherId ue (ended u5 (held u4 (ready ur (made u3 (known u2 (identified {w = u2} u1 _ c.in_ok-id.id c.in_ok-first.ensures.status c.in_ok-id.ensures.id c.in_ok-id.ensures.driven
-    c.in_ok-see_id.ensures.expected) c.in_ok-tables.ensures.tables c.in_ok-tables.ensures.alike) means mode) unmoved) _ gives) once past)
+    c.in_ok-see_id.ensures.expected) c.in_ok-tables.ensures.tables c.in_ok-tables.ensures.alike) means mode) unmoved) _ c.part_of-span.ensures.part gives) once past)
     c.in_ok-again.again c.in_ok-again.ensures.id (c.is_same.ensures.other c.if-not-is_same.true)
 
 pub returns-then-hides_line-clause-stops : goal.returns-then-hides_line-clause-stops
@@ -203,16 +205,16 @@ returns-then-hides_line-clause-stops g c =
     let mode = rw ops at c.in_ok-status.ensures.made in
     let register = c.asked_register.ensures ∙ ap (asked_register ask.content) c.as_slice-4.ensures.value in
     let unmoved = rw register at c.in_ok-see_register.ensures.unmoved in
-    let by = way_is most ask m c.begins4-said.ensures c.in_ok-meaning.ensures.start c.modes_of-modes.ensures c.as_slice-3.ensures.value
+    let by = way_is most ask m {part = c.part_of-span.result} c.begins4-said.ensures c.in_ok-meaning.ensures.start c.modes_of-modes.ensures c.as_slice-3.ensures.value
     c.is_sure-sure.ensures in
     let gives = rw by at c.in_ok-content.ensures.content in
     let once = rw c.as_slice-5.ensures.value at c.in_ok-see_end.ensures.once in
     let end = end_is most ask m c.in_ok-meaning.ensures.start c.past_by-by.ensures c.as_slice-5.ensures.value in
     let past = rw end at c.in_ok-see_end.ensures.past in
     AtLine ue (ended u5 (held u4 (ready ur (made u3 (known u2 (identified {w = u2} u1 _ c.in_ok-id.id c.in_ok-first.ensures.status c.in_ok-id.ensures.id c.in_ok-id.ensures.driven
-    c.in_ok-see_id.ensures.expected) c.in_ok-tables.ensures.tables c.in_ok-tables.ensures.alike) means mode) unmoved) _ gives) once past)
+    c.in_ok-see_id.ensures.expected) c.in_ok-tables.ensures.tables c.in_ok-tables.ensures.alike) means mode) unmoved) _ c.part_of-span.ensures.part gives) once past)
     (rw (c.is_same.ensures.same c.if-not-is_same.false) at c.in_ok-again.ensures.id)
-    (read_as (HidesLine ask c.in_ok-id.id) c.as_slice-6.ensures.value c.as_slice-7.ensures.value (c.hides_line.ensures.hidden c.if-hides_line.true))
+    (read_as (HidesLine ask c.in_ok-id.id) c.part_of-span.result c.as_slice-6.ensures.value c.as_slice-7.ensures.value (c.hides_line.ensures.hidden c.if-hides_line.true))
 
 pub returns-clause-read : goal.returns-clause-read
 returns-clause-read g c =
@@ -231,7 +233,7 @@ returns-clause-read g c =
     let mode = rw ops at c.in_ok-status.ensures.made in
     let register = c.asked_register.ensures ∙ ap (asked_register ask.content) c.as_slice-4.ensures.value in
     let unmoved = rw register at c.in_ok-see_register.ensures.unmoved in
-    let by = way_is most ask m c.begins4-said.ensures c.in_ok-meaning.ensures.start c.modes_of-modes.ensures c.as_slice-3.ensures.value
+    let by = way_is most ask m {part = c.part_of-span.result} c.begins4-said.ensures c.in_ok-meaning.ensures.start c.modes_of-modes.ensures c.as_slice-3.ensures.value
     c.is_sure-sure.ensures in
     let gives = rw by at c.in_ok-content.ensures.content in
     let once = rw c.as_slice-5.ensures.value at c.in_ok-see_end.ensures.once in
@@ -260,10 +262,21 @@ returns-clause-read g c =
       sized = rw c.as_slice-2.ensures.value at c.in_ok-see_size.ensures.same;
       mode = mode;
       unmoved = unmoved;
+      asked_for = c.part_of-span.ensures.part;
       content = gives;
       once = once;
       past = past;
       again = rw (c.is_same.ensures.same c.if-not-is_same.false) at c.in_ok-again.ensures.id;
-      shown = read_as (ShowsLine ask c.in_ok-id.id) c.as_slice-6.ensures.value c.as_slice-7.ensures.value
+      shown = read_as (ShowsLine ask c.in_ok-id.id) c.part_of-span.result c.as_slice-6.ensures.value c.as_slice-7.ensures.value
           (c.hides_line.ensures.shown c.if-hides_line.false);
     }
+
+pub hides_line-requires : goal.hides_line-requires
+hides_line-requires g c =
+    let most = c.args.limits.now.asked in
+    let ask = c.args.ask.now in
+    let m = c.in_ok-meaning.meaning in
+    let span = c.part_of-span.result in
+    let within = c.part_of-span.ensures.within in
+    let here = reaches ask (way most m c.in_ok-meaning.start c.is_sure-sure.result span) _ _ span _ c.part_of-span.ensures.part within.1 c.in_ok-content.ensures.content in
+    record { part = (within.0, rw c.as_slice-7.ensures.value here) }

@@ -1,7 +1,7 @@
 -- The largest block has at most 16 MiB.
 use Rattle.std.proofs.Common.{◌≤◌, ◌^◌, arith}
 use Rattle.std.proofs.Math.Pow.{pow_mono}
-use Rattle.norprog_flash.proofs.resumed.span.Goals as goal
+use Rattle.norprog_read.proofs.span.wide_window.Goals as goal
 
 pub returns-clause-most : goal.returns-clause-most
 returns-clause-most c =
