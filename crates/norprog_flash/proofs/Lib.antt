@@ -1,9 +1,11 @@
 mod SpanLemmas
+mod NearLemmas
 mod NarrowedLemmas
 mod GoalLemmas
 mod BuiltLemmas
 mod RefusedLemmas
 mod WorkLemmas
+mod PartLemmas
 mod WithinLemmas
 mod PlannedLemmas
 mod DoneLemmas

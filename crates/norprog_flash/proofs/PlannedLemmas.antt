@@ -1,5 +1,5 @@
 -- What follows for every chip from a chip that was read and planned for, and from the work on it.
-use Rattle.std.proofs.Common.{◌≡◌, ◌≤◌, ◌<◌, ◌^◌, [], ◌∷◌, ℕ, Bool, true, false, List, All, length, None, refl, sym, ◌∙◌, ap, subst, arith}
+use Rattle.std.proofs.Common.{◌≡◌, ◌≤◌, ◌<◌, ◌^◌, [], ◌∷◌, ℕ, Bool, true, false, List, All, length, refl, sym, ◌∙◌, ap, subst, arith}
 use Rattle.std.specs.List.{slice_index}
 use Rattle.nor_base.specs.declared.step.Step.{Step}
 use Rattle.nor_base.specs.declared.meaning.Start.{Start}
@@ -30,7 +30,8 @@ use Rattle.norprog_read.specs.Chip.{GivesContent, way_by}
 use Rattle.norprog_read.specs.Span.{came, All as AllOfIt, Around, IsPart, Nothing}
 use Rattle.norprog_read.specs.Way.{Way}
 use Rattle.norprog_flash.specs.Work.{Plan}
-use Rattle.norprog_flash.proofs.WithinLemmas.{planned_within, IsWhole}
+use Rattle.norprog_flash.proofs.PartLemmas.{IsRead, part_borders, read_part}
+use Rattle.norprog_flash.proofs.WithinLemmas.{kept_outside, planned_within}
 
 -- of a part of a content that was wanted the bytes came twice
 given_twice : (w : Way) (before after : Wire) (wanted : Bool) (content : List ℕ) → wanted ≡ true → GivesContent w before after wanted content
@@ -43,12 +44,6 @@ part_on_chip : (ask : Ask) (m : Parameters) (part : Span) → IsPart ask m part 
 part_on_chip ask m part (Nothing none) = (omega arith, omega arith)
 part_on_chip ask m part (AllOfIt wanted near) = (omega arith, omega arith)
 part_on_chip ask m part (Around near window wanted given wide) = (omega arith, omega arith)
-
--- where no addresses are named it is the whole chip
-part_whole : (ask : Ask) (m : Parameters) (part : Span) → ask.content ≡ true → ask.near ≡ None → IsPart ask m part → (part.low ≡ 0) × (part.high ≡ m.size)
-part_whole ask m part wanted near (Nothing none) = absurd cc
-part_whole ask m part wanted near (AllOfIt all nowhere) = (refl, refl)
-part_whole ask m part wanted near (Around addresses window all given wide) = absurd cc
 
 module _ (s : Session) (before read : Wire) (p : Plan) (out : Printed) (planned : HasPlanned s before read p out) where
   abbrev start : Start
@@ -76,7 +71,7 @@ module _ (s : Session) (before read : Wire) (p : Plan) (out : Printed) (planned 
   -- the part that was read lies in the goal
   pub part_in_goal : (s.reading.span.low ≤ s.reading.span.high) × (s.reading.span.high ≤ length p.goal) × (s.reading.span.low < 2 ^ 32)
   part_in_goal =
-      let part = part_on_chip (ask_of s.job) s.reading.meaning s.reading.span planned.read.read.asked_for in
+      let part = part_on_chip (ask_of s.job planned.read.near) s.reading.meaning s.reading.span planned.read.read.asked_for in
       let most : s.reading.meaning.size ≤ 2 ^ 28 = workable.accepted.size_high in
       (part.0, omega (arith, part.1, workable.want_size), omega (arith, part.0, part.1, most))
 
@@ -93,14 +88,18 @@ module _ (s : Session) (before read : Wire) (p : Plan) (out : Printed) (planned 
 
   module _ (whole : s.job.ask.content ≡ true) (bytes : (a : ℕ) → slice_index s.reading.content.items a < 256) where
     twice : ReadTwice planned.read.read.ready planned.read.read.held s.reading.meaning start (given (chip_in s))
-    twice = given_twice (way_by (at_once s.limits) (ask_of s.job) s.reading.tables.items s.reading.meaning s.reading.span) _ _ s.job.ask.content
+    twice = given_twice (way_by (at_once s.limits) (ask_of s.job planned.read.near) s.reading.tables.items s.reading.meaning s.reading.span) _ _ s.job.ask.content
         s.reading.content.items whole planned.read.read.content
 
-    all : IsWhole (chip_in s)
-    all = let part = part_whole (ask_of s.job) s.reading.meaning s.reading.span whole refl planned.read.read.asked_for in record { low = part.0; high = part.1 }
+    -- the part that was read
+    part : IsRead s.job s.reading.meaning s.reading.span
+    part = read_part s.job s.reading.meaning planned.read.near s.reading.span whole planned.read.goes_near planned.read.read.asked_for
 
     within : IsPlannedWithin (chip_in s) target p.steps
-    within = planned_within (chip_in s) (task_on s.job s.reading) planned.plan.work.image planned.plan.work.regions (dump_of s.job) p.steps all
+    within = planned_within (chip_in s) (task_on s.job s.reading) planned.plan.work.image planned.plan.work.regions (dump_of s.job) p.steps
+        (part_borders s.job s.reading.meaning s.reading.span workable.accepted part)
+        (kept_outside s.job s.reading.tables.items (length s.reading.content.items) s.reading.meaning s.reading.span planned.plan.work.image planned.plan.work.regions
+        part planned.plan.work.accepted.named)
         (record { size = workable.have_size; bytes = bytes })
         (record {
           workable = subst (λ (w : List ℕ). IsWorkable s.reading.meaning start s.reading.content.items w) planned.plan.work.goal_is workable;

@@ -1,5 +1,5 @@
 -- Why work isn't begun on a chip that was read.
-use Rattle.std.proofs.Common.{◌≡◌, ◌⊎◌, ◌∙◌, ℕ, Bool, true, false, List, length, Option, unwrap_or, Result, Ok, Err, IfErr, inl, inr, refl, sym, ap, subst}
+use Rattle.std.proofs.Common.{◌≡◌, ◌⊎◌, ◌∙◌, ℕ, Bool, true, false, List, length, Option, unwrap_or, Result, Ok, Err, IfErr, inl, refl, sym, ap, subst}
 use Rattle.std.specs.Prelude.{MatchResult}
 use Rattle.nor_reader.specs.AtOnce.{at_once}
 use Rattle.nor_base.specs.declared.meaning.Start.{Start}
@@ -27,9 +27,11 @@ use Rattle.norprog_flash.specs.declared.compared.Comparison.{Comparison}
 use Rattle.norprog_flash.specs.Compared.{IsComparison}
 use Rattle.nor_job.specs.Causes.{RefusesInputs}
 use Rattle.norprog_flash.specs.Opened.{AtChip, StopsHolding, Tests}
-use Rattle.norprog_flash.specs.Stops.{CantPlan, OtherSize, StopsBefore, Unplanned}
+use Rattle.norprog_flash.specs.Near.{IsNear}
+use Rattle.norprog_flash.specs.Stops.{CantPlan, OtherSize, StopsBefore, Unplanned, Unsuited}
 use Rattle.norprog_flash.specs.Task.{blank_image, dump_of, imaged_task, task_on}
 use Rattle.norprog_read.specs.declared.asked.Reading.{Reading}
+use Rattle.norprog_read.specs.declared.asked.Span.{Span}
 use Rattle.norprog_read.specs.Chip.{GivesContent, HasReadChip, way_by}
 use Rattle.norprog_read.specs.Way.{first_by, first_of, Way}
 
@@ -38,25 +40,19 @@ given_way : (w : Way) (before after : Wire) (wanted : Bool) (content : List ℕ)
 given_way w before after true content is given = given.way
 given_way w before after false content is given = absurd cc
 
-pub closed : (most : ℕ) (w v : Wire) (job : Job) (r : Reading) → HasReadChip most w v (ask_of job) r → (start : Start) → start ≡ start_at job r.status
-    → is_closed job start r.status ≡ true → StopsBefore most w v job (Closed r.status)
-closed most w v job r read start begins is = inr (record {
-  reading = r;
-  read = read;
-  unsuited = (refl, ap (λ (s : Start). is_closed job s r.status) (sym begins) ∙ is);
-})
+module _ (most : ℕ) (w v : Wire) (job : Job) (near : Option Span) (r : Reading) (goes : IsNear job near) (read : HasReadChip most w v (ask_of job near) r) where
+  pub closed : (start : Start) → start ≡ start_at job r.status → is_closed job start r.status ≡ true → StopsBefore most w v job (Closed r.status)
+  closed start begins is = Unsuited near r (Closed r.status) goes read (refl, ap (λ (s : Start). is_closed job s r.status) (sym begins) ∙ is)
 
--- a chip that was read whole is read so
-pub way_there : (most : ℕ) (w v : Wire) (job : Job) (r : Reading) → HasReadChip most w v (ask_of job) r → (start : Start)
-    → start ≡ start_of (task_on job r) → job.ask.content ≡ true → (by : ReadBy) → by ≡ first_by r.meaning start
-    → GivesBy r.meaning (start_of (task_on job r)) by
-way_there most w v job r read start begins whole by is =
-    subst (GivesBy r.meaning (start_of (task_on job r))) (sym (is ∙ ap (first_by r.meaning) begins))
-    (given_way (way_by most (ask_of job) r.tables.items r.meaning r.span) _ _ job.ask.content r.content.items whole read.content)
+  -- a chip whose content was read is read so
+  pub way_there : (start : Start) → start ≡ start_of (task_on job r) → job.ask.content ≡ true → (by : ReadBy) → by ≡ first_by r.meaning start
+      → GivesBy r.meaning (start_of (task_on job r)) by
+  way_there start begins whole by is =
+      subst (GivesBy r.meaning (start_of (task_on job r))) (sym (is ∙ ap (first_by r.meaning) begins))
+      (given_way (way_by most (ask_of job near) r.tables.items r.meaning r.span) _ _ job.ask.content r.content.items whole read.content)
 
-pub unruled : (most : ℕ) (w v : Wire) (job : Job) (r : Reading) → HasReadChip most w v (ask_of job) r → (why : Refusal)
-    → BreaksRules (rules_on job) (task_on job r) (length r.content.items) why ⊎ (why ≡ Build Memory) → StopsBefore most w v job (Refused why)
-unruled most w v job r read why breaks = inr (record { reading = r; read = read; unsuited = breaks })
+  pub unruled : (why : Refusal) → BreaksRules (rules_on job) (task_on job r) (length r.content.items) why ⊎ (why ≡ Build Memory) → StopsBefore most w v job (Refused why)
+  unruled why breaks = Unsuited near r (Refused why) goes read breaks
 
 pub or_memory : {T : Type 0} (P : Refusal → Type 0) (result : Result T Refusal) → IfErr result P → IfErr result (λ why. P why ⊎ (why ≡ Build Memory))
 or_memory P (Ok x) is = tt

@@ -1,5 +1,5 @@
 -- A chip that was read and planned for (this project's).
-use Rattle.std.specs.Prelude.{◌≡◌, ◌||◌, ℕ, Bool, false, not, List, length, Option, None, unwrap_or}
+use Rattle.std.specs.Prelude.{◌≡◌, ◌||◌, ℕ, Bool, false, not, List, length, Option, unwrap_or}
 use Rattle.std.specs.Io.KnownBytes.{Appends}
 use Rattle.nor_base.specs.declared.meaning.Start.{Start}
 use Rattle.nor_reader.specs.AtOnce.{at_once}
@@ -14,11 +14,13 @@ use Rattle.norprog_common.specs.Rules.{MeetsRules}
 use Rattle.norprog_common.specs.declared.rules.ImageRules.{ImageRules}
 use Rattle.nor_base.specs.Wire.{Wire}
 use Rattle.norprog_flash.specs.declared.job.Job.{Job}
+use Rattle.norprog_flash.specs.Near.{IsNear}
 use Rattle.norprog_flash.specs.Resumed.{IsOfDump}
 use Rattle.norprog_flash.specs.Task.{dump_of, task_on}
 use Rattle.norprog_flash.specs.Way.{work_text}
 use Rattle.norprog_read.specs.declared.asked.Ask.{Ask}
 use Rattle.norprog_read.specs.declared.asked.Reading.{Reading}
+use Rattle.norprog_read.specs.declared.asked.Span.{Span}
 use Rattle.norprog_read.specs.Chip.{HasReadChip}
 use Rattle.norprog_flash.specs.Work.{IsWork, Plan}
 
@@ -45,13 +47,16 @@ rules_on job = record {
   lands = job.rules.lands;
 }
 
--- what is asked of a job's chip: all of its content
-abbrev pub ask_of : Job → Ask
-ask_of job = record job.ask { near = None }
+-- what is asked of a job's chip: its content near these addresses, or all of it
+abbrev pub ask_of : Job → Option Span → Ask
+ask_of job near = record job.ask { near = near }
 
--- the chip was read, by reads of no more than so many bytes, and its status shows that it can take work; the job's image keeps its rules
+-- the chip was read, or no more of it than the job's image is for, by reads of no more than so many bytes, and its status shows that it can
+-- take work; the job's image keeps its rules
 pub record HasRead (most : ℕ) (job : Job) (before after : Wire) (r : Reading) : Type 0 where
-  pub read : HasReadChip most before after (ask_of job) r
+  pub near : Option Span
+  pub goes_near : IsNear job near
+  pub read : HasReadChip most before after (ask_of job near) r
   pub suited : is_closed job (start_at job r.status) r.status ≡ false
   pub meets : MeetsRules (rules_on job) (task_on job r) (length r.content.items)
 

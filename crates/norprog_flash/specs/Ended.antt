@@ -67,8 +67,8 @@ pub data EndsWork (s : Session) (before after : Wire) (out : Printed) : Ending �
   -- it is only compared, and nothing was sent after it was read
   OnlyCompared : (ending : Ending) → s.job.aim ≡ aim.Compare → HasRead (at_once s.limits) s.job before after s.reading → out.after ≡ out.before
       → IsCompared s.job s.reading ending → EndsWork s before after out ending
-  -- each step was done, and then the chip gave just what it must hold, and past its end what one that holds just this gives, unless it may be
-  -- larger, by reads of no more bytes than the device gives at once
+  -- each step was done, and then the chip gave just what it must hold, in the part that was read, and past its end what one that holds just
+  -- this gives, unless it may be larger or only a part was read, by reads of no more bytes than the device gives at once
   AllDone : (p : Plan) (read : Wire) (todo : IsToDo s before read p out) (by : ReadBy)
       → GivesBy s.reading.meaning (start_of (task_on s.job s.reading)) by → (worked : HasWorked (doing_in s) read after (flashing_in s p by) (Ok tt))
       → EveryChipFlashes todo worked.done → EndsWork s before after out (Done (length p.steps))

@@ -4,6 +4,7 @@ pub mod Refused
 pub mod Looked
 pub mod Compared
 pub mod Task
+pub mod Near
 pub mod Resumed
 pub mod Early
 pub mod State

@@ -1,5 +1,5 @@
 -- Why work isn't begun (this project's).
-use Rattle.std.specs.Prelude.{◌≡◌, ◌≢◌, ◌⊎◌, ℕ, true, length, unwrap_or}
+use Rattle.std.specs.Prelude.{◌≡◌, ◌≢◌, ◌⊎◌, ℕ, true, length, Option, unwrap_or}
 use Rattle.std.specs.Io.KnownBytes.{Appends}
 use Rattle.nor_base.specs.Device.{Cuts}
 use Rattle.nor_job.specs.declared.fault.BuildFault.{BuildFault}
@@ -13,11 +13,13 @@ use Rattle.norprog_flash.specs.declared.ending.Unflashed.{Unflashed}
 use Rattle.norprog_flash.specs.declared.ending.Unflashed.TheVariants.{Refused, Device, Unlike, Closed}
 use Rattle.norprog_flash.specs.declared.job.Job.{Job}
 use Rattle.norprog_flash.specs.Begun.{ask_of, IsPlanOf, Printed, is_closed, rules_on, start_at}
+use Rattle.norprog_flash.specs.Near.{IsNear, RefusesNear}
 use Rattle.norprog_flash.specs.Resumed.{IsOfAnother}
 use Rattle.norprog_flash.specs.Task.{dump_of, task_on}
 use Rattle.norprog_flash.specs.Way.{plan_text, work_text}
 use Rattle.norprog_read.specs.declared.asked.Ask.{Ask}
 use Rattle.norprog_read.specs.declared.asked.Reading.{Reading}
+use Rattle.norprog_read.specs.declared.asked.Span.{Span}
 use Rattle.norprog_read.specs.declared.fault.Unread.{Unread}
 use Rattle.norprog_read.specs.declared.fault.Unread.TheVariants as unread
 use Rattle.norprog_read.specs.Chip.{HasReadChip}
@@ -43,15 +45,13 @@ IsUnsuited job r (Closed status) = (status ≡ r.status) × (is_closed job (star
 IsUnsuited job r (Refused why) = BreaksRules (rules_on job) (task_on job r) (length r.content.items) why ⊎ (why ≡ Build Memory)
 IsUnsuited job r other = ⊥
 
--- it was read, and that is so
-pub record StopsUnsuited (most : ℕ) (before after : Wire) (job : Job) (why : Unflashed) : Type 0 where
-  pub reading : Reading
-  pub read : HasReadChip most before after (ask_of job) reading
-  pub unsuited : IsUnsuited job reading why
-
--- it wasn't read, or that is so
-abbrev pub StopsBefore : ℕ → Wire → Wire → Job → Unflashed → Type 0
-StopsBefore most before after job why = StopsReading most before after (ask_of job) why ⊎ StopsUnsuited most before after job why
+-- nothing was sent, since it can't be told which part of the chip is to be read; or the chip wasn't read; or it was, and it isn't suited
+pub data StopsBefore (most : ℕ) (before after : Wire) (job : Job) : Unflashed → Type 0 where
+  NoSpan : (why : Refusal) → RefusesNear job why → after ≡ before → StopsBefore most before after job (Refused why)
+  NotRead : (near : Option Span) (why : Unflashed) → IsNear job near → StopsReading most before after (ask_of job near) why
+      → StopsBefore most before after job why
+  Unsuited : (near : Option Span) (r : Reading) (why : Unflashed) → IsNear job near → HasReadChip most before after (ask_of job near) r
+      → IsUnsuited job r why → StopsBefore most before after job why
 
 -- why work on a chip that was read isn't begun, by what was printed till then
 pub data CantPlan (job : Job) (r : Reading) (out : Printed) : Refusal → Type 0 where

@@ -17,14 +17,15 @@ use Rattle.norprog_device.specs.declared.failure.Failure.TheVariants.{Carried}
 use Rattle.norprog_device.specs.Reported.{failure_by}
 use Rattle.norprog_flash.specs.declared.ending.Ending.{Ending}
 use Rattle.norprog_flash.specs.declared.ending.Ending.TheVariants.{Done, Failed}
-use Rattle.norprog_flash.specs.Begun.{ask_of, Session}
+use Rattle.norprog_flash.specs.Begun.{Session}
+use Rattle.norprog_flash.specs.Near.{may_go_on}
 use Rattle.norprog_flash.specs.Task.{task_on}
 use Rattle.norprog_read.specs.declared.asked.Span.{Span}
-use Rattle.norprog_read.specs.End.{may_go_on, past, EndsPast, GivesPast}
+use Rattle.norprog_read.specs.End.{past, EndsPast, GivesPast}
 use Rattle.norprog_read.specs.Span.{came}
 use Rattle.norprog_flash.specs.Work.{Plan}
 
--- how a chip is read back: which bytes it must hold, of which part of them it must give, by which instruction, and whether it may be larger
+-- how a chip is read back: which bytes it must hold, which part of them it must give, by which instruction, and whether it may be larger
 pub record Back : Type 0 where
   pub bytes : List ℕ
   pub part : Span
@@ -73,7 +74,7 @@ abbrev pub doing_in : Session → Doing
 doing_in s = record { limits = s.limits; turns = s.job.ask.turns; m = s.reading.meaning }
 
 abbrev pub flashing_in : Session → Plan → ReadBy → Flashing
-flashing_in s p by = flashing p.steps (record { bytes = p.goal; part = s.reading.span; by = by; larger = may_go_on (ask_of s.job) })
+flashing_in s p by = flashing p.steps (record { bytes = p.goal; part = s.reading.span; by = by; larger = may_go_on s.job })
 
 -- what work that was planned says: some step can't be done by the device, and nothing was sent; or each can, and it went so, in a way by
 -- which the chip is read back

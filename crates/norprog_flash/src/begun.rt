@@ -22,6 +22,7 @@ ghost use Rattle.norprog_flash.specs.Stops.{CantPlan, StopsBefore};
 use crate::blank::blank_image;
 use crate::ending::Unflashed;
 use crate::job::{Job, inputs_for};
+use crate::near::near_for;
 use crate::planned::{Work, work_for};
 use crate::resumed::is_of_dump;
 use crate::way::{write_last, write_plan};
@@ -31,7 +32,7 @@ use nor_reader::{ReadBy, suits};
 use nor_serprog::{Limits, test_line};
 use norprog_common::{Aim, FileName, ImageRules, Refusal, refuse_image};
 use norprog_device::DeviceFault;
-use norprog_read::{Ask, Reading, first_by, read_chip};
+use norprog_read::{Ask, Reading, Span, first_by, read_chip};
 use std::alloc::Global;
 
 /// A chip that was read.
@@ -156,7 +157,8 @@ fn read_suited<R: ByteIn, W: ByteOut, P: ByteOut>(
     ensures harmless { MatchResult result (λ _. HasSentHarmless (W.held to.old) (W.held to.new))
         (λ _. SendsHarmless (W.held to.old) (W.held to.new)) }
 {
-    let reading = read_chip(alloc, from, to, limits, &ask_of(job), progress)?;
+    let near = near_for(alloc, job)?;
+    let reading = read_chip(alloc, from, to, limits, &ask_of(job, near), progress)?;
     let start = start_at(job, reading.status);
     if is_closed(job, start, reading.status) {
         return Err(Unflashed::Closed(reading.status));
@@ -166,14 +168,11 @@ fn read_suited<R: ByteIn, W: ByteOut, P: ByteOut>(
     Ok(Held { reading, by })
 }
 
-/// What is asked of a job's chip: all of its content.
-pub(crate) fn ask_of<'a>(job: &Job<'a>) -> Ask<'a>
-    ensures { result ≡ ask_of job.now }
+/// What is asked of a job's chip: its content near these addresses, or all of it.
+fn ask_of<'a>(job: &Job<'a>, near: Option<Span>) -> Ask<'a>
+    ensures { result ≡ ask_of job.now near }
 {
-    Ask {
-        near: None,
-        ..job.ask
-    }
+    Ask { near, ..job.ask }
 }
 
 /// Whether a status shows that the chip can't take work that isn't only a comparison.

@@ -19,7 +19,7 @@ use crate::begun::{Held, print_plan, said_start};
 use crate::blank::blank_image;
 use crate::compared::compare;
 use crate::ending::Ending;
-use crate::job::{Job, inputs_for};
+use crate::job::{Job, inputs_for, may_go_on};
 use crate::planned::Work;
 use crate::survey::{Unbegun, look_through};
 use crate::windows::Steps;
@@ -204,7 +204,7 @@ fn work_on<R: ByteIn, W: ByteOut, P: ByteOut>(
         bytes: want,
         part: held.reading.span,
         by: held.by,
-        larger: job.ask.any_size,
+        larger: may_go_on(job),
     };
     Ok(do_work(alloc, from, to, &doing, steps, &back, progress))
 }

@@ -1,6 +1,7 @@
 //! What is to be done on which chip.
 
 ghost use Rattle.std.specs.Prelude.{◌≡◌};
+ghost use Rattle.norprog_flash.specs.Near.{goes_near, may_go_on};
 ghost use Rattle.norprog_flash.specs.Task.{imaged_task, works};
 ghost use Rattle.norprog_read.specs.Chip.{task_chip};
 ghost use Rattle.nor_job.specs.Task.{origin_of};
@@ -16,6 +17,9 @@ use norprog_read::{Ask, Known};
 pub struct Job<'a> {
     /// What is asked of the chip; its content is.
     pub ask: Ask<'a>,
+    /// Only the windows are read in which the image's bytes lie, and those between. It has no
+    /// effect where work is resumed, nor where each byte of the chip is to be FFh.
+    pub near: bool,
     /// The image, as Intel HEX text.
     pub hex: &'a [u8],
     /// In place of that text the image of several files.
@@ -43,6 +47,21 @@ pub(crate) fn works(aim: Aim) -> bool
     ensures { result ≡ works aim }
 {
     matches!(aim, Aim::Work)
+}
+
+/// Whether no more of the chip is read than the image is for.
+pub(crate) fn goes_near(job: &Job<'_>) -> bool
+    ensures { result ≡ goes_near job.now }
+{
+    job.near && job.old.is_none() && !job.blank
+}
+
+/// Whether nothing is read past the chip's end: it may be larger than was said, or only a part of
+/// it is read.
+pub(crate) fn may_go_on(job: &Job<'_>) -> bool
+    ensures { result ≡ may_go_on job.now }
+{
+    job.ask.any_size || goes_near(job)
 }
 
 /// The inputs of the job's build, of a chip that gave these tables, with this image in place of the

@@ -24,6 +24,7 @@ mod job;
 mod line;
 mod looked;
 mod narrowed;
+mod near;
 mod options;
 mod planned;
 mod report;

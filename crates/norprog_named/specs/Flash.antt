@@ -1,5 +1,5 @@
 -- How `flash` ends (this project's).
-use Rattle.std.specs.Prelude.{◌≡◌, ⊤, ℕ, ◌&&◌, not, is_some, List, [], ◌∷◌, ◌++◌, drop, if◌then◌else◌, Option, Some, None, option_map, Result, Ok, Err}
+use Rattle.std.specs.Prelude.{◌≡◌, ⊤, ℕ, ◌&&◌, not, false, is_some, List, [], ◌∷◌, ◌++◌, drop, if◌then◌else◌, Option, Some, None, option_map, Result, Ok, Err}
 use Rattle.nor_serprog.specs.Greeting.{Greeted}
 use Rattle.nor_serprog.specs.declared.fault.GreetFault.{GreetFault}
 use Rattle.nor_serprog.specs.declared.limits.Limits.{Limits}
@@ -123,6 +123,7 @@ pub record IsJobOf (r : FlashRequest) (held : FlashTexts) (job : Job) : Type 0 w
   pub regions : job.regions.now ≡ r.regions.now
   pub base : job.base ≡ r.base
   pub old : option_map (λ t. t.now) job.old ≡ option_map (λ bytes. bytes.items) held.old
+  pub near : job.near ≡ false
   pub rules : job.rules ≡ r.rules
   pub aim : job.aim ≡ r.aim
   pub texts : job.texts.now ≡ r.texts.now

@@ -184,6 +184,7 @@ fn job_for<'a>(request: &'a FlashRequest<'_>, texts: &'a FlashTexts) -> Job<'a>
         regions: request.regions,
         base: request.base,
         old: bytes_in(&texts.old),
+        near: false,
         rules: request.rules,
         aim: request.aim,
         texts: request.texts,
