@@ -1,6 +1,5 @@
 -- Laws of logs (this project's).
 use Rattle.std.specs.Prelude.{◌≡◌, ◌≤◌, ◌<◌, ◌⊎◌, ℕ, ◌+◌, ◌^◌, true, false, List, ◌∷◌, ◌++◌, length, Option, Some}
-use Rattle.std.specs.List.{AllByRecursion, concat}
 use Rattle.nor_base.specs.declared.meaning.Start.{Start}
 use Rattle.nor_base.specs.declared.step.Step.{Step}
 use Rattle.nor_base.specs.Parameters.{Parameters}
@@ -15,25 +14,13 @@ use Rattle.nor_serprog.specs.Done.{HasDoneAll}
 use Rattle.nor_serprog.specs.Row.{HasHalted}
 use Rattle.nor_loop.specs.Device.{ClosesLoop, BreaksLoop}
 use Rattle.nor_loop.specs.Log.{Operation, Explains, HasLogged}
-use Rattle.nor_loop.specs.Reads.{chunk, reads_from, Chunk, EntersAndReads, ReadsAll, ReadsPart}
+use Rattle.nor_loop.specs.Reads.{Chunk, EntersAndReads, ReadsAll, ReadsPart}
 use Rattle.nor_loop.specs.Steps.{AreLogOf, AreBegun, next_clocks}
 use Rattle.nor_loop.specs.Loop.{EndsAs, EveryChipEnds, EveryChipHoldsPart, Has, IsContent, IsDoneForAll, MayBe, Work}
 
 -- a chip can be read whole from the mode that it begins in: its addresses fit three bytes, or that mode has four, or it has 13h
 abbrev pub IsReadable : Parameters → Start → Type 0
 IsReadable m start = (m.size ≤ 2 ^ 24) ⊎ ((begins4 m start ≡ true) ⊎ (m.read4 ≡ true))
-
--- every chip that explains reads of the whole held just what came back, and is as it was
-abbrev pub ReadsTell : Type 0
-ReadsTell = (m : Parameters) (start : Start) (content : List ℕ) (log : List Operation) (s : Setting) (held : List ℕ) (after : Chip)
-    → m.size ≤ 2 ^ 32 → IsReadable m start → length content ≡ m.size → ReadsAll (begins4 m start) content log → MayBe m start log s held after
-    → (held ≡ content) × (after ≡ ready s held)
-
--- reads of only a part, from address 0 on, leave it as it was
-abbrev pub ReadsKeep : Type 0
-ReadsKeep = (m : Parameters) (start : Start) (pieces : List (List ℕ)) (s : Setting) (held : List ℕ) (after : Chip)
-    → m.size ≤ 2 ^ 32 → IsReadable m start → AllByRecursion (λ piece. 0 < length piece) pieces → length (concat pieces) ≤ m.size
-    → MayBe m start (reads_from (begins4 m start) 0 pieces) s held after → after ≡ ready s held
 
 -- a log reports a chunk: every chip that explains it held that, and is as it was
 abbrev pub Tells : Parameters → Start → Chunk → List Operation → Type 0
@@ -57,12 +44,6 @@ ReadsRead = (m : Parameters) (start : Start) (c : Chunk) (log : List Operation) 
 abbrev pub EnteredReadsRead : Type 0
 EnteredReadsRead = (m : Parameters) (start : Start) (c : Chunk) (log : List Operation) → m.size ≤ 2 ^ 32 → is_there m.enter ≡ true
     → is_there m.leave ≡ true → begins4 m start ≡ false → c.at + length c.bytes ≤ m.size → EntersAndReads m c log → IsReading m start c log
-
--- in particular, reads of the whole chip report its content
-abbrev pub EnteredReadsTell : Type 0
-EnteredReadsTell = (m : Parameters) (start : Start) (content : List ℕ) (log : List Operation) → m.size ≤ 2 ^ 32 → is_there m.enter ≡ true
-    → is_there m.leave ≡ true → begins4 m start ≡ false → length content ≡ m.size → EntersAndReads m (chunk 0 content) log
-    → (s : Setting) (held : List ℕ) (after : Chip) → MayBe m start log s held after → (held ≡ content) × (after ≡ ready s held)
 
 -- two logs that report a chunk, and then steps that do the task for each content that has it: every chip that explains them ends with the goal
 abbrev pub ToldLoopCloses : Type 0

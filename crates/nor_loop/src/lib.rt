@@ -11,10 +11,10 @@ pub mod worked;
 ghost use Rattle.nor_loop.specs.Four.{FourReadsRead, BothRead};
 ghost use Rattle.nor_loop.specs.Single.{SingleIsOperation, PlannedIsSingle, QuadUnseen};
 ghost use Rattle.nor_loop.specs.Single.{WhateverQuad, WhateverQuadPart};
-ghost use Rattle.nor_loop.specs.Laws.{ReadsTell, ReadsKeep, LoopCloses, LoopResumes, LoopMends};
+ghost use Rattle.nor_loop.specs.Laws.{LoopCloses, LoopResumes, LoopMends};
 ghost use Rattle.nor_loop.specs.Laws.{LoopBreaks, LoopIsExplained, DoneIsLogged, HaltIsLogged};
 ghost use Rattle.nor_loop.specs.Laws.{DeviceCloses, DeviceBreaks, OneLog, LogsJoin};
-ghost use Rattle.nor_loop.specs.Laws.{EnteredReadsTell, ReadsRead, EnteredReadsRead};
+ghost use Rattle.nor_loop.specs.Laws.{ReadsRead, EnteredReadsRead};
 ghost use Rattle.nor_loop.specs.Laws.{ToldLoopCloses};
 
 use nor_laws::{spelling, verifying_reads};
@@ -24,9 +24,6 @@ use nor_plan_laws::planned_work;
 /// these bytes there, and is as it was. Each chip that has the chunk explains them. This is so too
 /// where four-byte mode is entered for the reads and left after them.
 pub fn reads()
-    ensures tell { ReadsTell }
-    ensures keep { ReadsKeep }
-    ensures entered { EnteredReadsTell }
     ensures reading { ReadsRead }
     ensures entered_reading { EnteredReadsRead }
 {

@@ -78,10 +78,6 @@ all_bytes (x ∷ xs) small =
     let first = small 0 in
     rw (lt-ltb x 256 (omega (arith, first)), all_bytes xs (λ i. small (suc i))) refl
 
--- a step more
-pub spelled_more : (steps : List Step) (step : Step) → AllByRecursion IsSpelled steps → IsSpelled step → AllByRecursion IsSpelled (steps ++ step ∷ [])
-spelled_more steps step are is = all_append IsSpelled steps (step ∷ []) are (is, tt)
-
 pub lines_more : (steps : List Step) (c : Coded) → step_lines (steps ++ coded_step c ∷ []) ≡ step_lines steps ++ coded_line c
 unfolding step_lines
 lines_more steps c =
@@ -98,7 +94,3 @@ unfolding step_line
 line_some (Send clocks) = omega arith
 line_some (Poll clocks) = omega arith
 line_some (Verify clocks expect) = omega arith
-
--- where no step came there is none of its line
-pub none_kept : (steps : List Step) (c : Coded) → Cuts (Some (step_lines steps)) (Some (step_lines steps)) (coded_line c)
-none_kept steps c = (0, line_some (coded_step c), Appends-none (Some (step_lines steps)))

@@ -206,6 +206,8 @@ pub struct FlashArgs<'a> {
     pub all: bool,
     /// The plan is printed whole.
     pub list: bool,
+    /// Only the part of the chip around the image's bytes is read.
+    pub near: bool,
     /// As of `read`.
     pub raw: bool,
     /// As of `read`.

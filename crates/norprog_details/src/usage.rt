@@ -25,6 +25,8 @@ const TABLES_SHEET: &[u8] = b"--tables and --sheet don't go together\n";
 
 const TABLES: &[u8] = b"--tables and --uniform don't go together\n";
 
+const NEAR: &[u8] = b"--near with neither --uniform nor --sheet: the chip's own tables\n";
+
 const NO_CHIP: &[u8] = b"--sfdp, --uniform or --sheet is missing: the chip\n";
 
 const ONE_FILE: &[u8] = b"--tables and --out name one file\n";
@@ -49,6 +51,7 @@ pub(crate) fn add_usage(line: CommandLine<'_>, said: &mut Vec<u8>) -> Result<(),
             pair_line(typed, "bits", "sheet", BITS_SHEET),
             pair_line(typed, "tables", "uniform", TABLES),
             pair_line(typed, "tables", "sheet", TABLES_SHEET),
+            near_line(line),
             chip_line(line),
             outputs_line(typed),
         ],
@@ -89,6 +92,16 @@ fn image_line(line: CommandLine<'_>) -> &'static [u8] {
 /// What `erase` wants.
 fn scope_line(command: &str) -> &'static [u8] {
     if command == "erase" { NO_SCOPE } else { b"" }
+}
+
+/// What `flash` wants of `--near`, where the chip isn't known by its own tables.
+fn near_line(line: CommandLine<'_>) -> &'static [u8] {
+    let told = is_typed(line.typed, "uniform") || is_typed(line.typed, "sheet");
+    if told && line.command == "flash" {
+        NEAR
+    } else {
+        b""
+    }
 }
 
 /// Whether a command wants an image by `--hex` or `--bin`.

@@ -1,4 +1,5 @@
 mod SpanLemmas
+mod DumpLemmas
 mod NearLemmas
 mod NarrowedLemmas
 mod GoalLemmas

@@ -1,5 +1,5 @@
 -- Which part of a chip is read.
-use Rattle.std.proofs.Common.{max, length, ◌≡◌, ◌∙◌, ℕ, ◌+◌, ◌^◌, ◌<◌, ◌≤◌, min, Bool, true, false, not, ◌&&◌, is_some, List, [], Option, None, Some, option_map, refl, sym, ap, subst, arith, inl, inr, ◌⊎◌, ◌-◌}
+use Rattle.std.proofs.Common.{max, length, ◌≡◌, ◌∙◌, ℕ, ◌+◌, ◌^◌, ◌<◌, ◌≤◌, min, Bool, true, false, not, is_some, List, [], Option, None, refl, sym, ap, subst, arith, inl, inr, ◌-◌}
 use Rattle.std.proofs.lemmas.Bool.{and_parts, cases_lt}
 use Rattle.std.proofs.lemmas.Option.{slice_get-get_or}
 use Rattle.nor_hex.specs.Image.{IsRunFrom, Pairs, byte_at}
@@ -9,12 +9,10 @@ use Rattle.nor_job.specs.Task.{Task, contradiction, has_no_tables}
 use Rattle.nor_layout.specs.Chosen.{IsChosenRun, is_chosen}
 use Rattle.nor_layout.specs.Region.{Region}
 use Rattle.norprog_flash.specs.declared.job.Job.{Job}
-use Rattle.norprog_flash.specs.Near.{EndsWith, Gets, GetsByte, GetsNone, IsNextPiece, goes_near}
-use Rattle.norprog_flash.specs.Task.{blank_image, dump_of, flash_task, imaged_task}
+use Rattle.norprog_flash.specs.Near.{Gets, GetsByte, IsNextPiece, goes_near}
+use Rattle.norprog_flash.specs.Task.{blank_image, flash_task, imaged_task}
 use Rattle.norprog_read.specs.Chip.{task_chip}
-use Rattle.norprog_read.specs.Span.{span}
 use Rattle.norprog_read.specs.declared.asked.Known.{Known}
-use Rattle.norprog_read.specs.declared.asked.Span.{Span}
 use Rattle.norprog_read.specs.declared.asked.Known.TheVariants.{Own, Sheet, Tables, Uniform}
 
 -- ---- the pieces of an image
@@ -44,20 +42,11 @@ piece_is image base done start first last at end run choice chosen from gives is
       };
 }
 
--- each address below one that gets a byte lies between these, which begin and end with such a one
+-- each address below one that gets a byte lies between these
 pub record SpansSoFar (gets : ℕ → Type 0) (low high done : ℕ) : Type 0 where
   pub within : done ≤ 2 ^ 32
   pub upto : high ≤ done
   pub each : (a : ℕ) → a < done → gets a → (low ≤ a) × (a < high)
-  pub ends : ((high ≡ 0) × (2 ^ 32 ≤ low)) ⊎ (gets low × ((last : ℕ) × (high ≡ last + 1) × gets last))
-
-pub none_yet : (gets : ℕ → Type 0) (low : ℕ) → 2 ^ 32 ≤ low → SpansSoFar gets low 0 0
-none_yet gets low large = record {
-  within = omega arith;
-  upto = omega arith;
-  each = λ a below is. absurd (omega (arith, below));
-  ends = inl (refl, large);
-}
 
 -- one piece more
 pub piece_more : (gets : ℕ → Type 0) (low high done begin end : ℕ) → SpansSoFar gets low high done → IsNextPiece gets done (begin, end) → begin < end
@@ -72,48 +61,7 @@ piece_more gets low high done begin end so_far next some = record {
       | inr past ↦ (omega arith, below)
     ]
   ];
-  ends = inr (first so_far.ends, (end - 1, omega (arith, some), next.each (end - 1) (omega (arith, some)) (omega (arith, some))));
 }
-  where
-    here : gets begin
-    here = next.each begin (omega arith) some
-
-    first : ((high ≡ 0) × (2 ^ 32 ≤ low)) ⊎ (gets low × ((last : ℕ) × (high ≡ last + 1) × gets last)) → gets (min low begin)
-    first (inl none) =
-        let upto = next.upto in let is : begin ≡ min low begin = omega (arith, none.1, upto, some) in subst gets is here
-    first (inr both) = elim (cases_lt low begin) [
-      | inl less ↦ let is : low ≡ min low begin = omega (arith, less) in subst gets is both.0
-      | inr more ↦ let is : begin ≡ min low begin = omega (arith, more) in subst gets is here
-    ]
-
--- or none at all
-pub none_more : (gets : ℕ → Type 0) (low high done begin end : ℕ) → SpansSoFar gets low high done → IsNextPiece gets done (begin, end) → end ≤ begin → SpansSoFar gets low high end
-none_more gets low high done begin end so_far next none = record {
-  within = next.upto;
-  upto = omega (arith, so_far.upto, next.past);
-  each = λ a below is. elim (cases_lt a done) [
-    | inl early ↦ so_far.each a early is
-    | inr late ↦ absurd (next.none_before a late (omega arith) is)
-  ];
-  ends = so_far.ends;
-}
-
--- there is no piece more
-pub spans_all : (gets : ℕ → Type 0) (low high done a : ℕ) → SpansSoFar gets low high done → GetsNone gets done → gets a → (min low high ≤ a) × (a < high)
-spans_all gets low high done a so_far none is = elim (cases_lt a done) [
-  | inl early ↦ let lies = so_far.each a early is in (omega (arith, lies.0, lies.1), lies.1)
-  | inr late ↦ absurd (none a late is)
-]
-
-pub ends_with : (gets : ℕ → Type 0) (low high done : ℕ) → SpansSoFar gets low high done → EndsWith gets (span (min low high) high)
-ends_with gets low high done so_far = by so_far.ends
-  where
-    by : ((high ≡ 0) × (2 ^ 32 ≤ low)) ⊎ (gets low × ((last : ℕ) × (high ≡ last + 1) × gets last)) → EndsWith gets (span (min low high) high)
-    by (inl none) = inl none.0
-    by (inr (first, (last, is, gets_last))) =
-        let lies = so_far.each last (omega (arith, is, so_far.upto)) gets_last in
-        let same : low ≡ min low high = omega (arith, lies.0, is) in
-        inr (subst gets same first, (last, is, gets_last))
 
 -- what a task gives a byte is given one by an image and a choice of its own
 pub gets_same : (t : Task) (image own : Pairs) (regions : List Region) (base : ℕ) (choice : ℕ → Bool) → HasRegions t image regions → ImageSays t.image t.hex own
@@ -126,43 +74,17 @@ gets_same t image own regions base choice named says from same a is =
       given = ap (λ n. is_some (byte_at own n)) at ∙ ap is_some (image_same t.image t.hex own image says named.imaged.spelled (t.base + a)) ∙ is.given;
     }
 
--- and the other way round
-pub gets_back : (t : Task) (image own : Pairs) (regions : List Region) (base : ℕ) (choice : ℕ → Bool) → HasRegions t image regions → ImageSays t.image t.hex own
-    → base ≡ t.base → ((a : ℕ) → choice a ≡ is_chosen regions t.regions a) → (a : ℕ) → Gets own base choice a → GetsByte t image regions a
-gets_back t image own regions base choice named says from same a is =
-    let at : base + a ≡ t.base + a = ap (λ n. n + a) from in
-    record {
-      chosen = sym (same a) ∙ is.chosen;
-      below = omega (arith, at, is.below);
-      given = ap is_some (sym (image_same t.image t.hex own image says named.imaged.spelled (t.base + a))) ∙ ap (λ n. is_some (byte_at own n)) (sym at) ∙ is.given;
-    }
-
-pub ends_back : (P Q : ℕ → Type 0) (s : Span) → ((a : ℕ) → P a → Q a) → EndsWith P s → EndsWith Q s
-ends_back P Q s to (inl none) = inl none
-ends_back P Q s to (inr (first, (last, is, gets_last))) = inr (to s.low first, (last, is, to last gets_last))
-
 -- ---- a job whose chip is read in part
 not_true : (b : Bool) → not b ≡ true → b ≡ false
 not_true true e = cc
 not_true false e = refl
 
-pub near_says : (job : Job) → goes_near job ≡ true → (is_some job.old ≡ false) × (job.blank ≡ false)
-near_says job near =
-    let rest = (and_parts job.near (not (is_some job.old) && not job.blank) near).1 in
-    let both = and_parts (not (is_some job.old)) (not job.blank) rest in
-    (not_true (is_some job.old) both.0, not_true job.blank both.1)
+pub near_says : (job : Job) → goes_near job ≡ true → job.blank ≡ false
+near_says job near = not_true job.blank (and_parts job.near (not job.blank) near).1
 
 -- has the image that it was given
 pub own_image : (job : Job) (size : ℕ) → goes_near job ≡ true → imaged_task job [] None ≡ flash_task job [] size
-own_image job size near = sym (ap (λ b. imaged_task job [] (blank_image b size)) (near_says job near).1)
-
--- resumes nothing
-some_map : {X Y : Type 0} (f : X → Y) (o : Option X) → is_some (option_map f o) ≡ is_some o
-some_map f None = refl
-some_map f (Some x) = refl
-
-pub no_dump : (job : Job) → goes_near job ≡ true → is_some (dump_of job) ≡ false
-no_dump job near = some_map (λ bytes. bytes.now) job.old ∙ (near_says job near).0
+own_image job size near = sym (ap (λ b. imaged_task job [] (blank_image b size)) (near_says job near))
 
 -- and has the regions that it has whatever tables its chip gives
 tables_same : (known : Known) (bits tables : List ℕ) → has_no_tables (task_chip known bits tables) ≡ has_no_tables (task_chip known bits [])
@@ -178,7 +100,7 @@ consistent_same job tables image = rw (tables_same job.ask.known job.ask.bits.no
 pub regions_any : (job : Job) (tables : List ℕ) (size : ℕ) (image : Pairs) (regions : List Region) → goes_near job ≡ true
     → HasRegions (flash_task job tables size) image regions → HasRegions (flash_task job [] 0) image regions
 regions_any job tables size image regions near named =
-    let none = (near_says job near).1 in
+    let none = (near_says job near) in
     let here : HasRegions (imaged_task job tables None) image regions =
     subst (λ b. HasRegions (imaged_task job tables (blank_image b size)) image regions) none named in
     let there : HasRegions (imaged_task job [] None) image regions =

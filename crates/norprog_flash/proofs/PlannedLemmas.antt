@@ -24,13 +24,12 @@ use Rattle.norprog_flash.specs.Task.{dump_of, goal_of, task_on}
 use Rattle.norprog.specs.Stepper.{Stepping, steps_by, update_of}
 use Rattle.norprog.specs.Update.{Update, update, IsDoneBy}
 use Rattle.norprog.specs.declared.report.Report.{Report}
-use Rattle.norprog_read.specs.declared.asked.Ask.{Ask}
-use Rattle.norprog_read.specs.declared.asked.Span.{Span}
 use Rattle.norprog_read.specs.Chip.{GivesContent, way_by}
-use Rattle.norprog_read.specs.Span.{came, All as AllOfIt, Around, IsPart, Nothing}
+use Rattle.norprog_read.specs.Span.{came}
 use Rattle.norprog_read.specs.Way.{Way}
 use Rattle.norprog_flash.specs.Work.{Plan}
 use Rattle.norprog_flash.proofs.PartLemmas.{IsRead, part_borders, read_part}
+use Rattle.norprog_flash.proofs.StopsLemmas.{part_on_chip}
 use Rattle.norprog_flash.proofs.WithinLemmas.{kept_outside, planned_within}
 
 -- of a part of a content that was wanted the bytes came twice
@@ -38,12 +37,6 @@ given_twice : (w : Way) (before after : Wire) (wanted : Bool) (content : List �
     → ReadTwice before after w.m (record w.start { quad = false }) (came w.part content)
 given_twice w before after true content is given = given.known false
 given_twice w before after false content is given = absurd cc
-
--- the part that is asked for lies on the chip
-part_on_chip : (ask : Ask) (m : Parameters) (part : Span) → IsPart ask m part → (part.low ≤ part.high) × (part.high ≤ m.size)
-part_on_chip ask m part (Nothing none) = (omega arith, omega arith)
-part_on_chip ask m part (AllOfIt wanted near) = (omega arith, omega arith)
-part_on_chip ask m part (Around near window wanted given wide) = (omega arith, omega arith)
 
 module _ (s : Session) (before read : Wire) (p : Plan) (out : Printed) (planned : HasPlanned s before read p out) where
   abbrev start : Start
@@ -99,7 +92,7 @@ module _ (s : Session) (before read : Wire) (p : Plan) (out : Printed) (planned 
     within = planned_within (chip_in s) (task_on s.job s.reading) planned.plan.work.image planned.plan.work.regions (dump_of s.job) p.steps
         (part_borders s.job s.reading.meaning s.reading.span workable.accepted part)
         (kept_outside s.job s.reading.tables.items (length s.reading.content.items) s.reading.meaning s.reading.span planned.plan.work.image planned.plan.work.regions
-        part planned.plan.work.accepted.named)
+        part planned.plan.work.accepted.named) planned.plan.fits
         (record { size = workable.have_size; bytes = bytes })
         (record {
           workable = subst (λ (w : List ℕ). IsWorkable s.reading.meaning start s.reading.content.items w) planned.plan.work.goal_is workable;

@@ -1,8 +1,9 @@
 -- Why work isn't begun on a chip that was read.
-use Rattle.std.proofs.Common.{◌≡◌, ◌⊎◌, ◌∙◌, ℕ, Bool, true, false, List, length, Option, unwrap_or, Result, Ok, Err, IfErr, inl, refl, sym, ap, subst}
+use Rattle.std.proofs.Common.{◌≡◌, ◌≤◌, ◌⊎◌, ◌∙◌, ℕ, Bool, true, false, List, length, Option, Some, Result, Ok, Err, IfErr, inl, refl, sym, ap, subst, arith}
 use Rattle.std.specs.Prelude.{MatchResult}
 use Rattle.nor_reader.specs.AtOnce.{at_once}
 use Rattle.nor_base.specs.declared.meaning.Start.{Start}
+use Rattle.nor_base.specs.Parameters.{Parameters}
 use Rattle.nor_hex.specs.Image.{Pairs}
 use Rattle.nor_job.specs.declared.fault.BuildFault.{BuildFault}
 use Rattle.nor_job.specs.declared.fault.BuildFault.TheVariants.{ContentSize, Memory}
@@ -18,7 +19,9 @@ use Rattle.norprog_common.specs.Rules.{BreaksRules}
 use Rattle.nor_base.specs.Wire.{Wire}
 use Rattle.norprog_flash.specs.declared.ending.Unflashed.{Unflashed}
 use Rattle.norprog_flash.specs.declared.ending.Unflashed.TheVariants.{Refused, Closed}
+use Rattle.norprog_flash.specs.declared.dump.Dump.{Dump}
 use Rattle.norprog_flash.specs.declared.job.Job.{Job}
+use Rattle.norprog_flash.specs.Dump.{AreOfPart, is_of_part}
 use Rattle.norprog_flash.specs.Begun.{ask_of, is_closed, printed, rules_on, start_at}
 use Rattle.norprog_flash.specs.Early.{Breaking, BreaksEarly, RefusesEarly, early_task, file_tables, is_known}
 use Rattle.norprog_flash.specs.declared.ending.Ending.TheVariants.{Compared}
@@ -28,12 +31,25 @@ use Rattle.norprog_flash.specs.Compared.{IsComparison}
 use Rattle.nor_job.specs.Causes.{RefusesInputs}
 use Rattle.norprog_flash.specs.Opened.{AtChip, StopsHolding, Tests}
 use Rattle.norprog_flash.specs.Near.{IsNear}
-use Rattle.norprog_flash.specs.Stops.{CantPlan, OtherSize, StopsBefore, Unplanned, Unsuited}
-use Rattle.norprog_flash.specs.Task.{blank_image, dump_of, imaged_task, task_on}
+use Rattle.norprog_flash.specs.Stops.{CantPlan, OtherPart, StopsBefore, Unplanned, Unsuited}
+use Rattle.norprog_flash.specs.Task.{blank_image, dump_of, first_held, imaged_task, task_on}
 use Rattle.norprog_read.specs.declared.asked.Reading.{Reading}
 use Rattle.norprog_read.specs.declared.asked.Span.{Span}
+use Rattle.norprog_read.specs.declared.asked.Ask.{Ask}
 use Rattle.norprog_read.specs.Chip.{GivesContent, HasReadChip, way_by}
+use Rattle.norprog_read.specs.Span.{All as AllOfIt, Around, IsPart, Nothing}
 use Rattle.norprog_read.specs.Way.{first_by, first_of, Way}
+
+-- the part that is asked for lies on the chip
+pub part_on_chip : (ask : Ask) (m : Parameters) (part : Span) → IsPart ask m part → (part.low ≤ part.high) × (part.high ≤ m.size)
+part_on_chip ask m part (Nothing none) = (omega arith, omega arith)
+part_on_chip ask m part (AllOfIt wanted near) = (omega arith, omega arith)
+part_on_chip ask m part (Around near window wanted given wide) = (omega arith, omega arith)
+
+whole_content : (w : Way) (before after : Wire) (wanted : Bool) (content : List ℕ) → wanted ≡ true → GivesContent w before after wanted content
+    → length content ≡ w.m.size
+whole_content w before after true content is given = given.whole
+whole_content w before after false content is given = absurd cc
 
 given_way : (w : Way) (before after : Wire) (wanted : Bool) (content : List ℕ) → wanted ≡ true → GivesContent w before after wanted content
     → GivesBy w.m w.start (first_of w)
@@ -50,6 +66,13 @@ module _ (most : ℕ) (w v : Wire) (job : Job) (near : Option Span) (r : Reading
   way_there start begins whole by is =
       subst (GivesBy r.meaning (start_of (task_on job r))) (sym (is ∙ ap (first_by r.meaning) begins))
       (given_way (way_by most (ask_of job near) r.tables.items r.meaning r.span) _ _ job.ask.content r.content.items whole read.content)
+
+  -- and the part lies in it
+  pub part_there : job.ask.content ≡ true → (r.span.low ≤ r.span.high) × (r.span.high ≤ length r.content.items)
+  part_there whole =
+      let part = part_on_chip (ask_of job near) r.meaning r.span read.asked_for in
+      let size = whole_content (way_by most (ask_of job near) r.tables.items r.meaning r.span) _ _ job.ask.content r.content.items whole read.content in
+      (part.0, omega (arith, part.1, size))
 
   pub unruled : (why : Refusal) → BreaksRules (rules_on job) (task_on job r) (length r.content.items) why ⊎ (why ≡ Build Memory) → StopsBefore most w v job (Refused why)
   unruled why breaks = Unsuited near r (Refused why) goes read breaks
@@ -86,17 +109,21 @@ on_chip job r t tables content image task same all its =
     task ∙ (ap (λ (xs : List ℕ). imaged_task job xs image) same ∙ ap (imaged_task job r.tables.items) (its ∙ ap (λ (xs : List ℕ). blank_image job.blank (length xs)) all))
 
 pub over : (P : Task → List ℕ → List ℕ → Type 0) (job : Job) (r : Reading) (t : Task) (content old : List ℕ) → t ≡ task_on job r
-    → content ≡ r.content.items → old ≡ unwrap_or (dump_of job) content → P t content old
-    → P (task_on job r) r.content.items (unwrap_or (dump_of job) r.content.items)
-over P job r t content old task all rest is =
-    let from = unwrap_or (dump_of job) r.content.items in
-    subst (λ (x : Task). P x r.content.items from) task
-    (subst (λ (xs : List ℕ). P t xs from) all (subst (λ (xs : List ℕ). P t content xs) (rest ∙ ap (unwrap_or (dump_of job)) all) is))
+    → content ≡ r.content.items → old ≡ first_held job r → P t content old → P (task_on job r) r.content.items (first_held job r)
+over P job r t content old task all first is =
+    subst (λ (x : Task). P x r.content.items (first_held job r)) task
+    (subst (λ (xs : List ℕ). P t xs (first_held job r)) all (subst (λ (xs : List ℕ). P t content xs) first is))
 
-pub other_size : (job : Job) (r : Reading) (o : Option (List ℕ)) (content old : List ℕ) → content ≡ r.content.items
-    → old ≡ unwrap_or (dump_of job) content → (length old ≡ length content → ⊥) → CantPlan job r (printed o o) (Build ContentSize)
-other_size job r o content old all rest other =
-    let is = rest ∙ ap (unwrap_or (dump_of job)) all in OtherSize (λ same. other (ap length is ∙ (same ∙ sym (ap length all)))) refl
+-- an older dump isn't of just the part that was read
+pub other_part : (job : Job) (r : Reading) (o : Option (List ℕ)) (dump : Dump) (content : List ℕ) (fits : Bool) → dump_of job ≡ Some dump
+    → content ≡ r.content.items → fits ≡ is_of_part dump r.span content → fits ≡ false → CantPlan job r (printed o o) (Build ContentSize)
+other_part job r o dump content fits same all is none = OtherPart no refl
+  where
+    no : AreOfPart (dump_of job) r.span r.content.items → ⊥
+    no of_part =
+        let here : is_of_part dump r.span r.content.items ≡ true = subst (λ d. AreOfPart d r.span r.content.items) same of_part in
+        let both : true ≡ false = sym here ∙ ap (is_of_part dump r.span) (sym all) ∙ sym is ∙ none in
+        absurd cc
 
 -- ---- whether it is compared
 pub compared : (job : Job) (r : Reading) (t : Task) (content : List ℕ) (c : Comparison) → t ≡ task_on job r → content ≡ r.content.items → IsComparison t content c

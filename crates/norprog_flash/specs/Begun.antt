@@ -1,7 +1,8 @@
 -- A chip that was read and planned for (this project's).
-use Rattle.std.specs.Prelude.{◌≡◌, ◌||◌, ℕ, Bool, false, not, List, length, Option, unwrap_or}
+use Rattle.std.specs.Prelude.{◌≡◌, ◌||◌, ℕ, Bool, false, not, List, length, Option, None, Some, unwrap_or, if◌then◌else◌}
 use Rattle.std.specs.Io.KnownBytes.{Appends}
 use Rattle.nor_base.specs.declared.meaning.Start.{Start}
+use Rattle.nor_hex.specs.WrittenSegments.{hex_text}
 use Rattle.nor_reader.specs.AtOnce.{at_once}
 use Rattle.nor_reader.specs.Status.{suits}
 use Rattle.nor_serprog.specs.declared.limits.Limits.{Limits}
@@ -14,14 +15,16 @@ use Rattle.norprog_common.specs.Rules.{MeetsRules}
 use Rattle.norprog_common.specs.declared.rules.ImageRules.{ImageRules}
 use Rattle.nor_base.specs.Wire.{Wire}
 use Rattle.norprog_flash.specs.declared.job.Job.{Job}
-use Rattle.norprog_flash.specs.Near.{IsNear}
+use Rattle.norprog_flash.specs.Dump.{AreOfPart}
+use Rattle.norprog_flash.specs.Near.{goes_near, IsNear}
 use Rattle.norprog_flash.specs.Resumed.{IsOfDump}
-use Rattle.norprog_flash.specs.Task.{dump_of, task_on}
+use Rattle.norprog_flash.specs.Task.{dump_of, first_held, task_on}
 use Rattle.norprog_flash.specs.Way.{work_text}
 use Rattle.norprog_read.specs.declared.asked.Ask.{Ask}
 use Rattle.norprog_read.specs.declared.asked.Reading.{Reading}
 use Rattle.norprog_read.specs.declared.asked.Span.{Span}
 use Rattle.norprog_read.specs.Chip.{HasReadChip}
+use Rattle.norprog_read.specs.Span.{part_in}
 use Rattle.norprog_flash.specs.Work.{IsWork, Plan}
 
 -- the mode that was said, and the quad setting that a status has (QE, S9)
@@ -60,9 +63,16 @@ pub record HasRead (most : ℕ) (job : Job) (before after : Wire) (r : Reading) 
   pub suited : is_closed job (start_at job r.status) r.status ≡ false
   pub meets : MeetsRules (rules_on job) (task_on job r) (length r.content.items)
 
+-- what is saved of a chip in place of its content: of one that was read in part, that part as Intel HEX
+abbrev pub copy_of : Job → Reading → Option (List ℕ)
+copy_of job r = if goes_near job then Some (hex_text r.span.low (part_in r.span r.content.items)) else None
+
+abbrev pub saved_of : Job → Reading → List ℕ
+saved_of job r = unwrap_or (copy_of job r) r.content.items
+
 -- this is the work from what was read to the target
 abbrev pub IsPlanOf : Job → Reading → Plan → Type 0
-IsPlanOf job r p = IsWork (task_on job r) r.content.items (unwrap_or (dump_of job) r.content.items) p
+IsPlanOf job r p = IsWork (task_on job r) r.content.items (first_held job r) p
 
 -- what standard output held before, and holds
 pub record Printed : Type 0 where
@@ -72,11 +82,12 @@ pub record Printed : Type 0 where
 abbrev pub printed : Option (List ℕ) → Option (List ℕ) → Printed
 printed before after = record { before = before; after = after }
 
--- the work was planned and printed, and then how to go on where it stops on the way; where work is resumed the chip may be the one of the
--- older dump
+-- the work was planned and printed, and then how to go on where it stops on the way; where work is resumed the older dump is of just the part
+-- that was read, and the chip may be the one of it
 pub record PrintsPlan (job : Job) (r : Reading) (p : Plan) (out : Printed) : Type 0 where
   pub work : IsPlanOf job r p
-  pub kept : IsOfDump r.meaning r.content.items (unwrap_or (dump_of job) r.content.items) p.goal
+  pub fits : AreOfPart (dump_of job) r.span r.content.items
+  pub kept : IsOfDump r.meaning r.content.items (first_held job r) p.goal
   pub printed : Appends out.before out.after (work_text job r p)
 
 -- work on a chip that gave this, by a device that reported these limits

@@ -3,6 +3,7 @@ pub mod Narrowed
 pub mod Refused
 pub mod Looked
 pub mod Compared
+pub mod Dump
 pub mod Task
 pub mod Near
 pub mod Resumed

@@ -1,5 +1,5 @@
 -- Which part of a chip is read (this project's).
-use Rattle.std.specs.Prelude.{◌≡◌, ◌⊎◌, ◌<◌, ◌≤◌, ◌+◌, ◌^◌, ◌&&◌, ◌||◌, ℕ, Bool, true, false, not, is_some, List, [], Option, None, Some}
+use Rattle.std.specs.Prelude.{◌≡◌, ◌<◌, ◌≤◌, ◌+◌, ◌^◌, ◌&&◌, ◌||◌, ℕ, Bool, true, false, not, is_some, List, [], Option, None, Some}
 use Rattle.nor_hex.specs.Image.{byte_at, Pairs}
 use Rattle.nor_job.specs.Causes.{HasRegions, RefusesInputs}
 use Rattle.nor_job.specs.declared.fault.BuildFault.{BuildFault}
@@ -30,17 +30,9 @@ LiesIn span a = (span.low ≤ a) × (a < span.high)
 abbrev pub Spans : Task → Span → Type 0
 Spans t span = (image : Pairs) (regions : List Region) → HasRegions t image regions → (a : ℕ) → GetsByte t image regions a → LiesIn span a
 
--- there are none of these; or the first and the last of them get a byte
-abbrev pub EndsWith : (ℕ → Type 0) → Span → Type 0
-EndsWith gets span = (span.high ≡ 0) ⊎ (gets span.low × ((last : ℕ) × (span.high ≡ last + 1) × gets last))
-
--- so by a task's image and layout: no fewer addresses have each in them that gets a byte
-abbrev pub IsTight : Task → Span → Type 0
-IsTight t span = (image : Pairs) (regions : List Region) → HasRegions t image regions → EndsWith (GetsByte t image regions) span
-
--- no more than the part of a chip is to be read that the image is for: that is asked for, no work is resumed, and the image isn't a blank one
+-- no more than the part of a chip is to be read that the image is for: that is asked for, and the image isn't a blank one
 abbrev pub goes_near : Job → Bool
-goes_near job = job.near && (not (is_some job.old) && not job.blank)
+goes_near job = job.near && not job.blank
 
 -- a chip may be larger, or not all of it is read
 abbrev pub may_go_on : Job → Bool

@@ -1,5 +1,5 @@
 -- What the values of a command line of `flash` ask for (this project's).
-use Rattle.std.specs.Prelude.{◌≡◌, ℕ, Bool, ◌&&◌, not, true, false, if◌then◌else◌, Option, Some, None, option_map, unwrap_or, is_some, List, [], slice_get, codes}
+use Rattle.std.specs.Prelude.{◌≡◌, ℕ, Bool, ◌&&◌, ◌||◌, not, true, false, if◌then◌else◌, Option, Some, None, option_map, unwrap_or, is_some, is_none, List, [], slice_get, codes}
 use Rattle.nor_base.specs.Array.{is_filled}
 use Rattle.norprog_common.specs.Image.{Image, fills_chip, image_in, images_in}
 use Rattle.norprog_common.specs.Values.{base_of}
@@ -65,10 +65,14 @@ before_by Plan name = name
 abbrev pub asked_before : FlashArgs → Option (List ℕ)
 asked_before given = before_by given.aim (option_map (λ t. t.now) given.before)
 
--- the files that have to be named are, and each value is of its form
+-- all of the chip is read, or its own tables tell how much an erase changes
+abbrev pub tells_its_blocks : FlashArgs → Bool
+tells_its_blocks given = not given.near || is_none given.chip.uniform && is_none given.chip.sheet
+
+-- so it is, the files that have to be named are, and each value is of its form
 abbrev pub is_well_formed : FlashArgs → Bool
 is_well_formed given =
-    read.is_well_formed (read_args given) && is_some (asked_image given) && is_some (base_of (asked_base given)) && is_some (asked_before given)
+    tells_its_blocks given && read.is_well_formed (read_args given) && is_some (asked_image given) && is_some (base_of (asked_base given)) && is_some (asked_before given)
 
 -- each value is the one that its text spells
 pub record AsksFor (given : FlashArgs) (request : FlashRequest) : Type 0 where
@@ -81,6 +85,7 @@ pub record AsksFor (given : FlashArgs) (request : FlashRequest) : Type 0 where
   pub resume : request.resume ≡ given.resume
   pub erased_only : request.erased_only ≡ given.erased_only
   pub rules : request.rules ≡ rules_of given
+  pub near : request.near ≡ given.near
   pub aim : request.aim ≡ given.aim
   pub regions : request.regions.now ≡ given.regions.items
   pub texts : request.texts.now ≡ given

@@ -29,6 +29,7 @@ name_text name.ErasedOnly = codes "erased-only"
 name_text name.Strict = codes "strict"
 name_text name.Partial = codes "partial"
 name_text name.Beyond = codes "beyond"
+name_text name.Near = codes "near"
 name_text name.Raw = codes "raw"
 name_text name.Fresh = codes "fresh"
 name_text name.AnySize = codes "any-size"
@@ -81,6 +82,7 @@ next_options given = concat (
     ∷ flagged name.Strict given.strict
     ∷ flagged name.Partial given.partial
     ∷ flagged name.Beyond given.beyond
+    ∷ flagged name.Near given.near
     ∷ flagged name.Raw given.raw
     ∷ flagged name.Fresh given.fresh
     ∷ flagged name.AnySize given.any_size

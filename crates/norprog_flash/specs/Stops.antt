@@ -1,5 +1,5 @@
 -- Why work isn't begun (this project's).
-use Rattle.std.specs.Prelude.{◌≡◌, ◌≢◌, ◌⊎◌, ℕ, true, length, Option, unwrap_or}
+use Rattle.std.specs.Prelude.{◌≡◌, ◌⊎◌, ℕ, true, length, Option}
 use Rattle.std.specs.Io.KnownBytes.{Appends}
 use Rattle.nor_base.specs.Device.{Cuts}
 use Rattle.nor_job.specs.declared.fault.BuildFault.{BuildFault}
@@ -13,9 +13,10 @@ use Rattle.norprog_flash.specs.declared.ending.Unflashed.{Unflashed}
 use Rattle.norprog_flash.specs.declared.ending.Unflashed.TheVariants.{Refused, Device, Unlike, Closed}
 use Rattle.norprog_flash.specs.declared.job.Job.{Job}
 use Rattle.norprog_flash.specs.Begun.{ask_of, IsPlanOf, Printed, is_closed, rules_on, start_at}
+use Rattle.norprog_flash.specs.Dump.{AreOfPart}
 use Rattle.norprog_flash.specs.Near.{IsNear, RefusesNear}
 use Rattle.norprog_flash.specs.Resumed.{IsOfAnother}
-use Rattle.norprog_flash.specs.Task.{dump_of, task_on}
+use Rattle.norprog_flash.specs.Task.{dump_of, first_held, task_on}
 use Rattle.norprog_flash.specs.Way.{plan_text, work_text}
 use Rattle.norprog_read.specs.declared.asked.Ask.{Ask}
 use Rattle.norprog_read.specs.declared.asked.Reading.{Reading}
@@ -55,16 +56,15 @@ pub data StopsBefore (most : ℕ) (before after : Wire) (job : Job) : Unflashed 
 
 -- why work on a chip that was read isn't begun, by what was printed till then
 pub data CantPlan (job : Job) (r : Reading) (out : Printed) : Refusal → Type 0 where
-  -- the dump from which it is resumed hasn't the chip's length
-  OtherSize : length (unwrap_or (dump_of job) r.content.items) ≢ length r.content.items → out.after ≡ out.before
-      → CantPlan job r out (Build ContentSize)
-  -- a blank image has no place in memory
+  -- the dump from which it is resumed isn't of just the part that was read
+  OtherPart : (AreOfPart (dump_of job) r.span r.content.items → ⊥) → out.after ≡ out.before → CantPlan job r out (Build ContentSize)
+  -- a blank image, or what the chip held before, has no place in memory
   NoPlace : out.after ≡ out.before → CantPlan job r out (Build Memory)
   -- it can't be planned
-  Unplanned : (fault : BuildFault) → RefusesWork (task_on job r) r.content.items (unwrap_or (dump_of job) r.content.items) fault
+  Unplanned : (fault : BuildFault) → RefusesWork (task_on job r) r.content.items (first_held job r) fault
       → out.after ≡ out.before → CantPlan job r out (Build fault)
   -- the plan was printed, and the chip isn't the one of that dump
-  OnAnother : (p : Plan) → IsPlanOf job r p → IsOfAnother r.meaning r.content.items (unwrap_or (dump_of job) r.content.items) p.goal
+  OnAnother : (p : Plan) → IsPlanOf job r p → IsOfAnother r.meaning r.content.items (first_held job r) p.goal
       → Appends out.before out.after (plan_text job p.lines p.report) → CantPlan job r out (File file.Resume)
   -- the plan, or how to go on, wasn't all printed
   Unprinted : (p : Plan) → IsPlanOf job r p → Cuts out.before out.after (work_text job r p) → CantPlan job r out (Build Write)

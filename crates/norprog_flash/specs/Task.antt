@@ -1,5 +1,5 @@
 -- The task of a command that reads a chip itself (this project's).
-use Rattle.std.specs.Prelude.{Bool, true, false, List, ℕ, length, replicate, Some, None, Option, option_map, unwrap_or}
+use Rattle.std.specs.Prelude.{Bool, true, false, List, ℕ, length, replicate, Some, None, Option, option_map}
 use Rattle.std.specs.List.{enumerate_from}
 use Rattle.nor_hex.specs.Image.{Pairs}
 use Rattle.nor_job.specs.Task.{Task}
@@ -7,7 +7,9 @@ use Rattle.nor_job.specs.Wanted.{wanted}
 use Rattle.nor_layout.specs.Region.{Region}
 use Rattle.norprog_common.specs.declared.given.Aim.{Aim}
 use Rattle.norprog_common.specs.declared.given.Aim.TheVariants.{Work, Plan, Compare}
+use Rattle.norprog_flash.specs.declared.dump.Dump.{Dump}
 use Rattle.norprog_flash.specs.declared.job.Job.{Job}
+use Rattle.norprog_flash.specs.Dump.{older}
 use Rattle.norprog_read.specs.declared.asked.Reading.{Reading}
 use Rattle.norprog_read.specs.Chip.{task_chip}
 
@@ -53,10 +55,14 @@ works Work = true
 works Plan = false
 works Compare = false
 
--- the older dump whose rest is wanted, where there is one
-abbrev pub dump_of : Job → Option (List ℕ)
-dump_of job = option_map (λ bytes. bytes.now) job.old
+-- the older dump, where work is resumed
+abbrev pub dump_of : Job → Option Dump
+dump_of job = option_map (λ dump. dump.now) job.old
 
--- the target of what a chip holds or, where work is resumed, of the older dump
-abbrev pub goal_of : Task → Pairs → List Region → Option (List ℕ) → List ℕ → List ℕ
-goal_of t image regions dump content = wanted t image regions (unwrap_or dump content)
+-- what the chip of a job held before work on it was begun, of what it gave
+abbrev pub first_held : Job → Reading → List ℕ
+first_held job r = older (dump_of job) r.content.items
+
+-- the target of what a chip held before work on it was begun
+abbrev pub goal_of : Task → Pairs → List Region → Option Dump → List ℕ → List ℕ
+goal_of t image regions dump content = wanted t image regions (older dump content)

@@ -1,6 +1,6 @@
 //! A chip that is read, and planned for.
 
-ghost use Rattle.std.specs.Prelude.{◌≡◌, ◌⊎◌, [], ◌∷◌, true, length, unwrap_or};
+ghost use Rattle.std.specs.Prelude.{◌≡◌, ◌⊎◌, [], ◌∷◌, true, length, option_map, unwrap_or};
 ghost use Rattle.std.specs.Prelude.{ℕ, List, Option, IfOk, IfErr, MatchResult, Ok};
 ghost use Rattle.nor_base.specs.declared.step.Step.{Step};
 ghost use Rattle.nor_job.specs.Status.{start_of};
@@ -8,10 +8,11 @@ ghost use Rattle.nor_job.specs.declared.fault.BuildFault.TheVariants.{Memory};
 ghost use Rattle.norprog_common.specs.declared.faults.Refusal.TheVariants.{Build};
 ghost use Rattle.norprog_common.specs.Rules.{BreaksRules, MeetsRules};
 ghost use Rattle.nor_base.specs.Wire.{wire};
-ghost use Rattle.norprog_flash.specs.Begun.{ask_of, HasRead, IsPlanOf, PrintsPlan, is_closed};
-ghost use Rattle.norprog_flash.specs.Begun.{printed};
+ghost use Rattle.norprog_flash.specs.Begun.{ask_of, copy_of, HasRead, IsPlanOf, PrintsPlan};
+ghost use Rattle.norprog_flash.specs.Begun.{is_closed, printed};
 ghost use Rattle.norprog_flash.specs.Begun.{rules_on, start_at};
-ghost use Rattle.norprog_flash.specs.Task.{dump_of, flash_task, task_on};
+ghost use Rattle.norprog_flash.specs.Dump.{AreOfPart};
+ghost use Rattle.norprog_flash.specs.Task.{dump_of, first_held, flash_task, task_on};
 ghost use Rattle.norprog_flash.specs.Work.{plan_of};
 ghost use Rattle.nor_reader.specs.AtOnce.{at_once};
 ghost use Rattle.nor_reader.specs.Harmless.{HasSentHarmless, SendsHarmless};
@@ -20,6 +21,7 @@ ghost use Rattle.norprog_flash.specs.Opened.{HasHeld, StopsHolding};
 ghost use Rattle.norprog_flash.specs.Stops.{CantPlan, StopsBefore};
 
 use crate::blank::blank_image;
+use crate::dump::{copy_of, is_of_part, laid};
 use crate::ending::Unflashed;
 use crate::job::{Job, inputs_for};
 use crate::near::near_for;
@@ -39,6 +41,9 @@ use std::alloc::Global;
 #[derive(Drop)]
 pub struct Held {
     pub reading: Reading,
+    /// What is to be saved in place of its content, where only a part of that was read: the part,
+    /// as Intel HEX.
+    pub copy: Option<Vec<u8>>,
     /// How it is read back.
     pub by: ReadBy,
 }
@@ -59,6 +64,8 @@ pub fn hold<R: ByteIn, W: ByteOut, P: ByteOut>(
         (wire (W.held to.new) (R.ahead from.new)) held.reading
         × GivesBy held.reading.meaning
         (start_of (task_on job.now held.reading)) held.by) }
+    ensures copy { IfOk result
+        (λ held. option_map (λ text. text.items) held.copy ≡ copy_of job.now held.reading) }
     ensures stops { IfErr result (StopsHolding limits.now job.now
         (wire (W.held to.old) (R.ahead from.old))
         (wire (W.held to.new) (R.ahead from.new))) }
@@ -84,18 +91,15 @@ pub(crate) fn print_plan<O: ByteOut>(
         (CantPlan job.now reading.now (printed (O.held out.old) (O.held out.new))) }
     ensures out_count { IfOk result (λ _. O.count out.new ≡ O.count out.old) }
 {
-    let work = plan_for(alloc, job, reading)?;
+    let held = reading.content.as_slice();
+    let laid = laid_on(alloc, job, reading)?;
+    let old = first_held(&laid, held);
+    let work = plan_for(alloc, job, reading, old)?;
     match write_plan(job, &work, out) {
         Ok(()) => {}
         Err(_) => return Err(Refusal::WRITE),
     }
-    let held = reading.content.as_slice();
-    if !is_of_dump(
-        &reading.meaning,
-        held,
-        older(job, held),
-        work.goal.as_slice(),
-    ) {
+    if !is_of_dump(&reading.meaning, held, old, work.goal.as_slice()) {
         return Err(Refusal::File(FileName::Resume));
     }
     match write_last(job, reading, work.report.steps, out) {
@@ -104,18 +108,16 @@ pub(crate) fn print_plan<O: ByteOut>(
     }
 }
 
-/// Plans for a chip that was read.
-fn plan_for(alloc: Global, job: &Job<'_>, reading: &Reading) -> Result<Work, Refusal>
+/// Plans for a chip that was read, and that held these bytes before work on it was begun.
+fn plan_for(alloc: Global, job: &Job<'_>, reading: &Reading, old: &[u8]) -> Result<Work, Refusal>
+    requires old { old.now ≡ first_held job.now reading.now }
+    requires size { length old.now ≡ length reading.now.content.items }
     ensures work { IfOk result
         (λ work. (steps : List Step) × IsPlanOf job.now reading.now (plan_of work steps)) }
     ensures refused { IfErr result (λ why. (text : Option (List ℕ))
         → CantPlan job.now reading.now (printed text text) why) }
 {
     let content = reading.content.as_slice();
-    let old = older(job, content);
-    if old.len() != content.len() {
-        return Err(Refusal::Build(BuildFault::ContentSize));
-    }
     let image = blank_image(alloc, job.blank, content.len())?;
     let inputs = inputs_for(job, reading.tables.as_slice(), &image);
     match work_for(alloc, &inputs, content, old) {
@@ -124,12 +126,36 @@ fn plan_for(alloc: Global, job: &Job<'_>, reading: &Reading) -> Result<Work, Ref
     }
 }
 
-/// The bytes whose rest is wanted: the older dump's where work is resumed, else the content.
-fn older<'a>(job: &Job<'a>, content: &'a [u8]) -> &'a [u8]
-    ensures { result.now ≡ unwrap_or (dump_of job.now) content.entry.now }
+/// What a chip held before work on it was begun, where work is resumed: what it gave, with the
+/// older dump in its place, which has to be of just the part that was read.
+fn laid_on(alloc: Global, job: &Job<'_>, reading: &Reading) -> Result<Option<Vec<u8>>, Refusal>
+    ensures laid { IfOk result (λ laid. unwrap_or (option_map (λ all. all.items) laid)
+        reading.now.content.items ≡ first_held job.now reading.now) }
+    ensures fits { IfOk result
+        (λ _. AreOfPart (dump_of job.now) reading.now.span reading.now.content.items) }
+    ensures refused { IfErr result (λ why. (text : Option (List ℕ))
+        → CantPlan job.now reading.now (printed text text) why) }
 {
-    match job.old {
-        Some(old) => old,
+    let Some(dump) = job.old else {
+        return Ok(None);
+    };
+    let content = reading.content.as_slice();
+    if !is_of_part(dump, reading.span, content) {
+        return Err(Refusal::Build(BuildFault::ContentSize));
+    }
+    match laid(alloc, dump, content) {
+        Ok(all) => Ok(Some(all)),
+        Err(_) => Err(Refusal::MEMORY),
+    }
+}
+
+/// These bytes, or in their place what a chip holds.
+fn first_held<'a>(laid: &'a Option<Vec<u8>>, content: &'a [u8]) -> &'a [u8]
+    ensures { result.now
+        ≡ unwrap_or (option_map (λ all. all.items) laid.entry.now) content.entry.now }
+{
+    match laid {
+        Some(all) => all.as_slice(),
         None => content,
     }
 }
@@ -154,6 +180,8 @@ fn read_suited<R: ByteIn, W: ByteOut, P: ByteOut>(
     ensures stops { IfErr result
         (StopsBefore (at_once limits.now) (wire (W.held to.old) (R.ahead from.old))
         (wire (W.held to.new) (R.ahead from.new)) job.now) }
+    ensures copy { IfOk result
+        (λ held. option_map (λ text. text.items) held.copy ≡ copy_of job.now held.reading) }
     ensures harmless { MatchResult result (λ _. HasSentHarmless (W.held to.old) (W.held to.new))
         (λ _. SendsHarmless (W.held to.old) (W.held to.new)) }
 {
@@ -165,7 +193,8 @@ fn read_suited<R: ByteIn, W: ByteOut, P: ByteOut>(
     }
     let by = first_by(&reading.meaning, said_start(job));
     refuse_unruled(alloc, job, &reading)?;
-    Ok(Held { reading, by })
+    let copy = copy_of(alloc, job, &reading)?;
+    Ok(Held { reading, copy, by })
 }
 
 /// What is asked of a job's chip: its content near these addresses, or all of it.

@@ -6,6 +6,7 @@ ghost use Rattle.norprog_flash.specs.Task.{imaged_task, works};
 ghost use Rattle.norprog_read.specs.Chip.{task_chip};
 ghost use Rattle.nor_job.specs.Task.{origin_of};
 
+use crate::dump::Dump;
 use nor_base::Bytes;
 use nor_hex::Image;
 use nor_job::{Inputs, Source};
@@ -18,7 +19,7 @@ pub struct Job<'a> {
     /// What is asked of the chip; its content is.
     pub ask: Ask<'a>,
     /// Only the windows are read in which the image's bytes lie, and those between. It has no
-    /// effect where work is resumed, nor where each byte of the chip is to be FFh.
+    /// effect where each byte of the chip is to be FFh.
     pub near: bool,
     /// The image, as Intel HEX text.
     pub hex: &'a [u8],
@@ -32,8 +33,8 @@ pub struct Job<'a> {
     pub regions: &'a [Bytes],
     /// Chip address 0 takes the image's byte at this address.
     pub base: u32,
-    /// What the image doesn't give, where work is resumed: the content before the first try.
-    pub old: Option<&'a [u8]>,
+    /// What the chip held before the first try, where work is resumed, of what is read.
+    pub old: Option<&'a Dump>,
     /// What the image has to give.
     pub rules: ImageRules,
     /// What is to be done with the chip.
@@ -53,7 +54,7 @@ pub(crate) fn works(aim: Aim) -> bool
 pub(crate) fn goes_near(job: &Job<'_>) -> bool
     ensures { result ≡ goes_near job.now }
 {
-    job.near && job.old.is_none() && !job.blank
+    job.near && !job.blank
 }
 
 /// Whether nothing is read past the chip's end: it may be larger than was said, or only a part of

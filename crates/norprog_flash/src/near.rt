@@ -5,8 +5,8 @@ ghost use Rattle.nor_hex.specs.Image.{Pairs};
 ghost use Rattle.nor_job.specs.Causes.{HasImage, HasRegions, RefusesInputs};
 ghost use Rattle.nor_layout.specs.Chosen.{has, is_chosen};
 ghost use Rattle.nor_layout.specs.Region.{Region};
-ghost use Rattle.norprog_flash.specs.Near.{EndsWith, Gets, GetsNone, IsNear, IsNextPiece};
-ghost use Rattle.norprog_flash.specs.Near.{IsTight, LiesIn, RefusesNear, Spans};
+ghost use Rattle.norprog_flash.specs.Near.{Gets, GetsNone, IsNear, IsNextPiece};
+ghost use Rattle.norprog_flash.specs.Near.{LiesIn, RefusesNear, Spans};
 
 use crate::job::{Job, goes_near, inputs_for};
 use nor_job::{BuildFault, Inputs, contradiction, image_of};
@@ -37,7 +37,6 @@ pub(crate) fn near_for(alloc: Global, job: &Job<'_>) -> Result<Option<Span>, Ref
 /// The refusals are those of [`nor_job::job_of`] that come before the chip.
 fn near_of(alloc: Global, inputs: &Inputs<'_>) -> Result<Span, BuildFault>
     ensures spans { IfOk result (Spans inputs.now) }
-    ensures tight { IfOk result (IsTight inputs.now) }
     ensures refused { IfErr result (λ why. (len : ℕ) → RefusesInputs inputs.now len why) }
 {
     if let Some(number) = contradiction(inputs) {
@@ -67,7 +66,6 @@ fn choose(alloc: Global, inputs: &Inputs<'_>) -> Result<Chosen, BuildFault>
 /// where none does.
 fn span_of(image: &Image, base: u32, chosen: &Chosen) -> Span
     ensures each { (a : ℕ) → Gets image.now base (has chosen.now) a → LiesIn result a }
-    ensures ends { EndsWith (Gets image.now base (has chosen.now)) result }
 {
     let mut low = usize::MAX;
     let mut high = 0;

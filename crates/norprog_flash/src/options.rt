@@ -34,6 +34,7 @@ pub(crate) enum Name {
     Strict,
     Partial,
     Beyond,
+    Near,
     Raw,
     Fresh,
     AnySize,
@@ -110,7 +111,7 @@ fn command_word(blank: bool) -> &'static [u8]
 }
 
 /// Its options.
-fn options<'a>(given: &'a FlashArgs<'a>) -> [Given<'a>; 25]
+fn options<'a>(given: &'a FlashArgs<'a>) -> [Given<'a>; 26]
     ensures { flat_map given_text result ≡ next_options given.now }
 {
     [
@@ -132,6 +133,7 @@ fn options<'a>(given: &'a FlashArgs<'a>) -> [Given<'a>; 25]
         Given::Flag(Name::Strict, given.strict),
         Given::Flag(Name::Partial, given.partial),
         Given::Flag(Name::Beyond, given.beyond),
+        Given::Flag(Name::Near, given.near),
         Given::Flag(Name::Raw, given.raw),
         Given::Flag(Name::Fresh, given.fresh),
         Given::Flag(Name::AnySize, given.any_size),
@@ -266,6 +268,7 @@ fn name_text(name: Name) -> &'static [u8]
         Name::Strict => b"strict",
         Name::Partial => b"partial",
         Name::Beyond => b"beyond",
+        Name::Near => b"near",
         Name::Raw => b"raw",
         Name::Fresh => b"fresh",
         Name::AnySize => b"any-size",

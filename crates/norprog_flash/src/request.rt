@@ -2,6 +2,7 @@
 
 ghost use Rattle.std.specs.Prelude.{◌≡◌, is_some, option_map, IfSome};
 ghost use Rattle.norprog_flash.specs.Request.{asked_before, asked_image, is_well_formed};
+ghost use Rattle.norprog_flash.specs.Request.{tells_its_blocks};
 ghost use Rattle.norprog_flash.specs.Request.{read_args, rules_of};
 ghost use Rattle.norprog_common.specs.Image.{image_in};
 ghost use Rattle.norprog_flash.specs.Request.{AsksFor};
@@ -25,11 +26,14 @@ pub struct FlashRequest<'a> {
     pub base: u32,
     /// The name of the file that the content is saved in; empty where it is only compared.
     pub before: &'a str,
-    /// The name of the file that has the content before the first try, where work is resumed.
+    /// The name of the file that has what the chip held before the first try, where work is
+    /// resumed.
     pub resume: Option<&'a str>,
     pub erased_only: bool,
     /// What the image has to give.
     pub rules: ImageRules,
+    /// Whether only the part of the chip around the image's bytes is read.
+    pub near: bool,
     /// What is to be done with the chip.
     pub aim: Aim,
     pub regions: &'a [Bytes],
@@ -38,11 +42,14 @@ pub struct FlashRequest<'a> {
 }
 
 /// The request that the values spell. None where one isn't of its form, or one that has to be there
-/// isn't.
+/// isn't, or a part is to be read of a chip that its own tables don't tell.
 pub fn request_of<'a>(given: &'a FlashArgs<'a>) -> Option<FlashRequest<'a>>
     ensures forms { is_some result ≡ is_well_formed given.now }
     ensures values { IfSome result (λ request. AsksFor given.now request) }
 {
+    if !tells_its_blocks(given) {
+        return None;
+    }
     Some(FlashRequest {
         read: norprog_read::request_of(read_args(given))?,
         image: file_of(given)?,
@@ -53,10 +60,18 @@ pub fn request_of<'a>(given: &'a FlashArgs<'a>) -> Option<FlashRequest<'a>>
         resume: given.resume,
         erased_only: given.erased_only,
         rules: rules_of(given),
+        near: given.near,
         aim: given.aim,
         regions: given.regions.as_slice(),
         texts: given,
     })
+}
+
+/// Whether all of the chip is read, or its own tables tell how much an erase changes.
+fn tells_its_blocks(given: &FlashArgs<'_>) -> bool
+    ensures { result ≡ tells_its_blocks given.now }
+{
+    !given.near || (given.chip.uniform.is_none() && given.chip.sheet.is_none())
 }
 
 /// The name of the file that the content is saved in.

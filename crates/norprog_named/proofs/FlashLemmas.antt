@@ -11,10 +11,10 @@ use Rattle.norprog_common.specs.Image.{Image}
 use Rattle.norprog_common.specs.declared.faults.Refusal.{Refusal}
 use Rattle.norprog_files.specs.Files.{AreUsed, Event, NoneUsed}
 use Rattle.norprog_flash.specs.declared.request.FlashRequest.{FlashRequest}
-use Rattle.norprog_named.specs.Flash.{NoImage, OfImage, ReadsAsked, ReadsFlash, Reads_all, StillWorks, asked_files, asked_in, layout_in}
+use Rattle.norprog_named.specs.Flash.{NoImage, OfImage, ReadsAsked, ReadsFlash, Reads_all, StillWorks, asked_files, asked_in, layout_in, old_in}
 use Rattle.norprog_named.specs.Job.{Read_image, Reading, Reads, ReadsImage, ReadsNamed, image_file}
 use Rattle.norprog_named.proofs.JobLemmas.{image_used}
-use Rattle.norprog_named.specs.declared.flash_files.FlashTexts.{FlashTexts}
+use Rattle.norprog_named.specs.declared.flash_files.FlashFiles.{FlashFiles}
 
 -- the file of an image was read, or there is none
 pub asked_used : {image : Option Image} {bytes : List ℕ} {log : List Event} → ReadsAsked image bytes log → AreUsed (asked_files image) log
@@ -28,10 +28,10 @@ asked_read image (Ok bytes) log Read_image = OfImage image bytes.items
 asked_read image (Err why) log stops = stops
 
 -- all files were read
-pub reads_all : {r : FlashRequest} {held : FlashTexts} {image layout tables old : List Event} → ReadsAsked (asked_in r) held.hex.items image
-    → Reads (option_map (λ t. t.now) r.layout) (layout_in held) layout
-    → ReadsNamed (option_map origin_of r.read.chip) held.sfdp.items tables
-    → Reads (option_map (λ t. t.now) r.resume) (option_map (λ bytes. bytes.items) held.old) old → ReadsFlash r held (image ++ (layout ++ (tables ++ old)))
+pub reads_all : {r : FlashRequest} {read : FlashFiles} {image layout tables old : List Event} → ReadsAsked (asked_in r) read.hex.items image
+    → Reads (option_map (λ t. t.now) r.layout) (layout_in read) layout
+    → ReadsNamed (option_map origin_of r.read.chip) read.sfdp.items tables
+    → Reads (option_map (λ t. t.now) r.resume) (old_in read) old → ReadsFlash r read (image ++ (layout ++ (tables ++ old)))
 reads_all {image = image} {layout = layout} {tables = tables} {old = old} zeroth first second third = Reads_all image layout tables old zeroth first second third
 
 -- what fails as an answer is said had failed no more often before

@@ -1,6 +1,6 @@
 //! `flash` on its files and its device.
 
-ghost use Rattle.std.specs.Prelude.{◌≡◌, ◌&&◌, not, true, IfErr, IfOk, option_map};
+ghost use Rattle.std.specs.Prelude.{◌≡◌, ◌&&◌, not, true, IfErr, IfOk, option_map, unwrap_or};
 ghost use Rattle.norprog_common.specs.Image.{image_in};
 ghost use Rattle.norprog_device.specs.Blame.{is_cut};
 ghost use Rattle.nor_base.specs.Wire.{wire};
@@ -8,7 +8,8 @@ ghost use Rattle.norprog_files.specs.Files.{Did};
 ghost use Rattle.norprog_flash.specs.Blame.{fault_in as told_in};
 ghost use Rattle.norprog_named.specs.Flash.{EndsFlash, EndsGreeted, EndsHeld, EndsJob};
 ghost use Rattle.norprog_named.specs.Flash.{EndsReading, IsJobOf, ReadsFlash, StillWorks};
-ghost use Rattle.norprog_named.specs.Flash.{IsAskedData, ReadsAsked, RefusesAsked};
+ghost use Rattle.norprog_named.specs.Flash.{HasDump, IsAskedData, ReadsAsked, RefusesAsked};
+ghost use Rattle.norprog_named.specs.Flash.{RefusesOld};
 ghost use Rattle.norprog_named.specs.Flash.{asked_files, asked_in, file_for, flash_files};
 ghost use Rattle.norprog_flash.specs.Begun.{printed};
 ghost use Rattle.norprog_named.specs.Flash.{reading_of};
@@ -22,11 +23,25 @@ use nor_serprog::{Limits, greet};
 use norprog_common::{Aim, FileName, ImageData, ImageFile, Refusal, image_data};
 use norprog_device::{DeviceFault, is_cut, let_go};
 use norprog_files::{Files, Trail};
-use norprog_flash::{Ending, FlashRequest, Job, Unflashed, fault_in, go_on, hold, look_at};
+use norprog_flash::{
+    Dump, Ending, FlashRequest, Held, Job, Unflashed, dump_in, fault_in, go_on, hold, look_at,
+};
 use norprog_read::{Ask, ReadRequest, ask_of};
 use std::alloc::Global;
 
-/// What the files of a request hold.
+/// The bytes of the files of a request, of the image's files those of the first.
+#[derive(Drop)]
+struct FlashFiles {
+    hex: Vec<u8>,
+    layout: Option<Vec<u8>>,
+    /// The tables; nothing where no file of them is named.
+    sfdp: Vec<u8>,
+    /// The content before the first try, where work is resumed; HEX of a part of it where only
+    /// that is read.
+    old: Option<Vec<u8>>,
+}
+
+/// What a job is made of.
 #[derive(Drop)]
 pub(crate) struct FlashTexts {
     /// The text of the image's one file of Intel HEX.
@@ -34,10 +49,8 @@ pub(crate) struct FlashTexts {
     /// In place of that the image of a raw file, or of several files.
     pub(crate) image: Option<Image>,
     pub(crate) layout: Option<Vec<u8>>,
-    /// The tables; nothing where no file of them is named.
     pub(crate) sfdp: Vec<u8>,
-    /// The content before the first try, where work is resumed.
-    pub(crate) old: Option<Vec<u8>>,
+    pub(crate) old: Option<Dump>,
 }
 
 /// Programs the chip behind a device (docs/FORMATS.md, sections 9 and 14): reads it, saves what it
@@ -81,13 +94,13 @@ fn read_texts<F: Files>(
         (EndsReading request.now result) }
 {
     let read = read_files(alloc, files, trail, request)?;
-    let FlashTexts {
+    let FlashFiles {
         hex: bytes,
         layout,
         sfdp,
         old,
-        ..
     } = read;
+    let old = dump_of(alloc, old, request.near)?;
     let lay = bytes_in(&layout);
     let first = asked_data(alloc, request, lay, bytes)?;
     let whole = whole_image(
@@ -107,6 +120,17 @@ fn read_texts<F: Files>(
         sfdp,
         old,
     })
+}
+
+/// The dump that an older content's file has, of all of the chip or of a part, where there is one.
+fn dump_of(alloc: Global, bytes: Option<Vec<u8>>, part: bool) -> Result<Option<Dump>, Refusal>
+    ensures dump { IfOk result (HasDump part (option_map (λ file. file.items) bytes)) }
+    ensures refused { IfErr result (RefusesOld part (option_map (λ file. file.items) bytes)) }
+{
+    match bytes {
+        Some(bytes) => Ok(Some(dump_in(alloc, bytes, part)?)),
+        None => Ok(None),
+    }
 }
 
 /// What the image's file gives that has these bytes.
@@ -144,13 +168,13 @@ fn read_asked<F: Files>(
     }
 }
 
-/// The same, with the bytes of the image's first file in place of what they give.
+/// Reads these files whole, except the further ones of the image.
 fn read_files<F: Files>(
     alloc: Global,
     files: &F,
     trail: &mut F::Trail,
     request: &FlashRequest<'_>,
-) -> Result<FlashTexts, Refusal>
+) -> Result<FlashFiles, Refusal>
     ensures { Did (F.Trail.did trail.old) (F.Trail.did trail.new)
         (Reading (flash_files request.now) (ReadsFlash request.now) result) }
 {
@@ -158,9 +182,8 @@ fn read_files<F: Files>(
     let layout = read_named(alloc, files, trail, request.layout, FileName::Layout)?;
     let sfdp = read_chip(alloc, files, trail, request.read.chip)?;
     let old = read_named(alloc, files, trail, request.resume, FileName::Resume)?;
-    Ok(FlashTexts {
+    Ok(FlashFiles {
         hex,
-        image: None,
         layout,
         sfdp,
         old,
@@ -183,8 +206,8 @@ fn job_for<'a>(request: &'a FlashRequest<'_>, texts: &'a FlashTexts) -> Job<'a>
         layout: bytes_in(&texts.layout),
         regions: request.regions,
         base: request.base,
-        old: bytes_in(&texts.old),
-        near: false,
+        old: texts.old.as_ref(),
+        near: request.near,
         rules: request.rules,
         aim: request.aim,
         texts: request.texts,
@@ -277,6 +300,17 @@ fn file_for<'a>(job: &Job<'_>, before: &'a str) -> Option<&'a str>
     }
 }
 
+/// What is saved of a chip that was read: the part that was, or all that it holds.
+fn saved<'a>(held: &'a Held) -> &'a [u8]
+    ensures { result.now ≡ unwrap_or (option_map (λ text. text.items) held.now.copy)
+        held.now.reading.content.items }
+{
+    match &held.copy {
+        Some(text) => text.as_slice(),
+        None => held.reading.content.as_slice(),
+    }
+}
+
 /// Reads the chip of a device, saves what it holds in a new file, and then has the work done.
 fn flash_held<F: Files, O: ByteOut, P: ByteOut>(
     alloc: Global,
@@ -298,7 +332,7 @@ fn flash_held<F: Files, O: ByteOut, P: ByteOut>(
     ensures works { StillWorks result (O.count out.old) (O.count out.new) }
 {
     let held = hold(alloc, from, to, limits, job, progress)?;
-    let content = held.reading.content.as_slice();
+    let content = saved(&held);
     let path = file_for(job, before);
     save_if(alloc, files, trail, path, FileName::Before, content)?;
     match go_on(alloc, from, to, limits, job, &held, out, progress) {

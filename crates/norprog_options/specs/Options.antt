@@ -167,6 +167,7 @@ pub record IsFlashIn (found : Found) (given : FlashArgs) : Type 0 where
   pub aim : AimsIn found given.aim
   pub all : Sets found (codes "all") given.all
   pub list : Sets found (codes "list") given.list
+  pub near : Sets found (codes "near") given.near
   pub raw : Sets found (codes "raw") given.raw
   pub fresh : Sets found (codes "fresh") given.fresh
   pub any_size : Sets found (codes "any-size") given.any_size

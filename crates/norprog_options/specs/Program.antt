@@ -100,7 +100,7 @@ commands =
     ∷ (codes "draw", script ++ optional (codes "from") ∷ optional (codes "steps") ∷ needed (codes "out") ∷ flag (codes "force") ∷ details)
     ∷ (codes "play", chip ++ content ++ start ++ script ++ needed (codes "device") ∷ optional (codes "limit") ∷ flag (codes "trust") ∷ details)
     ∷ (codes "read", chip ++ device ++ optional (codes "tables") ∷ optional (codes "out") ∷ details)
-    ∷ (codes "flash", image ++ chip ++ image_rules ++ device ++ work ++ details)
+    ∷ (codes "flash", image ++ chip ++ image_rules ++ device ++ work ++ flag (codes "near") ∷ details)
     ∷ (codes "erase", erased ++ chip ++ device ++ work ++ flag (codes "all") ∷ details)
     ∷ (codes "compare", image ++ chip ++ image_rules ++ device ++ details)
     ∷ (codes "sfdp", chip ++ details)

@@ -1,22 +1,17 @@
 //! The commands and their options, with help, as data.
 
-ghost use Rattle.std.specs.Prelude.{◌≡◌, map, IfOk, false, Some};
-ghost use Rattle.clap.specs.Words.{app_of, rule_of};
-ghost use Rattle.norprog_options.specs.Program.{commands, program};
-ghost use Rattle.norprog_options.specs.Table.{alone, command_of, each_of, option_of};
-ghost use Rattle.norprog_options.specs.Table.{options_of, with_options};
-
-use clap::{Arg, ArgAction, Command};
-use std::alloc::{AllocError, Global};
+ghost use Rattle.std.specs.Prelude.{◌≡◌, map};
+ghost use Rattle.norprog_options.specs.Program.{commands};
+ghost use Rattle.norprog_options.specs.Table.{command_of, each_of, option_of, options_of};
 
 /// The version, the commit and the kit; `make build` writes the commit over the zeros of the
 /// program that it has built.
-const VERSION: &str =
+pub(crate) const VERSION: &str =
     "1.0.0\ncommit 0000000000000000000000000000000000000000\nrattle-kit-13f logic dac8208d650f15bf";
 
 /// What is written behind an option, with the name that the help has for it.
 #[derive(Clone, Copy)]
-enum Takes {
+pub(crate) enum Takes {
     /// Nothing: it is there or not.
     Nothing,
     /// A file's name.
@@ -31,16 +26,16 @@ enum Takes {
 
 /// An option of a command.
 #[derive(Clone, Copy)]
-struct Choice {
-    name: &'static str,
-    takes: Takes,
-    required: bool,
-    help: &'static str,
+pub(crate) struct Choice {
+    pub name: &'static str,
+    pub takes: Takes,
+    pub required: bool,
+    pub help: &'static str,
 }
 
 /// Options that commands have in common.
 #[derive(Clone, Copy)]
-enum Group {
+pub(crate) enum Group {
     /// What is to stand on the chip.
     Image,
     /// What of it is to be erased.
@@ -67,12 +62,12 @@ enum Group {
 
 /// A command: its options in common with others, and then its own.
 #[derive(Clone, Copy)]
-struct Form {
-    name: &'static str,
-    about: &'static str,
-    example: &'static str,
-    groups: &'static [Group],
-    choices: &'static [Choice],
+pub(crate) struct Form {
+    pub name: &'static str,
+    pub about: &'static str,
+    pub example: &'static str,
+    pub groups: &'static [Group],
+    pub choices: &'static [Choice],
 }
 
 const HEX: Choice = Choice {
@@ -376,6 +371,13 @@ const BEYOND: Choice = Choice {
     help: "Bytes of the image may lie off the chip [default: none]",
 };
 
+const NEAR: Choice = Choice {
+    name: "near",
+    takes: Takes::Nothing,
+    required: false,
+    help: "Read, save and program only around the image's bytes [default: no]",
+};
+
 const MAP: Choice = Choice {
     name: "map",
     takes: Takes::File,
@@ -651,7 +653,7 @@ static FORMS: [Form; 15] = [
             Group::Device,
             Group::Work,
         ],
-        choices: &[],
+        choices: &[NEAR],
     },
     Form {
         name: "erase",
@@ -699,31 +701,15 @@ static FORMS: [Form; 15] = [
     },
 ];
 
-/// The program with its commands.
-pub(crate) fn norprog<'a>(alloc: Global) -> Result<Command<'a>, AllocError>
-    ensures { IfOk result (λ command. app_of command ≡ program) }
-{
-    let mut program = Command::new(alloc, "norprog")
-        .bin_name("norprog")?
-        .about("Programs a SPI NOR flash chip by a bus script")
-        .no_binary_name(true)
-        .subcommand_required(true)
-        .version(VERSION);
-    for form in forms() {
-        program = program.subcommand(command_of(alloc, form)?)?;
-    }
-    Ok(program)
-}
-
 /// The commands' forms.
-fn forms() -> &'static [Form]
+pub(crate) fn forms() -> &'static [Form]
     ensures { map command_of result.now ≡ commands }
 {
     &FORMS
 }
 
 /// The options of a group.
-fn choices_of(group: Group) -> &'static [Choice]
+pub(crate) fn choices_of(group: Group) -> &'static [Choice]
     ensures { map option_of result.now ≡ options_of group }
 {
     match group {
@@ -741,74 +727,9 @@ fn choices_of(group: Group) -> &'static [Choice]
     }
 }
 
-/// A command with its options.
-fn command_of<'a>(alloc: Global, form: &Form) -> Result<Command<'a>, AllocError>
-    ensures { IfOk result (λ command. app_of command ≡ alone (command_of form.now)) }
-{
-    let mut command = Command::new(alloc, form.name)
-        .about(form.about)
-        .after_help(form.example);
-    for group in form.groups {
-        command = with_choices(alloc, command, choices_of(*group))?;
-    }
-    command = with_choices(alloc, command, form.choices)?;
-    with_choices(alloc, command, each_has(form))
-}
-
 /// The options that a command has as every other.
-fn each_has(form: &Form) -> &'static [Choice]
+pub(crate) fn each_has(form: &Form) -> &'static [Choice]
     ensures { map option_of result.now ≡ each_of form.now.name.now }
 {
     if form.name == "explain" { &[] } else { EACH }
-}
-
-/// A command with more options.
-fn with_choices<'a>(
-    alloc: Global,
-    command: Command<'a>,
-    choices: &[Choice],
-) -> Result<Command<'a>, AllocError>
-    ensures { IfOk result (λ more. app_of more
-        ≡ with_options (app_of command.entry) (map option_of choices.now)) }
-{
-    let mut command = command;
-    for choice in choices {
-        command = command.arg(argument_of(alloc, choice))?;
-    }
-    Ok(command)
-}
-
-/// What is read for an option.
-fn argument_of<'a>(alloc: Global, choice: &Choice) -> Arg<'a>
-    ensures rule { rule_of result ≡ option_of choice.now }
-    ensures local { result.global ≡ false }
-{
-    let argument = Arg::new(alloc, choice.name).help(choice.help);
-    match choice.takes {
-        Takes::Nothing => argument.long(choice.name).action(ArgAction::SetTrue),
-        Takes::File => value(argument, choice, "F", ArgAction::Set),
-        Takes::Files => value(argument, choice, "F", ArgAction::Append),
-        Takes::Value(name) => value(argument, choice, name, ArgAction::Set),
-        Takes::Words(name) => argument
-            .value_name(name)
-            .num_args(0..)
-            .action(ArgAction::Append),
-    }
-}
-
-/// An option with a value, which is shown by this name.
-fn value<'a>(argument: Arg<'a>, choice: &Choice, name: &'static str, action: ArgAction) -> Arg<'a>
-    ensures rule { rule_of result ≡ record (rule_of argument.entry) {
-      long = Some choice.now.name.now;
-      value_names = 1;
-      action = Some action;
-      required = choice.now.required;
-    } }
-    ensures local { result.global ≡ argument.entry.global }
-{
-    argument
-        .long(choice.name)
-        .value_name(name)
-        .action(action)
-        .required(choice.required)
 }

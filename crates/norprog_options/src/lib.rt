@@ -3,6 +3,7 @@
 #![tactic(auto)]
 
 mod arguments;
+mod commands;
 mod options;
 mod typed;
 

@@ -12,7 +12,7 @@ ghost use Rattle.norprog_options.specs.Spelled.{IsRefusalOf, IsUnasked, Refuses,
 ghost use Rattle.norprog_options.specs.Spelled.{command_names, memory};
 ghost use Rattle.norprog_options.specs.Typed.{IsDetailed, IsDetailedBy};
 
-use crate::arguments::norprog;
+use crate::commands::norprog;
 use crate::typed::{TypedLine, line_in};
 use clap::error::ErrorKind;
 use clap::{ArgMatches, Error};
@@ -476,6 +476,7 @@ fn flash_in<'a>(
         blank,
         all: flash.get_flag("all"),
         list: flash.get_flag("list"),
+        near: flash.get_flag("near"),
         raw: flash.get_flag("raw"),
         fresh: flash.get_flag("fresh"),
         any_size: flash.get_flag("any-size"),

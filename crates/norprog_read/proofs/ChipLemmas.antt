@@ -11,7 +11,7 @@ use Rattle.norprog_read.specs.declared.asked.Span.{Span}
 use Rattle.norprog_read.specs.declared.mode.Modes.{Modes}
 use Rattle.norprog_read.specs.Asked.{AsksId, AsksStatus, IsDriven, IsExpected}
 use Rattle.norprog_read.specs.Chip.{chip_task, ops_by, past_end, start_by, way_by, AreAlike, GivesContent, GivesTables}
-use Rattle.norprog_read.specs.End.{may_go_on, past, GivesPast, IsOnce}
+use Rattle.norprog_read.specs.End.{past, SeesEnd}
 use Rattle.norprog_read.specs.Modes.{is_sure, mode_ops, modes_of, MakesMode}
 use Rattle.norprog_read.specs.Size.{asked_register, IsUnmoved}
 use Rattle.norprog_read.specs.Stops.{IsEnded, IsHeld, IsIdentified, IsKnown, IsMade, IsReady}
@@ -40,9 +40,9 @@ abbrev pub held : {most : ℕ} {u w : Wire} {ask : Ask} (v : Wire) (ready : IsRe
     → IsHeld most u w ask
 held v is {part} content asked read = record { part = part; content = content; between = v; ready = is; asked_for = asked; read = read }
 
-abbrev pub ended : {most : ℕ} {u w : Wire} {ask : Ask} (v : Wire) (all : IsHeld most u v ask) → IsOnce ask all.content
-    → GivesPast v w (past_end most ask all.ready.made.m all.content) (may_go_on ask) → IsEnded most u w ask
-ended v all once past = record { between = v; all = all; once = once; past = past }
+abbrev pub ended : {most : ℕ} {u w : Wire} {ask : Ask} (v : Wire) (all : IsHeld most u v ask)
+    → SeesEnd v w (past_end most ask all.ready.made.m all.content) ask all.part → IsEnded most u w ask
+ended v all end = record { between = v; all = all; end = end }
 
 -- the mode that was said and what is known of the modes are those of the tables that came
 pub ops_are : (ask : Ask) (m : Parameters) {start : Start} {bytes chip : List ℕ} {said : Bool} {modes : Modes} → said ≡ begins4 m start

@@ -1,14 +1,14 @@
 -- What a reading of a chip sends changes nothing of what the chip holds.
-use Rattle.std.proofs.Common.{◌≡◌, ℕ, Bool, true, false, List, [], ◌∷◌, Option, Result, Ok, Err, IfOk, IfErr, refl, sym, subst}
+use Rattle.std.proofs.Common.{◌≡◌, ℕ, Bool, true, false, List, [], ◌∷◌, Option, Result, Ok, Err, IfOk, IfErr, refl}
 use Rattle.std.specs.Prelude.{MatchResult}
 use Rattle.nor_base.specs.Chip.{begins4}
 use Rattle.nor_reader.specs.declared.difference.Mismatch.TheVariants.{Exchange, Differs}
 use Rattle.nor_reader.specs.declared.own.AddressRegister.{AddressRegister}
 use Rattle.nor_reader.specs.declared.own.AddressRegister.TheVariants.{Extended, Bank}
 use Rattle.nor_reader.specs.Own.{opcode_of}
-use Rattle.nor_reader.specs.Harmless.{is_harmless, HasSentHarmless, SendsHarmless}
+use Rattle.nor_reader.specs.Harmless.{is_harmless}
 use Rattle.nor_reader.specs.Telling.{opcode_to}
-use Rattle.nor_reader.proofs.HarmlessLemmas.{both_sent, id_sends, id_sent, none_sent, past_sends, past_sent, register_sends, register_sent, status_sends, status_sent, switched_sends, switched_sent, tables_none, tables_sends, tables_sent, then_sends, twice_sends, twice_sent, whole_sent}
+use Rattle.nor_reader.proofs.HarmlessLemmas.{id_sends, id_sent, past_sends, past_sent, register_sends, register_sent, status_sends, status_sent, switched_sends, switched_sent, tables_none, tables_sends, tables_sent, twice_sends, twice_sent}
 use Rattle.nor_serprog.specs.declared.fault.Reason.TheVariants as reason
 use Rattle.nor_base.specs.Wire.{Wire}
 use Rattle.norprog_read.specs.declared.asked.Ask.{Ask}
@@ -19,7 +19,7 @@ use Rattle.norprog_read.specs.declared.mode.Modes.{Modes}
 use Rattle.norprog_read.specs.Asked as asked
 use Rattle.norprog_read.specs.Asked.{AsksId, AsksStatus, StopsId, StopsStatus}
 use Rattle.norprog_read.specs.End as end
-use Rattle.norprog_read.specs.End.{may_go_on, GivesPast, Past, StopsEnd}
+use Rattle.norprog_read.specs.End.{few, GivesPast, Past, SeesEnd, StopsEnd}
 use Rattle.norprog_read.specs.Chip.{start_by, Come, GivesContent, GivesTables, HasReadChip, Unsigned}
 use Rattle.norprog_read.specs.Modes as modes
 use Rattle.norprog_read.specs.Modes.{mode_ops, modes_of, switch_to, HasDone, MakesMode, StopsMode}
@@ -27,29 +27,11 @@ use Rattle.norprog_read.specs.Size as size
 use Rattle.norprog_read.specs.Size.{AsksRegister, IsUnmoved, StopsMoved}
 use Rattle.norprog_read.specs.Stops as stops
 use Rattle.norprog_read.specs.Stops.{IsEnded, IsHeld, IsIdentified, IsKnown, IsMade, IsReady, StopsAsked, StopsChip, StopsContent}
+use Rattle.norprog_read.specs.declared.asked.Span.{Span}
 use Rattle.norprog_read.specs.Span.{came as came_of}
 use Rattle.norprog_read.specs.Way.{twice_of, Way}
 use Rattle.norprog_read.proofs.ChipLemmas as came
-
--- between two moments of the wire
-abbrev Sent : Wire → Wire → Type 0
-Sent u v = HasSentHarmless u.held v.held
-
-abbrev Sends : Wire → Wire → Type 0
-Sends u v = SendsHarmless u.held v.held
-
-both : (u v w : Wire) → Sent u v → Sent v w → Sent u w
-both u v w one two = both_sent u.held v.held w.held one two
-
-then_ : (u v w : Wire) → Sent u v → Sends v w → Sends u w
-then_ u v w one two = then_sends u.held v.held w.held one two
-
-whole : (u v : Wire) → Sent u v → Sends u v
-whole u v one = whole_sent u.held v.held one
-
--- nothing was sent
-stays : (u v : Wire) → v ≡ u → Sent u v
-stays u v same = subst (λ (x : Wire). Sent u x) (sym same) (none_sent u.held)
+use Rattle.norprog_read.proofs.SentLemmas.{again_sends, again_sent, both, differs_sent, stays, then_, whole, Sends, Sent}
 
 status_read : (u v : Wire) (ask : Ask) (status : ℕ) → AsksStatus u v ask (Ok status) → Sent u v
 status_read u v ask status p = status_sent ask.part u.held v.held u.ahead v.ahead status ask.turns p
@@ -70,10 +52,18 @@ gives_past : (u v : Wire) (p : Past) (any : Bool) → GivesPast u v p any → Se
 gives_past u v p false gives = past_sent p.reads u.held v.held u.ahead v.ahead p.content gives
 gives_past u v p true gives = stays u v gives
 
-stops_end : (u v : Wire) (p : Past) (ask : Ask) (why : Unread) → StopsEnd u v p ask why → Sends u v
-stops_end u v p ask why (end.Alike none many repeats) = whole u v (stays u v none)
-stops_end u v p ask why (end.Lost fault sized is) = past_sends p.reads u.held v.held u.ahead v.ahead p.content (Exchange fault) is
-stops_end u v p ask why (end.Other d sized is) = past_sends p.reads u.held v.held u.ahead v.ahead p.content (Differs d) is
+sees_end : (u v : Wire) (p : Past) (ask : Ask) (part : Span) → SeesEnd u v p ask part → Sent u v
+sees_end u v p ask part (end.Whole all once past) = gives_past u v p ask.any_size past
+sees_end u v p ask part (end.MayBeTwice near may none) = stays u v none
+sees_end u v p ask part (end.Blank near blank none) = stays u v none
+sees_end u v p ask part (end.Elsewhere near c away d is) = differs_sent (few p.reads) u v c d is
+
+stops_end : (u v : Wire) (p : Past) (ask : Ask) (part : Span) (why : Unread) → StopsEnd u v p ask part why → Sends u v
+stops_end u v p ask part why (end.Alike all none many repeats) = whole u v (stays u v none)
+stops_end u v p ask part why (end.Lost fault all sized is) = past_sends p.reads u.held v.held u.ahead v.ahead p.content (Exchange fault) is
+stops_end u v p ask part why (end.Other d all sized is) = past_sends p.reads u.held v.held u.ahead v.ahead p.content (Differs d) is
+stops_end u v p ask part why (end.Twice c near many away is) = whole u v (again_sent (few p.reads) u v c is)
+stops_end u v p ask part why (end.LostThere c fault near many away is) = again_sends (few p.reads) u v c fault is
 
 -- the mode is made by operations that change nothing
 to_harmless : (said : Bool) → is_harmless (opcode_to said ∷ []) ≡ true
@@ -160,13 +150,13 @@ held : (most : ℕ) (u w : Wire) (ask : Ask) → IsHeld most u w ask → Sent u 
 held most u w ask p = both u p.between w (ready most u p.between ask p.ready) (gives_content _ p.between w ask.content p.content p.read)
 
 ended : (most : ℕ) (u w : Wire) (ask : Ask) → IsEnded most u w ask → Sent u w
-ended most u w ask p = both u p.between w (held most u p.between ask p.all) (gives_past p.between w _ (may_go_on ask) p.past)
+ended most u w ask p = both u p.between w (held most u p.between ask p.all) (sees_end p.between w _ ask p.all.part p.end)
 
 read_sent : (most : ℕ) (u w : Wire) (ask : Ask) (r : Reading) → HasReadChip most u w ask r → Sent u w
 read_sent most u w ask r p =
     both u p.ended w
     (ended most u p.ended ask (came.ended p.held (came.held p.ready (came.ready p.made (came.made p.known (came.known p.identified
-    (came.identified p.asked p.first r.id p.idle p.id p.driven p.expected) p.tables p.alike) p.means p.mode) p.unmoved) r.content.items p.asked_for p.content) p.once p.past))
+    (came.identified p.asked p.first r.id p.idle p.id p.driven p.expected) p.tables p.alike) p.means p.mode) p.unmoved) r.content.items p.asked_for p.content) p.end))
     (id_read p.ended w r.id p.again)
 
 chip_sends : (most : ℕ) (u w : Wire) (ask : Ask) (why : Unread) → StopsChip most u w ask why → Sends u w
@@ -183,7 +173,7 @@ chip_sends most u w ask why (stops.AtMode v is m of means p) =
     then_ u v w (known most u v ask is) (stops_mode v w ask ask.content (begins4 m (start_by ask)) (modes_of ask.known is.chip m) of p)
 chip_sends most u w ask why (stops.AtRegister v is of p) = then_ u v w (made most u v ask is) (stops_moved v w _ of p)
 chip_sends most u w ask why (stops.AtContent v is part of wanted asked p) = then_ u v w (ready most u v ask is) (stops_content _ v w of p)
-chip_sends most u w ask why (stops.AtPast v is of p) = then_ u v w (held most u v ask is) (stops_end v w _ ask of p)
+chip_sends most u w ask why (stops.AtPast v is of p) = then_ u v w (held most u v ask is) (stops_end v w _ ask is.part of p)
 chip_sends most u w ask why (stops.AtEnd v is of p) = then_ u v w (ended most u v ask is) (stops_id v w of p)
 chip_sends most u w ask why (stops.OtherId v is other p differs) = then_ u v w (ended most u v ask is) (whole v w (id_read v w other p))
 chip_sends most u w ask why (stops.AtLine v is p hides) = then_ u v w (ended most u v ask is) (whole v w (id_read v w _ p))

@@ -4,5 +4,7 @@ mod CameLemmas
 mod PartLemmas
 mod LawLemmas
 pub mod ReadLemmas
+mod SentLemmas
+mod EndLemmas
 mod HarmlessLemmas
 mod LineLemmas

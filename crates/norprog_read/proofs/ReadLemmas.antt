@@ -17,6 +17,7 @@ use Rattle.norprog_read.specs.declared.asked.Ask.{Ask}
 use Rattle.norprog_read.specs.declared.asked.Known.{Known}
 use Rattle.norprog_read.specs.declared.asked.Known.TheVariants as known
 use Rattle.norprog_read.specs.declared.asked.Reading.{Reading}
+use Rattle.norprog_read.specs.declared.asked.Span.{Span}
 use Rattle.norprog_read.specs.declared.fault.Unread.{Unread}
 use Rattle.norprog_read.specs.declared.fault.Unread.TheVariants.{Refused, Device, Unlike}
 use Rattle.norprog_device.specs.declared.fault.DeviceFault.TheVariants.{Greet, Line}
@@ -139,10 +140,12 @@ of_content how v w why (stops.Lost content fault p) = tt
 of_content how v w why (stops.Other content d p) = tt
 of_content how v w why (stops.Hidden content unsure twice hides) = tt
 
-of_end : (v w : Wire) (past : Past) (ask : Ask) (why : Unread) → StopsEnd v w past ask why → IsOfChip why
-of_end v w past ask why (end.Alike none many repeats) = tt
-of_end v w past ask why (end.Lost fault sized p) = tt
-of_end v w past ask why (end.Other d sized p) = tt
+of_end : (v w : Wire) (past : Past) (ask : Ask) (part : Span) (why : Unread) → StopsEnd v w past ask part why → IsOfChip why
+of_end v w past ask part why (end.Alike all none many repeats) = tt
+of_end v w past ask part why (end.Lost fault all sized p) = tt
+of_end v w past ask part why (end.Other d all sized p) = tt
+of_end v w past ask part why (end.Twice c near many away p) = tt
+of_end v w past ask part why (end.LostThere c fault near many away p) = tt
 
 pub of_chip : (most : ℕ) (v w : Wire) (ask : Ask) (why : Unread) → StopsChip most v w ask why → IsOfChip why
 of_chip most v w ask why (stops.AtFile of none (stops.Meaningless file refusal is refused)) = of_meaning (chip_task ask file) refusal refused
@@ -156,7 +159,7 @@ of_chip most v w ask why (stops.AtSize is m of means told) = of_size (other_size
 of_chip most v w ask why (stops.AtMode u is m of means p) = of_mode u w ask _ of p
 of_chip most v w ask why (stops.AtRegister u is of p) = of_moved u w (asked_register ask.content is.known.chip) of p
 of_chip most v w ask why (stops.AtContent u is part of wanted asked p) = of_content _ u w of p
-of_chip most v w ask why (stops.AtPast u is of p) = of_end u w _ ask of p
+of_chip most v w ask why (stops.AtPast u is of p) = of_end u w _ ask is.part of p
 of_chip most v w ask why (stops.AtEnd u is of p) = of_id u w of p
 of_chip most v w ask why (stops.OtherId u is other p differs) = tt
 of_chip most v w ask why (stops.AtLine u is p hides) = tt

@@ -20,7 +20,7 @@ use Rattle.norprog_read.specs.declared.asked.Span.{Span}
 use Rattle.norprog_read.specs.Asked.{AsksId, AsksStatus, IsDriven, IsExpected}
 use Rattle.norprog_read.specs.Came.{ShowsLine}
 use Rattle.norprog_read.specs.Content.{HoldsPart}
-use Rattle.norprog_read.specs.End.{may_go_on, past, GivesPast, IsOnce, Past}
+use Rattle.norprog_read.specs.End.{past, Past, SeesEnd}
 use Rattle.norprog_read.specs.Modes.{is_sure, mode_ops, modes_of, MakesMode}
 use Rattle.norprog_read.specs.Size.{asked_register, noted_size, other_size, said_size, IsUnmoved}
 use Rattle.norprog_read.specs.Span.{part_in, IsPart}
@@ -115,10 +115,10 @@ AreAlike (Tables file) tables = take (both_go tables file.now) tables ≡ take (
 AreAlike other tables = ⊤
 
 -- in this order, and nothing else was sent: its status until it was idle, its identification, its tables, what puts it into the mode that was
--- said, the register that moves addresses where they name one, the part of its content that is asked for, what comes past its end, and its
--- identification again, which was the same, that of a chip, and the one that is expected; each read of tables and content was of no more than so many bytes; its meaning is
--- that of the tables that came, of its size, or of its sheet; the content doesn't repeat itself; where the content was wanted, and the terminal isn't said
--- to hand on each byte as it comes, what came shows that it changed nothing of tables and content
+-- said, the register that moves addresses where they name one, the part of its content that is asked for, what comes past its end or half a
+-- chip away, and its identification again, which was the same, that of a chip, and the one that is expected; each read of tables and content
+-- was of no more than so many bytes; its meaning is that of the tables that came, of its size, or of its sheet; where the content was wanted,
+-- and the terminal isn't said to hand on each byte as it comes, what came shows that it changed nothing of tables and content
 pub record HasReadChip (most : ℕ) (before after : Wire) (ask : Ask) (r : Reading) : Type 0 where
   pub part : r.part ≡ ask.part
   pub wanted : r.whole ≡ ask.content
@@ -145,7 +145,6 @@ pub record HasReadChip (most : ℕ) (before after : Wire) (ask : Ask) (r : Readi
   pub unmoved : IsUnmoved made ready (asked_register ask.content r.tables.items)
   pub asked_for : IsPart ask r.meaning r.span
   pub content : GivesContent (way_by most ask r.tables.items r.meaning r.span) ready held ask.content r.content.items
-  pub once : IsOnce ask r.content.items
-  pub past : GivesPast held ended (past_end most ask r.meaning r.content.items) (may_go_on ask)
+  pub end : SeesEnd held ended (past_end most ask r.meaning r.content.items) ask r.span
   pub again : AsksId ended after (Ok r.id)
   pub shown : ShowsLine ask r.id (r.tables.items ++ part_in r.span r.content.items)

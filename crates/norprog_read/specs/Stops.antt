@@ -26,7 +26,7 @@ use Rattle.norprog_read.specs.declared.fault.Unread.TheVariants.{Refused, Unlike
 use Rattle.norprog_read.specs.Asked.{AsksId, AsksStatus, IsDriven, IsExpected, StopsId, StopsStatus}
 use Rattle.norprog_read.specs.Came.{HidesLine}
 use Rattle.norprog_read.specs.Chip.{both_go, chip_task, lacks_tables, is_unsigned, ops_by, past_end, way_by, file_of, AreAlike, IsFile, GivesContent, GivesTables}
-use Rattle.norprog_read.specs.End.{may_go_on, GivesPast, IsOnce, StopsEnd}
+use Rattle.norprog_read.specs.End.{SeesEnd, StopsEnd}
 use Rattle.norprog_read.specs.Modes.{MakesMode, StopsMode}
 use Rattle.norprog_read.specs.Size.{asked_register, other_size, IsUnmoved, StopsMoved, TellsSize}
 use Rattle.norprog_read.specs.Span.{came, part_in, IsPart}
@@ -129,16 +129,15 @@ pub record IsHeld (most : ℕ) (before after : Wire) (ask : Ask) : Type 0 where
   pub asked_for : IsPart ask ready.made.m part
   pub read : GivesContent (way_by most ask ready.made.known.chip ready.made.m part) between after ask.content content
 
--- then it didn't repeat itself, and past its end came what it begins with
+-- then what it gave past its end, or half a chip away, showed how large it is
 pub record IsEnded (most : ℕ) (before after : Wire) (ask : Ask) : Type 0 where
   pub between : Wire
   pub all : IsHeld most before between ask
-  pub once : IsOnce ask all.content
-  pub past : GivesPast between after (past_end most ask all.ready.made.m all.content) (may_go_on ask)
+  pub end : SeesEnd between after (past_end most ask all.ready.made.m all.content) ask all.part
 
 -- where it stopped, in the order in which the chip is asked: at the file, before anything was sent; at the status; at the identification, which
 -- didn't come or isn't the one that is expected; at the tables; at what they mean; at the size that they say; as the mode was made; at the
--- register that moves addresses; at the content; where that repeats itself, or past its end; at the second identification, which didn't come or
+-- register that moves addresses; at the content; where that repeats itself, past its end, or half a chip away; at the second identification, which didn't come or
 -- is another; or after all came, which doesn't show that the terminal changed nothing of what was read
 pub data StopsChip (most : ℕ) (before after : Wire) (ask : Ask) : Unread → Type 0 where
   AtFile : (why : Unread) → after ≡ before → RefusesFile ask why → StopsChip most before after ask why
@@ -163,7 +162,7 @@ pub data StopsChip (most : ℕ) (before after : Wire) (ask : Ask) : Unread → T
       → IsPart ask ready.made.m part → StopsContent (way_by most ask ready.made.known.chip ready.made.m part) between after why
       → StopsChip most before after ask why
   AtPast : (between : Wire) (all : IsHeld most before between ask) (why : Unread)
-      → StopsEnd between after (past_end most ask all.ready.made.m all.content) ask why → StopsChip most before after ask why
+      → StopsEnd between after (past_end most ask all.ready.made.m all.content) ask all.part why → StopsChip most before after ask why
   AtEnd : (between : Wire) → IsEnded most before between ask → (why : Unread) → StopsId between after why → StopsChip most before after ask why
   OtherId : (between : Wire) (ended : IsEnded most before between ask) (other : List ℕ) → AsksId between after (Ok other)
       → other ≢ ended.all.ready.made.known.identified.id → StopsChip most before after ask (Unlike (unlike.Id other))

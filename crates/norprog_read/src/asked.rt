@@ -56,7 +56,7 @@ pub struct Ask<'a> {
     /// Whether the tables of a chip of a size or a sheet may say another size, and its end isn't
     /// looked for.
     pub any_size: bool,
-    /// Whether the halves of its content may be alike.
+    /// Whether the halves of its content may be alike, as far as they are read.
     pub repeats: bool,
     /// The identification that it has to have, where one is given.
     pub expect_id: Option<[u8; 3]>,

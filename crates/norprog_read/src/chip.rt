@@ -43,8 +43,8 @@ use norprog_common::{Refusal, known_chip};
 use std::alloc::Global;
 
 /// Has a chip get idle, say what it is, give its tables and the part of its content that is asked
-/// for, each byte twice, show that it ends there, and say again what it is. How far a reading is
-/// goes to `progress`.
+/// for, each byte twice, show how large it is, and say again what it is. How far a reading is goes
+/// to `progress`.
 ///
 /// `Unlike` where it doesn't do so; `Refused` where it has no meaning, and for `Memory`.
 pub fn read_chip<R: ByteIn, W: ByteOut, P: ByteOut>(
@@ -110,7 +110,7 @@ fn ask_chip<R: ByteIn, W: ByteOut, P: ByteOut>(
         progress,
     )?;
     let by = past_by(&meaning, start);
-    see_end(from, to, limits, ask, by, content.as_slice())?;
+    see_end(from, to, limits, ask, by, content.as_slice(), span)?;
     let again = ask_id(from, to)?;
     if !is_same(again, id) {
         return Err(Unread::Unlike(Unlike::Id(again)));

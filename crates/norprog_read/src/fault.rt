@@ -50,7 +50,7 @@ pub enum Unlike {
     /// Its identification is that of a line without a chip, isn't the one that is expected, or is
     /// another at the end.
     Id([u8; 3]),
-    /// The halves of its content are alike.
+    /// The halves of its content are alike, as far as they were read.
     Repeats,
     /// What came doesn't show that the terminal changed nothing of what was read.
     Line,

@@ -118,11 +118,12 @@ pub(crate) const TOPICS: &[Topic] = &[
     ),
     (
         "unlike repeats",
-        "The two halves of what the chip gave are alike, byte for byte. So it may be half\n\
-         as large as --uniform or its tables say, and give the same bytes twice. Look\n\
-         into its data sheet, and correct the size. Where its halves are meant to be\n\
-         alike, as two copies of a firmware, add --repeats. No file was made, and nothing\n\
-         was sent that changes what it holds.",
+        "The two halves of what the chip gave are alike, byte for byte; with --near what\n\
+         was read came again half a chip away. So it may be half as large as --uniform or\n\
+         its tables say, and give the same bytes twice. Look into its data sheet, and\n\
+         correct the size. Where its halves are meant to be alike, as two copies of a\n\
+         firmware, add --repeats. No file was made, and nothing was sent that changes\n\
+         what it holds.",
     ),
     (
         "id",
@@ -152,10 +153,11 @@ pub(crate) const TOPICS: &[Topic] = &[
     (
         "unreadable: what the chip holds",
         "What the chip holds doesn't show its address mode, and nothing says how that is\n\
-         set: it is blank, it holds the same again and again, or the programmer gives\n\
-         fewer than 769 bytes at once. In the other mode it could give the same, and be\n\
-         changed elsewhere. Switch its power off and on, and add --fresh: then it is in\n\
-         the mode that it begins in. Nothing was sent that changes it.",
+         set: it is blank, it holds the same again and again, by --near not all of it was\n\
+         read, or the programmer gives fewer than 769 bytes at once. In the other mode it\n\
+         could give the same, and be changed elsewhere. Switch its power off and on, and\n\
+         add --fresh: then it is in the mode that it begins in. Nothing was sent that\n\
+         changes it.",
     ),
     (
         "unreadable",
@@ -207,11 +209,12 @@ pub(crate) const TOPICS: &[Topic] = &[
         "Steps were sent to the chip, and not all of them are known to be done. So the\n\
          chip may hold neither what it held nor what it must hold, and may be in another\n\
          address mode: power it off and on. After flash or erase give the command that\n\
-         the line prints: it takes the dump of the first try as --resume. If it has a\n\
-         --page, leave that out: too large a page does this. After play what it must\n\
-         hold is what norprog run --out want.bin leaves, from the old dump and script.\n\
-         Read the chip again, and give build --bin want.bin, without regions, and the\n\
-         new dump. The old image would leave FF what was erased around it.",
+         the line prints, --near too where it has that: it takes the dump of the first\n\
+         try as --resume. If it has a --page, leave that out: too large a page does this.\n\
+         After play what it must hold is what norprog run --out want.bin leaves, from the\n\
+         old dump and script. Read the chip again, and give build --bin want.bin, without\n\
+         regions, and the new dump. The old image would leave FF what was erased around\n\
+         it.",
     ),
 ];
 

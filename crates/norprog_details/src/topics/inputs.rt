@@ -9,11 +9,11 @@ pub(crate) const TOPICS: &[Topic] = &[
     (
         "usage",
         "A value isn't of its form, or options don't go together. Give exactly one of\n\
-         --sfdp, --uniform and --sheet, and --bits only with --sfdp; of a job one --hex\n\
-         or --bin at least, of `erase` either --all or names of regions. Write numbers\n\
-         only in digits, and --status as six hexadecimal digits. The command's --help has\n\
-         each form. Of explain: it has nothing on these words; without words it lists\n\
-         what you can ask.",
+         --sfdp, --uniform and --sheet, --bits only with --sfdp, and --near with neither\n\
+         --uniform nor --sheet; of a job one --hex or --bin at least, of `erase` either\n\
+         --all or names of regions. Write numbers only in digits, and --status as six\n\
+         hexadecimal digits. The command's --help has each form. Of explain: it has\n\
+         nothing on these words; without words it lists what you can ask.",
     ),
     (
         "file hex",
@@ -97,19 +97,21 @@ pub(crate) const TOPICS: &[Topic] = &[
          None is written over, since it may be the only copy of what a chip held. This\n\
          time the chip isn't changed. Where the command has --resume, leave that as it\n\
          is, and give another name as --before: only the file of the first try has what\n\
-         the chip held. Else, if an earlier try with that file ended before its last\n\
-         line, as by Ctrl-C, a closed terminal or a power cut, the chip may be half done:\n\
-         give that file as --resume, and another as --before. Else what it held is lost.\n\
-         If there was no such try, name another file.",
+         the chip held, with --near just the part around the image's bytes, as Intel HEX.\n\
+         Else, if an earlier try with that file ended before its last line, as by Ctrl-C,\n\
+         a closed terminal or a power cut, the chip may be half done: give that file as\n\
+         --resume, and another as --before. Else what it held is lost. If there was no\n\
+         such try, name another file.",
     ),
     (
         "file resume",
         "norprog can't use the file of --resume: it isn't there, you may not read it, or\n\
-         reading it failed. After the plan: the chip isn't the one of that file, since it\n\
-         holds other bytes in whole 64 KiB or more that the job doesn't change. The file\n\
-         must be what --before kept at the first try on this chip, and image and regions\n\
-         the same as then. The chip isn't changed. To write all of a file to a chip give\n\
-         it as --bin, without --resume.",
+         reading it failed; or, with --near, it isn't Intel HEX of one part of a chip.\n\
+         After the plan: the chip isn't the one of that file, since it holds other bytes\n\
+         where the job changes nothing, in whole 64 KiB or in a block beside its own. The\n\
+         file must be what --before kept at the first try on this chip, and image,\n\
+         regions and --near the same as then. The chip isn't changed. To write all of a\n\
+         file to a chip give it as --bin, without --resume.",
     ),
     (
         "file",
@@ -187,7 +189,8 @@ pub(crate) const TOPICS: &[Topic] = &[
         "The length of the content file, or of that of --resume, isn't the size of the\n\
          chip. Correct the size, or read the whole chip again, from its first byte to\n\
          its last one. But what a chip holds that is half done is no file for --resume:\n\
-         give the one that the first try saved.",
+         give the one that the first try saved. If that try had --near, add it, with the\n\
+         same image and regions: the file has just the part around the image's bytes.",
     ),
     (
         "bin size:",

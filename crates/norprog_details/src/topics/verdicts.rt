@@ -35,9 +35,9 @@ pub(crate) const TOPICS: &[Topic] = &[
          transactions, each turn of a poll too. The file of --out has what the chip\n\
          holds then. Of `play`: each poll counts once. Without --trust play has read\n\
          back what the steps touch, and the chip holds there what it must. Of `flash`\n\
-         and `erase`: each step was done, and then the whole chip held what it must: what\n\
-         was chosen for `erase` only FF, all else as before. Later `compare` of an image\n\
-         says whether it still does.",
+         and `erase`: each step was done, and then the whole chip, with --near the part\n\
+         around the image's bytes, held what it must: what was chosen for `erase` only\n\
+         FF, all else as before. Later `compare` of an image says whether it still does.",
     ),
     (
         "same",

@@ -1,5 +1,5 @@
 -- What was read shows that it doesn't do.
-use Rattle.std.proofs.Common.{refl, sym}
+use Rattle.std.proofs.Common.{inr, refl, sym}
 use Rattle.std.specs.Prelude.{MatchResult}
 use Rattle.nor_reader.specs.AtOnce.{at_once}
 use Rattle.nor_reader.specs.Harmless.{HasSentHarmless, SendsHarmless}
@@ -7,7 +7,7 @@ use Rattle.nor_reader.proofs.HarmlessLemmas.{none_sent, whole_sent}
 use Rattle.nor_base.proofs.FaultLaws.{answered, handed_on}
 use Rattle.norprog_flash.specs.declared.ending.Unflashed.TheVariants.{Refused}
 use Rattle.norprog_flash.specs.Stops.{NoSpan, NotRead, StopsBefore, of_reading}
-use Rattle.norprog_flash.proofs.StopsLemmas.{closed, unruled, way_there}
+use Rattle.norprog_flash.proofs.StopsLemmas.{closed, part_there, unruled, way_there}
 use Rattle.norprog_flash.proofs.begun.read_suited.Goals as goal
 
 pub returns-in_err-near-clause-stops : goal.returns-in_err-near-clause-stops
@@ -39,6 +39,17 @@ returns-in_err-refuse_unruled-clause-stops g c =
     c.from_residual-in_err-refuse_unruled.ensures.1
     (unruled (at_once c.args.limits.now) _ _ c.args.job.now _ c.in_ok-reading.reading c.in_ok-near.ensures.near (rw c.ask_of.ensures at c.in_ok-reading.ensures.read) c.in_err-refuse_unruled.field-0.0
     c.in_err-refuse_unruled.ensures.breaks)
+
+pub copy_of-requires-clause-part : goal.copy_of-requires-clause-part
+copy_of-requires-clause-part g c =
+    part_there (at_once c.args.limits.now) _ _ c.args.job.now _ c.in_ok-reading.reading c.in_ok-near.ensures.near (rw c.ask_of.ensures at c.in_ok-reading.ensures.read)
+    c.requires.asked
+
+pub returns-in_err-copy-clause-stops : goal.returns-in_err-copy-clause-stops
+returns-in_err-copy-clause-stops g c =
+    handed_on (StopsBefore (at_once c.args.limits.now) _ _ c.args.job.now) _ (Refused c.in_err-copy.field-0.0) c.from_residual-in_err-copy.ensures.1
+    (unruled (at_once c.args.limits.now) _ _ c.args.job.now _ c.in_ok-reading.reading c.in_ok-near.ensures.near (rw c.ask_of.ensures at c.in_ok-reading.ensures.read) c.in_err-copy.field-0.0
+    (inr c.in_err-copy.ensures.memory))
 
 pub returns-clause-way : goal.returns-clause-way
 returns-clause-way g c =

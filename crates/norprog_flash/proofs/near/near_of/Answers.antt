@@ -4,7 +4,7 @@ use Rattle.nor_base.proofs.FaultLaws.{handed_on}
 use Rattle.nor_job.proofs.FaultLemmas.{refuses_image}
 use Rattle.nor_job.specs.Causes.{RefusesInputs}
 use Rattle.nor_job.specs.Task.{Task, contradiction}
-use Rattle.norprog_flash.proofs.NearLemmas.{ends_back, gets_back, gets_same}
+use Rattle.norprog_flash.proofs.NearLemmas.{gets_same}
 use Rattle.norprog_flash.proofs.near.near_of.Goals as goal
 
 pub returns-in_err-image-clause-refused : goal.returns-in_err-image-clause-refused
@@ -17,9 +17,3 @@ pub returns-clause-spans : goal.returns-clause-spans
 returns-clause-spans c = λ image regions named a is.
     c.span_of.ensures.each a (gets_same c.args.inputs.now image c.in_ok-image.image regions _ _ named c.in_ok-image.ensures.image
     (ap (λ (t : Task). t.base) c.inputs.view_is) (c.in_ok-chosen.ensures.chosen image regions named) a is)
-
-pub returns-clause-tight : goal.returns-clause-tight
-returns-clause-tight c = λ image regions named.
-    ends_back _ _ c.span_of.result
-    (gets_back c.args.inputs.now image c.in_ok-image.image regions _ _ named c.in_ok-image.ensures.image (ap (λ (t : Task). t.base) c.inputs.view_is)
-    (c.in_ok-chosen.ensures.chosen image regions named)) c.span_of.ensures.ends

@@ -2,8 +2,6 @@
 use Rattle.std.proofs.Common.{refl}
 use Rattle.nor_base.proofs.FaultLaws.{answered}
 use Rattle.norprog_files.proofs.FilesLemmas.{adds_both}
-use Rattle.norprog_flash.specs.declared.ending.Unflashed.TheVariants.{Refused}
-use Rattle.norprog_flash.specs.Begun.{printed}
 use Rattle.norprog_named.specs.Flash.{EndsFlash, NoInput, Worked}
 use Rattle.norprog_named.proofs.flash_files.flash.Goals as goal
 
@@ -12,15 +10,14 @@ returns-in_err-texts-clause-ends g c =
     let did = c.in_err-texts.ensures in (
       did.0,
       did.1,
-      answered _ (EndsFlash c.args.request.now (printed (g.O.ByteOut.held c.args.out.now) (g.O.ByteOut.held c.args.out.now)) did.0) (Refused c.in_err-texts.field-0.0)
-          (NoInput did.0 _ did.2 refl) c.from_residual.ensures.1,
+      answered _ (EndsFlash _ _ _) _ (NoInput _ _ did.2 refl) c.from_residual.ensures.1,
     )
 
 pub returns-clause-ends : goal.returns-clause-ends
 returns-clause-ends g c =
     let read = c.in_ok-texts.ensures in
     let work = c.flash_job.ensures.ends in
-    (_, adds_both read.1 work.1, Worked c.in_ok-texts.texts c.job_for-job.result read.0 work.0 c.flash_job.result read.2 c.job_for-job.ensures work.2)
+    (_, adds_both read.1 work.1, Worked _ _ read.0 work.0 _ read.2 c.job_for-job.ensures work.2)
 
 pub flash_job-requires : goal.flash_job-requires
 flash_job-requires g c = record { whole = c.job_for-job.ensures.ask.content }

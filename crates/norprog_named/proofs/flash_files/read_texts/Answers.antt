@@ -1,15 +1,23 @@
--- The files, and then what the image's files give.
-use Rattle.std.proofs.Common.{◌++◌, Option, ap}
+-- The files, then the older content, and then what the image's files give.
+use Rattle.std.proofs.Common.{◌++◌, refl}
 use Rattle.nor_base.proofs.FaultLaws.{answered}
-use Rattle.nor_hex.specs.Image.{Pairs}
 use Rattle.norprog_files.proofs.FilesLemmas.{adds_both}
-use Rattle.norprog_named.specs.Flash.{EndsReading, HasTexts, NoData, NoFile, NoWhole}
+use Rattle.norprog_named.specs.Flash.{EndsReading, HasTexts, NoData, NoFile, NoWhole, UnfitDump}
 use Rattle.norprog_named.proofs.flash_files.read_texts.Goals as goal
 
 pub returns-in_err-read : goal.returns-in_err-read
 returns-in_err-read g c =
     let did = c.in_err-read.ensures in
-    (did.0, did.1, answered _ (λ result. EndsReading c.args.request.now result did.0) _ (NoFile did.0 _ did.2) c.from_residual.ensures.1)
+    (did.0, did.1, answered _ (λ result. EndsReading c.args.request.now result did.0) _ (NoFile _ _ did.2) c.from_residual.ensures.1)
+
+pub returns-in_err-old : goal.returns-in_err-old
+returns-in_err-old g c =
+    let did = c.in_ok-read.ensures in (
+      did.0,
+      did.1,
+      answered _ (λ result. EndsReading c.args.request.now result did.0) _ (UnfitDump _ _ _ did.2 c.in_err-old.ensures.refused)
+          c.from_residual-in_err-old.ensures.1,
+    )
 
 pub returns-in_err-first : goal.returns-in_err-first
 returns-in_err-first g c =
@@ -17,7 +25,7 @@ returns-in_err-first g c =
       did.0,
       did.1,
       answered _ (λ result. EndsReading c.args.request.now result did.0) _
-          (NoData c.in_ok-read.read did.0 _ did.2 (rw c.bytes_in-lay.ensures at c.in_err-first.ensures.refused)) c.from_residual-in_err-first.ensures.1,
+          (NoData _ _ _ _ did.2 c.in_ok-old.ensures.dump (rw c.bytes_in-lay.ensures at c.in_err-first.ensures.refused)) c.from_residual-in_err-first.ensures.1,
     )
 
 pub returns-in_err-whole : goal.returns-in_err-whole
@@ -27,19 +35,22 @@ returns-in_err-whole g c =
       _,
       adds_both did.1 whole.1,
       answered _ (λ result. EndsReading c.args.request.now result (did.0 ++ whole.0)) _
-          (NoWhole c.in_ok-read.read _ did.0 whole.0 _ did.2 (rw c.bytes_in-lay.ensures at c.in_ok-first.ensures.gives) (rw c.bytes_in-lay.ensures at whole.2))
+          (NoWhole _ _ _ did.0 whole.0 _ did.2 c.in_ok-old.ensures.dump (rw c.bytes_in-lay.ensures at c.in_ok-first.ensures.gives) (rw c.bytes_in-lay.ensures at whole.2))
           c.from_residual-in_err-whole.ensures.1,
     )
 
 pub returns : goal.returns
 returns g c =
     let did = c.in_ok-read.ensures in
-    let whole = c.in_ok-whole.ensures in
-    let read = c.in_ok-read.read in
-    let parts = c.into_parts-hex.result in (
+    let whole = c.in_ok-whole.ensures in (
       _,
       adds_both did.1 whole.1,
-      HasTexts read (record read { hex = parts.0; image = parts.1 }) c.in_ok-first.first c.in_ok-whole.whole did.0 whole.0 did.2
-          (rw c.bytes_in-lay.ensures at c.in_ok-first.ensures.gives) (rw c.bytes_in-lay.ensures at whole.2) c.into_parts-hex.ensures.text
-          (ap (λ (image : Option Pairs). record read { hex = parts.0; image = image }) c.into_parts-hex.ensures.image),
+      HasTexts _ _ _ _ did.0 whole.0 did.2
+          (rw c.bytes_in-lay.ensures at c.in_ok-first.ensures.gives) (rw c.bytes_in-lay.ensures at whole.2) (record {
+            hex = c.into_parts-hex.ensures.text;
+            image = c.into_parts-hex.ensures.image;
+            layout = refl;
+            sfdp = refl;
+            old = c.in_ok-old.ensures.dump;
+          }),
     )

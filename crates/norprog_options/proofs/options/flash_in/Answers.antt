@@ -22,6 +22,7 @@ returns-clause-done c = record {
   beyond = search rules;
   all = search rules;
   list = search rules;
+  near = search rules;
   raw = search rules;
   fresh = search rules;
   any_size = search rules;

@@ -129,10 +129,10 @@ returns-in_err-see_end-clause-stops g c =
     let by = way_is most ask m {part = c.part_of-span.result} c.begins4-said.ensures c.in_ok-meaning.ensures.start c.modes_of-modes.ensures c.as_slice-3.ensures.value
     c.is_sure-sure.ensures in
     let gives = rw by at c.in_ok-content.ensures.content in
-    let end = end_is most ask m c.in_ok-meaning.ensures.start c.past_by-by.ensures c.as_slice-5.ensures.value in
+    let same = end_is most ask m c.in_ok-meaning.ensures.start c.past_by-by.ensures c.as_slice-5.ensures.value in
     handed_on (StopsChip _ _ _ _) _ _ c.from_residual-in_err-see_end.ensures.1
     (AtPast u5 (held u4 (ready ur (made u3 (known u2 (identified {w = u2} u1 _ c.in_ok-id.id c.in_ok-first.ensures.status c.in_ok-id.ensures.id c.in_ok-id.ensures.driven
-    c.in_ok-see_id.ensures.expected) c.in_ok-tables.ensures.tables c.in_ok-tables.ensures.alike) means mode) unmoved) _ c.part_of-span.ensures.part gives) _ (rw end at c.in_err-see_end.ensures.stops))
+    c.in_ok-see_id.ensures.expected) c.in_ok-tables.ensures.tables c.in_ok-tables.ensures.alike) means mode) unmoved) _ c.part_of-span.ensures.part gives) _ (rw same at c.in_err-see_end.ensures.stops))
 
 pub returns-in_err-again-clause-stops : goal.returns-in_err-again-clause-stops
 returns-in_err-again-clause-stops g c =
@@ -154,12 +154,11 @@ returns-in_err-again-clause-stops g c =
     let by = way_is most ask m {part = c.part_of-span.result} c.begins4-said.ensures c.in_ok-meaning.ensures.start c.modes_of-modes.ensures c.as_slice-3.ensures.value
     c.is_sure-sure.ensures in
     let gives = rw by at c.in_ok-content.ensures.content in
-    let once = rw c.as_slice-5.ensures.value at c.in_ok-see_end.ensures.once in
-    let end = end_is most ask m c.in_ok-meaning.ensures.start c.past_by-by.ensures c.as_slice-5.ensures.value in
-    let past = rw end at c.in_ok-see_end.ensures.past in
+    let same = end_is most ask m c.in_ok-meaning.ensures.start c.past_by-by.ensures c.as_slice-5.ensures.value in
+    let end = rw same at c.in_ok-see_end.ensures.end in
     handed_on (StopsChip _ _ _ _) _ _ c.from_residual-in_err-again.ensures.1
     (AtEnd ue (ended u5 (held u4 (ready ur (made u3 (known u2 (identified {w = u2} u1 _ c.in_ok-id.id c.in_ok-first.ensures.status c.in_ok-id.ensures.id c.in_ok-id.ensures.driven
-    c.in_ok-see_id.ensures.expected) c.in_ok-tables.ensures.tables c.in_ok-tables.ensures.alike) means mode) unmoved) _ c.part_of-span.ensures.part gives) once past) _ c.in_err-again.ensures.stops)
+    c.in_ok-see_id.ensures.expected) c.in_ok-tables.ensures.tables c.in_ok-tables.ensures.alike) means mode) unmoved) _ c.part_of-span.ensures.part gives) end) _ c.in_err-again.ensures.stops)
 
 pub returns-then-not-is_same-clause-stops : goal.returns-then-not-is_same-clause-stops
 returns-then-not-is_same-clause-stops g c =
@@ -181,11 +180,10 @@ returns-then-not-is_same-clause-stops g c =
     let by = way_is most ask m {part = c.part_of-span.result} c.begins4-said.ensures c.in_ok-meaning.ensures.start c.modes_of-modes.ensures c.as_slice-3.ensures.value
     c.is_sure-sure.ensures in
     let gives = rw by at c.in_ok-content.ensures.content in
-    let once = rw c.as_slice-5.ensures.value at c.in_ok-see_end.ensures.once in
-    let end = end_is most ask m c.in_ok-meaning.ensures.start c.past_by-by.ensures c.as_slice-5.ensures.value in
-    let past = rw end at c.in_ok-see_end.ensures.past in
+    let same = end_is most ask m c.in_ok-meaning.ensures.start c.past_by-by.ensures c.as_slice-5.ensures.value in
+    let end = rw same at c.in_ok-see_end.ensures.end in
     OtherId ue (ended u5 (held u4 (ready ur (made u3 (known u2 (identified {w = u2} u1 _ c.in_ok-id.id c.in_ok-first.ensures.status c.in_ok-id.ensures.id c.in_ok-id.ensures.driven
-    c.in_ok-see_id.ensures.expected) c.in_ok-tables.ensures.tables c.in_ok-tables.ensures.alike) means mode) unmoved) _ c.part_of-span.ensures.part gives) once past)
+    c.in_ok-see_id.ensures.expected) c.in_ok-tables.ensures.tables c.in_ok-tables.ensures.alike) means mode) unmoved) _ c.part_of-span.ensures.part gives) end)
     c.in_ok-again.again c.in_ok-again.ensures.id (c.is_same.ensures.other c.if-not-is_same.true)
 
 pub returns-then-hides_line-clause-stops : goal.returns-then-hides_line-clause-stops
@@ -208,11 +206,10 @@ returns-then-hides_line-clause-stops g c =
     let by = way_is most ask m {part = c.part_of-span.result} c.begins4-said.ensures c.in_ok-meaning.ensures.start c.modes_of-modes.ensures c.as_slice-3.ensures.value
     c.is_sure-sure.ensures in
     let gives = rw by at c.in_ok-content.ensures.content in
-    let once = rw c.as_slice-5.ensures.value at c.in_ok-see_end.ensures.once in
-    let end = end_is most ask m c.in_ok-meaning.ensures.start c.past_by-by.ensures c.as_slice-5.ensures.value in
-    let past = rw end at c.in_ok-see_end.ensures.past in
+    let same = end_is most ask m c.in_ok-meaning.ensures.start c.past_by-by.ensures c.as_slice-5.ensures.value in
+    let end = rw same at c.in_ok-see_end.ensures.end in
     AtLine ue (ended u5 (held u4 (ready ur (made u3 (known u2 (identified {w = u2} u1 _ c.in_ok-id.id c.in_ok-first.ensures.status c.in_ok-id.ensures.id c.in_ok-id.ensures.driven
-    c.in_ok-see_id.ensures.expected) c.in_ok-tables.ensures.tables c.in_ok-tables.ensures.alike) means mode) unmoved) _ c.part_of-span.ensures.part gives) once past)
+    c.in_ok-see_id.ensures.expected) c.in_ok-tables.ensures.tables c.in_ok-tables.ensures.alike) means mode) unmoved) _ c.part_of-span.ensures.part gives) end)
     (rw (c.is_same.ensures.same c.if-not-is_same.false) at c.in_ok-again.ensures.id)
     (read_as (HidesLine ask c.in_ok-id.id) c.part_of-span.result c.as_slice-6.ensures.value c.as_slice-7.ensures.value (c.hides_line.ensures.hidden c.if-hides_line.true))
 
@@ -236,9 +233,8 @@ returns-clause-read g c =
     let by = way_is most ask m {part = c.part_of-span.result} c.begins4-said.ensures c.in_ok-meaning.ensures.start c.modes_of-modes.ensures c.as_slice-3.ensures.value
     c.is_sure-sure.ensures in
     let gives = rw by at c.in_ok-content.ensures.content in
-    let once = rw c.as_slice-5.ensures.value at c.in_ok-see_end.ensures.once in
-    let end = end_is most ask m c.in_ok-meaning.ensures.start c.past_by-by.ensures c.as_slice-5.ensures.value in
-    let past = rw end at c.in_ok-see_end.ensures.past in
+    let same = end_is most ask m c.in_ok-meaning.ensures.start c.past_by-by.ensures c.as_slice-5.ensures.value in
+    let end = rw same at c.in_ok-see_end.ensures.end in
     record {
       part = refl;
       wanted = refl;
@@ -264,12 +260,21 @@ returns-clause-read g c =
       unmoved = unmoved;
       asked_for = c.part_of-span.ensures.part;
       content = gives;
-      once = once;
-      past = past;
+      end = end;
       again = rw (c.is_same.ensures.same c.if-not-is_same.false) at c.in_ok-again.ensures.id;
       shown = read_as (ShowsLine ask c.in_ok-id.id) c.part_of-span.result c.as_slice-6.ensures.value c.as_slice-7.ensures.value
           (c.hides_line.ensures.shown c.if-hides_line.false);
     }
+
+pub see_end-requires-clause-part : goal.see_end-requires-clause-part
+see_end-requires-clause-part g c =
+    let most = c.args.limits.now.asked in
+    let ask = c.args.ask.now in
+    let m = c.in_ok-meaning.meaning in
+    let span = c.part_of-span.result in
+    let within = c.part_of-span.ensures.within in
+    let here = reaches ask (way most m c.in_ok-meaning.start c.is_sure-sure.result span) _ _ span _ c.part_of-span.ensures.part within.1 c.in_ok-content.ensures.content in
+    (within.0, rw c.as_slice-5.ensures.value here)
 
 pub hides_line-requires : goal.hides_line-requires
 hides_line-requires g c =

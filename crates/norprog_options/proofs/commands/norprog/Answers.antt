@@ -2,7 +2,7 @@
 use Rattle.std.proofs.Common.{ap}
 use Rattle.clap.specs.Words.{App}
 use Rattle.norprog_options.proofs.TableLemmas.{is_local, one_more, settled}
-use Rattle.norprog_options.proofs.arguments.norprog.Goals as goal
+use Rattle.norprog_options.proofs.commands.norprog.Goals as goal
 
 pub loop-form-init : goal.loop-form-init
 loop-form-init c =
