@@ -1,15 +1,22 @@
 -- What a chip held before work on it was begun.
-use Rattle.std.proofs.Common.{◌≡◌, ◌∙◌, ◌⊎◌, ℕ, ◌+◌, ◌-◌, ◌<◌, ◌≤◌, ◌==◌, ◌&&◌, nat_le, true, List, ◌++◌, length, take, drop, Option, None, Some, Result, Ok, Err, IfOk, refl, sym, ap, arith, inl, inr}
+use Rattle.std.proofs.Common.{◌≡◌, ◌∙◌, ◌⊎◌, ℕ, ◌+◌, ◌-◌, ◌<◌, ◌≤◌, ◌==◌, ◌&&◌, nat_le, true, false, List, ◌++◌, length, take, drop, Option, None, Some, Result, Ok, Err, IfOk, IfErr, Bor, subst, refl, sym, ap, arith, inl, inr}
 use Rattle.std.proofs.Common.{length-append, length-drop}
+use Rattle.std.specs.Prelude.{◌≢◌, MatchOption, is_some, slice_get}
+use Rattle.std.proofs.lemmas.Option.{slice_get_past}
 use Rattle.std.specs.List.{slice_index}
 use Rattle.norprog_common.specs.declared.faults.Refusal.{Refusal}
 use Rattle.std.proofs.lemmas.Bool.{and_parts, cases_lt, eqb-true, leb-true}
 use Rattle.std.proofs.lemmas.List.{get_or_append_left, get_or-append_right, get_or-drop, get_or-take, length-take-le}
-use Rattle.nor_hex.specs.Faults.{IsImage}
-use Rattle.nor_hex.specs.Image.{Pairs}
+use Rattle.nor_hex.specs.Faults.{IsFault, IsImage}
+use Rattle.nor_hex.specs.declared.fault.HexFault.{HexFault}
+use Rattle.nor_hex.specs.declared.fault.HexFault.TheVariants as hex
+use Rattle.nor_job.specs.declared.fault.BuildFault.TheVariants.{Memory}
+use Rattle.nor_hex.specs.Image.{HasNoneFrom, IsRunFrom, Pairs, byte_at}
 use Rattle.nor_hex.specs.Laws.{GivesJust}
 use Rattle.norprog_flash.specs.declared.dump.Dump.{Dump}
-use Rattle.norprog_flash.specs.Dump.{AreOfPart, IsDumpOf, OfPart, is_of_part, laid, older}
+use Rattle.norprog_flash.specs.Dump.{AreOfPart, Gapped, IsDumpOf, NoHex, NoMemory, NoRun, OfPart, RefusesDump, RefusesRun, is_of_part, laid, older}
+use Rattle.norprog_common.specs.declared.faults.FileName.TheVariants.{Resume}
+use Rattle.norprog_common.specs.declared.faults.Refusal.TheVariants.{Build, File}
 use Rattle.norprog_read.specs.declared.asked.Span.{Span}
 
 -- a dump of just a part
@@ -90,3 +97,53 @@ pub part_given : (file : List ℕ) (image : Pairs) (result : Result Dump Refusal
     → IfOk result (λ dump. GivesJust dump.at dump.bytes.items image) → IfOk result (IsDumpOf file true)
 part_given file image (Ok dump) is just = OfPart dump image is just
 part_given file image (Err why) is just = tt
+
+-- bytes come after the run's gap
+pub gapped : (image : Pairs) (at : ℕ) (run : List ℕ) (end : ℕ) (found : Option (ℕ × Bor (List ℕ))) → IsRunFrom image 0 at run → end ≡ at + length run
+    → MatchOption found (HasNoneFrom image end) (λ more. IsRunFrom image end more.0 more.1.now) → true ≡ is_some found
+    → RefusesRun image (File Resume)
+gapped image at run end None first is second there = absurd cc
+gapped image at run end (Some (next, more)) first is second there = Gapped at next run more.now first (subst (λ (k : ℕ). IsRunFrom image k next more.now) is second)
+
+-- a part's text is refused as its image is
+pub run_refused : (file : List ℕ) (image : Pairs) (result : Result Dump Refusal) → IsImage file image → IfErr result (RefusesRun image)
+    → IfErr result (RefusesDump file true)
+run_refused file image (Ok dump) is why = tt
+run_refused file image (Err fault) is why = NoRun image fault is why
+
+-- or none do
+pub none_more : (image : Pairs) (at : ℕ) (run : List ℕ) (end : ℕ) (found : Option (ℕ × Bor (List ℕ))) → end ≡ at + length run
+    → MatchOption found (HasNoneFrom image end) (λ more. IsRunFrom image end more.0 more.1.now) → false ≡ is_some found
+    → HasNoneFrom image (at + length run)
+none_more image at run end None is none there = subst (HasNoneFrom image) is none
+none_more image at run end (Some more) is one there = absurd cc
+
+-- and where it can't be read
+pub text_refused : (file : List ℕ) (fault : HexFault) (why : Refusal) → (fault ≢ hex.Memory → IsFault file fault)
+    → (why ≡ Build Memory) ⊎ ((fault ≢ hex.Memory) × (why ≡ File Resume)) → RefusesDump file true why
+text_refused file fault why is (inl full) = rw full NoMemory
+text_refused file fault why is (inr (other, unfit)) = rw unfit (NoHex fault (is other))
+
+-- the only run of an image has just its bytes
+pub only_bytes : (image : Pairs) (at : ℕ) (run : List ℕ) → IsRunFrom image 0 at run → HasNoneFrom image (at + length run) → GivesJust at run image
+only_bytes image at run is none address byte = (to, from)
+  where
+    same : at ≤ address → address - at < length run → byte_at image address ≡ slice_get run (address - at)
+    same past inside =
+        let place : at + (address - at) ≡ address = omega (arith, past) in
+        subst (λ (a : ℕ). byte_at image a ≡ slice_get run (address - at)) place (is.bytes (address - at) inside)
+
+    to : byte_at image address ≡ Some byte → (at ≤ address) × (slice_get run (address - at) ≡ Some byte)
+    to given = elim (cases_lt address at) [
+      | inl before ↦ let no = is.none_before address (omega arith) before in absurd cc
+      | inr past ↦ elim (cases_lt (address - at) (length run)) [
+        | inl inside ↦ (past, sym (same past inside) ∙ given)
+        | inr beyond ↦ let no = none address (omega (arith, past, beyond)) in absurd cc
+      ]
+    ]
+
+    from : (at ≤ address) × (slice_get run (address - at) ≡ Some byte) → byte_at image address ≡ Some byte
+    from given = elim (cases_lt (address - at) (length run)) [
+      | inl inside ↦ same given.0 inside ∙ given.1
+      | inr beyond ↦ let no = slice_get_past run (address - at) beyond in let it = given.1 in absurd cc
+    ]

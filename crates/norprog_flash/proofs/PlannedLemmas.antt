@@ -12,6 +12,7 @@ use Rattle.nor_job.proofs.ChipLemmas.{one_chip}
 use Rattle.nor_job.specs.Status.{start_of}
 use Rattle.nor_loop.specs.Laws.{ReadTwice}
 use Rattle.nor_reader.specs.AtOnce.{at_once}
+use Rattle.nor_reader.specs.declared.by.ReadBy.{ReadBy}
 use Rattle.nor_serprog.specs.declared.halt.Halt.{Halt}
 use Rattle.nor_serprog.specs.Done.{HasDoneAll, IsDoable}
 use Rattle.nor_serprog.specs.Row.{HasHalted}
@@ -19,7 +20,7 @@ use Rattle.nor_base.specs.Wire.{Wire}
 use Rattle.norprog_flash.specs.Begun.{ask_of, HasPlanned, Printed, Session}
 use Rattle.norprog_flash.specs.Ended.{chip_in}
 use Rattle.norprog_device.specs.Doing.{HasRested}
-use Rattle.norprog_flash.specs.Worked.{doing_in}
+use Rattle.norprog_flash.specs.Worked.{HasPart, doing_in}
 use Rattle.norprog_flash.specs.Task.{dump_of, goal_of, task_on}
 use Rattle.norprog.specs.Stepper.{Stepping, steps_by, update_of}
 use Rattle.norprog.specs.Update.{Update, update, IsDoneBy}
@@ -62,11 +63,16 @@ module _ (s : Session) (before read : Wire) (p : Plan) (out : Printed) (planned 
       only p.steps (subst (λ (u : Update). IsDoneBy u p.steps) (sym all) steps_planned)
 
   -- the part that was read lies in the goal
-  pub part_in_goal : (s.reading.span.low ≤ s.reading.span.high) × (s.reading.span.high ≤ length p.goal) × (s.reading.span.low < 2 ^ 32)
-  part_in_goal =
+  pub part_in_goal : (by : ReadBy) (larger : Bool) → HasPart (record { bytes = p.goal; part = s.reading.span; by = by; larger = larger })
+  part_in_goal by larger =
       let part = part_on_chip (ask_of s.job planned.read.near) s.reading.meaning s.reading.span planned.read.read.asked_for in
       let most : s.reading.meaning.size ≤ 2 ^ 28 = workable.accepted.size_high in
-      (part.0, omega (arith, part.1, workable.want_size), omega (arith, part.0, part.1, most))
+      record {
+        order = part.0;
+        within = omega (arith, part.1, workable.want_size);
+        begins = omega (arith, part.0, part.1, most);
+        few = omega (arith, most, workable.want_size);
+      }
 
   -- as many as are reported
   pub count_is : p.report.steps ≡ length p.steps

@@ -1,7 +1,8 @@
 -- What a chip held before work on it was begun, and how that is saved (this project's).
-use Rattle.std.specs.Prelude.{◌≡◌, ◌⊎◌, ◌+◌, ◌==◌, ◌&&◌, nat_le, ⊤, ℕ, Bool, true, false, List, ◌++◌, length, take, drop, Option, None, Some}
-use Rattle.nor_hex.specs.Image.{Pairs}
-use Rattle.nor_hex.specs.Faults.{IsImage}
+use Rattle.std.specs.Prelude.{◌≡◌, ◌+◌, ◌≤◌, ◌^◌, ◌==◌, ◌&&◌, nat_le, ⊤, ℕ, Bool, true, false, List, ◌++◌, length, take, drop, Option, None, Some}
+use Rattle.nor_hex.specs.Image.{HasNoneFrom, IsRunFrom, Pairs}
+use Rattle.nor_hex.specs.Faults.{IsFault, IsImage}
+use Rattle.nor_hex.specs.declared.fault.HexFault.{HexFault}
 use Rattle.nor_hex.specs.Laws.{GivesJust}
 use Rattle.nor_job.specs.declared.fault.BuildFault.TheVariants.{Memory}
 use Rattle.norprog_common.specs.declared.faults.FileName.TheVariants.{Resume}
@@ -15,9 +16,18 @@ pub data IsDumpOf (file : List ℕ) : Bool → Dump → Type 0 where
   AllOfIt : (dump : Dump) → dump.at ≡ 0 → dump.bytes.items ≡ file → IsDumpOf file false dump
   OfPart : (dump : Dump) (image : Pairs) → IsImage file image → GivesJust dump.at dump.bytes.items image → IsDumpOf file true dump
 
--- only a part's isn't taken, and where a growth was refused
-abbrev pub RefusesDump : Bool → Refusal → Type 0
-RefusesDump part why = (part ≡ true) × ((why ≡ File Resume) ⊎ (why ≡ Build Memory))
+-- an image isn't taken: it gives no bytes, they go up to FFFFFFFFh, more come after a gap, or a growth was refused
+pub data RefusesRun (image : Pairs) : Refusal → Type 0 where
+  NoBytes : HasNoneFrom image 0 → RefusesRun image (File Resume)
+  ToTheEnd : (at : ℕ) (run : List ℕ) → IsRunFrom image 0 at run → 2 ^ 32 ≤ at + length run → RefusesRun image (File Resume)
+  Gapped : (at next : ℕ) (run more : List ℕ) → IsRunFrom image 0 at run → IsRunFrom image (at + length run) next more → RefusesRun image (File Resume)
+  NoRoom : RefusesRun image (Build Memory)
+
+-- a file isn't: of a part its text has a fault, its image isn't taken, or a growth was refused
+pub data RefusesDump (file : List ℕ) : Bool → Refusal → Type 0 where
+  NoHex : (fault : HexFault) → IsFault file fault → RefusesDump file true (File Resume)
+  NoRun : (image : Pairs) (why : Refusal) → IsImage file image → RefusesRun image why → RefusesDump file true why
+  NoMemory : RefusesDump file true (Build Memory)
 
 -- a dump has just the part of a content that was read
 abbrev pub is_of_part : Dump → Span → List ℕ → Bool

@@ -1,5 +1,5 @@
 -- How work on a chip went (this project's).
-use Rattle.std.specs.Prelude.{◌≡◌, ◌⊎◌, ℕ, Bool, List, length, Result, Ok, Err}
+use Rattle.std.specs.Prelude.{◌≡◌, ◌⊎◌, ◌<◌, ◌≤◌, ◌^◌, ℕ, Bool, List, length, Result, Ok, Err}
 use Rattle.nor_base.specs.declared.step.Step.{Step}
 use Rattle.nor_reader.specs.AtOnce.{at_once}
 use Rattle.nor_reader.specs.declared.difference.Mismatch.{Mismatch}
@@ -31,6 +31,13 @@ pub record Back : Type 0 where
   pub part : Span
   pub by : ReadBy
   pub larger : Bool
+
+-- the part lies in the bytes, whose addresses are below 2^32
+pub record HasPart (back : Back) : Type 0 where
+  pub order : back.part.low ≤ back.part.high
+  pub within : back.part.high ≤ length back.bytes
+  pub begins : back.part.low < 2 ^ 32
+  pub few : length back.bytes ≤ 2 ^ 32
 
 -- the part of the chip was read, by reads of no more than so many bytes, and then past its end, unless it may be larger, and gave just these
 -- bytes; or one of the two readings ended so

@@ -1,12 +1,14 @@
 //! What a chip held before work on it was begun, and how that is saved.
 
-ghost use Rattle.std.specs.Prelude.{◌≡◌, ◌+◌, ◌≤◌, ◌<◌, ◌^◌, length, option_map, true};
+ghost use Rattle.std.specs.Prelude.{◌≡◌, ◌≢◌, ◌⊎◌, ◌+◌, ◌≤◌, ◌<◌, ◌^◌, length, option_map, true};
 ghost use Rattle.std.specs.Prelude.{IfOk, IfErr};
 ghost use Rattle.nor_hex.specs.Laws.{GivesJust};
 ghost use Rattle.nor_job.specs.declared.fault.BuildFault.TheVariants.{Memory};
-ghost use Rattle.norprog_common.specs.declared.faults.Refusal.TheVariants.{Build};
+ghost use Rattle.nor_hex.specs.declared.fault.HexFault.TheVariants as hex;
+ghost use Rattle.norprog_common.specs.declared.faults.FileName.TheVariants.{Resume};
+ghost use Rattle.norprog_common.specs.declared.faults.Refusal.TheVariants.{Build, File};
 ghost use Rattle.norprog_flash.specs.Begun.{copy_of};
-ghost use Rattle.norprog_flash.specs.Dump.{IsDumpOf, RefusesDump, is_of_part, laid};
+ghost use Rattle.norprog_flash.specs.Dump.{IsDumpOf, RefusesDump, RefusesRun, is_of_part, laid};
 
 use crate::job::{Job, goes_near};
 use nor_hex::{HexFault, Image, hex_of};
@@ -31,22 +33,31 @@ pub struct Dump {
 /// FFFFFFFFh; `Memory`.
 pub fn dump_in(alloc: Global, bytes: Vec<u8>, part: bool) -> Result<Dump, Refusal>
     ensures dump { IfOk result (IsDumpOf bytes.items part) }
-    ensures refused { IfErr result (RefusesDump part) }
+    ensures refused { IfErr result (RefusesDump bytes.items part) }
 {
     if !part {
         return Ok(Dump { at: 0, bytes });
     }
     match nor_hex::read(alloc, bytes.as_slice()) {
         Ok(image) => only_run(alloc, &image),
-        Err(HexFault::Memory) => Err(Refusal::MEMORY),
-        Err(_) => Err(UNFIT),
+        Err(fault) => Err(unread(fault)),
+    }
+}
+
+/// What a text is refused for that can't be read.
+fn unread(fault: HexFault) -> Refusal
+    ensures { (result ≡ Build Memory) ⊎ ((fault ≢ hex.Memory) × (result ≡ File Resume)) }
+{
+    match fault {
+        HexFault::Memory => Refusal::MEMORY,
+        _ => UNFIT,
     }
 }
 
 /// The bytes of an image that are all at gapless addresses.
 fn only_run(alloc: Global, image: &Image) -> Result<Dump, Refusal>
     ensures just { IfOk result (λ dump. GivesJust dump.at dump.bytes.items image.now) }
-    ensures refused { IfErr result (RefusesDump true) }
+    ensures refused { IfErr result (RefusesRun image.now) }
 {
     let Some((at, run)) = image.run_from(0) else {
         return Err(UNFIT);

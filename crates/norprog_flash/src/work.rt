@@ -1,11 +1,11 @@
 //! The work on a chip that was read and planned for.
 
-ghost use Rattle.std.specs.Prelude.{◌≡◌, ◌<◌, ◌≤◌, ◌^◌, [], All, length};
+ghost use Rattle.std.specs.Prelude.{◌≡◌, [], All, length};
 ghost use Rattle.nor_serprog.specs.Done.{IsDoable};
 ghost use Rattle.nor_base.specs.Wire.{wire};
 ghost use Rattle.norprog.specs.Stepper.{IsAtWindow, made, steps_by, update_of};
 ghost use Rattle.norprog_flash.specs.Survey.{AreSurveyed};
-ghost use Rattle.norprog_flash.specs.Worked.{ReadsBack, WorksOut, flashing};
+ghost use Rattle.norprog_flash.specs.Worked.{HasPart, ReadsBack, WorksOut, flashing};
 
 use crate::ending::Ending;
 use crate::windows::{Steps, do_windows};
@@ -59,9 +59,7 @@ pub(crate) fn do_work<R: ByteIn, W: ByteOut, P: ByteOut>(
     requires all { steps.all ≡ length (steps_by (update_of steps.stepper)) }
     requires seen { AreSurveyed doing.now.limits (update_of steps.stepper) steps.survey.last.items }
     requires form { All IsDoable (steps_by (update_of steps.stepper)) }
-    requires size { length back.now.bytes ≤ 2 ^ 32 }
-    requires part { (back.now.part.low ≤ back.now.part.high)
-        × (back.now.part.high ≤ length back.now.bytes) × (back.now.part.low < 2 ^ 32) }
+    requires part { HasPart back.now }
     ensures ends { WorksOut doing.now
         (wire (W.held to.old) (R.ahead from.old)) (wire (W.held to.new) (R.ahead from.new))
         (flashing (steps_by (update_of steps.entry.stepper)) back.now) result }
@@ -95,9 +93,7 @@ fn read_back<R: ByteIn, W: ByteOut, P: ByteOut>(
     back: &Back<'_>,
     progress: &mut P,
 ) -> Result<(), Mismatch>
-    requires size { length back.now.bytes ≤ 2 ^ 32 }
-    requires part { (back.now.part.low ≤ back.now.part.high)
-        × (back.now.part.high ≤ length back.now.bytes) × (back.now.part.low < 2 ^ 32) }
+    requires part { HasPart back.now }
     ensures back { ReadsBack limits.now.asked back.now
         (wire (W.held to.old) (R.ahead from.old)) (wire (W.held to.new) (R.ahead from.new)) result }
 {

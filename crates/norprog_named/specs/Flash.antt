@@ -87,7 +87,7 @@ pub data HasDump (part : Bool) : Option (List ℕ) → Option Dump → Type 0 wh
 -- why that file has none
 abbrev pub RefusesOld : Bool → Option (List ℕ) → Refusal → Type 0
 RefusesOld part None why = ⊥
-RefusesOld part (Some file) why = RefusesDump part why
+RefusesOld part (Some file) why = RefusesDump file part why
 
 -- what a job is made of: what the image's files give, and the others as they are, with the dump of the older content
 pub record AreTexts (r : FlashRequest) (read : FlashFiles) (whole : ImageData) (texts : FlashTexts) : Type 0 where

@@ -59,7 +59,8 @@ pub do_work-requires-clause-part : goal.do_work-requires-clause-part
 do_work-requires-clause-part g c =
     let s = session c.args.job.now c.args.limits.now c.args.held.now.reading in
     let is = c.requires.planned.1 in
-    rw c.as_slice-want.ensures.value (part_in_goal s is.0 is.1 (plan_of c.args.work.now c.requires.planned.0) is.2 is.3)
+    rw c.as_slice-want.ensures.value
+    (part_in_goal s is.0 is.1 (plan_of c.args.work.now c.requires.planned.0) is.2 is.3 c.args.held.now.by c.may_go_on.result)
 
 pub returns-clause-goes : goal.returns-clause-goes
 returns-clause-goes g c = λ steps is.
